@@ -1,0 +1,49 @@
+-- Laws of the depth of a row.
+use mathlib.Core.Logic.{⊎-elim}
+use mathlib.Core.Path.{_≡_, refl, ap, sym, subst, _∙_}
+use mathlib.Core.List.{List}
+use Prim.Native.Nat.{ℕ, zero, suc, _+_, _≤_, _<_}
+use native.Mathlib.Nat.{eq-or-lt-of-le}
+use native.Mathlib.Omega.{arith}
+use lib.ListN.{getD}
+use Rattle.table.specs.Fields.{parentOf}
+use Rattle.picture.specs.Depth.{depthIn, depth, Known}
+
+-- rows up to n stand after their parents
+abbrev pub Ordered : (ℕ → ℕ) → ℕ → Type 0
+Ordered parent n = (k : ℕ) → 0 < k → k ≤ n → parent k < k
+
+-- the steps allowed do not matter where there are enough
+depth-steps : (parent : ℕ → ℕ) (a b n : ℕ) → n ≤ a → n ≤ b → Ordered parent n → depthIn parent a n ≡ depthIn parent b n
+unfolding depthIn
+depth-steps parent zero zero n p q o = refl
+depth-steps parent zero (suc b) zero p q o = refl
+depth-steps parent zero (suc b) (suc n) p q o = absurd (omega arith)
+depth-steps parent (suc a) zero zero p q o = refl
+depth-steps parent (suc a) zero (suc n) p q o = absurd (omega arith)
+depth-steps parent (suc a) (suc b) zero p q o = refl
+depth-steps parent (suc a) (suc b) (suc n) p q o =
+    let below : parent (suc n) < suc n = o (suc n) (omega arith) (omega arith) in
+    ap suc (depth-steps parent a b (parent (suc n)) (omega arith) (omega arith) (λ k i j. o k i (omega arith)))
+
+pub depth-root : (parent : ℕ → ℕ) → depth parent 0 ≡ 0
+unfolding depth depthIn
+depth-root parent = refl
+
+-- a row stands one deeper than its parent
+pub depth-under : (parent : ℕ → ℕ) (n : ℕ) → 0 < n → Ordered parent n → depth parent n ≡ depth parent (parent n) + 1
+unfolding depth depthIn
+depth-under parent zero h o = absurd (omega arith)
+depth-under parent (suc n) h o =
+    let below : parent (suc n) < suc n = o (suc n) (omega arith) (omega arith) in
+    ap suc (depth-steps parent n (parent (suc n)) (parent (suc n)) (omega arith) (omega arith) (λ k i j. o k i (omega arith))) ∙ omega arith
+
+-- the rows before n are in order, and so is row n
+ordered-next : (s depths : List ℕ) (n : ℕ) → Known s n depths → parentOf s n < n → Ordered (parentOf s) n
+ordered-next s depths n known below k i j =
+    ⊎-elim (λ e. subst (λ (m : ℕ). parentOf s m < m) (sym e) below) (λ l. known .ordered k i l) (eq-or-lt-of-le {n = k} {m = n} j)
+
+-- the depth of row n from the table of depths
+pub depth-known : (s depths : List ℕ) (n : ℕ) → Known s n depths → parentOf s n < n → depth (parentOf s) n ≡ getD depths (parentOf s n) 0 + 1
+depth-known s depths n known below =
+    depth-under (parentOf s) n (omega arith) (ordered-next s depths n known below) ∙ ap (λ (k : ℕ). k + 1) (sym (known .depths-hold (parentOf s n) below))

@@ -1,0 +1,126 @@
+-- A field is a row, or the end field, exactly when its questions are answered yes.
+--   RowOk            the questions of the row after n rows, answered yes
+--   EndOk            the same of an end field
+--   row-ok, ok-row   a field that is a row, and back
+--   end-ok, ok-end   a field that is the end field, and back
+use mathlib.Core.Logic.{_⊎_, inl, inr, ⊎-elim, ⊎-map}
+use mathlib.Core.Path.{_≡_, refl, sym, _∙_}
+use mathlib.Core.Bool.{Bool, true, false}
+use mathlib.Core.List.{List}
+use Prim.Native.Nat.{ℕ, _≤_, _<_}
+use native.Mathlib.Omega.{arith}
+use borrow.Author.Tests.{ltb-true, leb-true, eqb-true, eqb-false, lt-ltb, le-leb, eq-eqb, ne-eqb}
+use lib.Dec.{eqb, leb, ltb}
+use lib.ListN.{length}
+use Rattle.table.specs.Pick.{pick}
+use Rattle.table.specs.Layout.{«place», headSize, rowTag, endTag, rowLength, endLength, rowSize, endSize}
+use Rattle.table.specs.Fields.{tagOf, lengthOf, parentOf, kindOf, roleOf, impossibleOf}
+use Rattle.table.specs.declared.layout.Limits.{Limits}
+use Rattle.picture.specs.Depth.{depth}
+use Rattle.picture.specs.Questions.{ask, kindOk, roleOk, parentOk, depthOk, impossibleOk, valueField, rowField, endField, fieldAt}
+use Rattle.picture.specs.declared.field.Field.{Field}
+use Rattle.picture.specs.declared.field.Field.the-variants.{Row, End, Bad}
+
+pub record RowOk (limits : Limits) (s : List ℕ) (n : ℕ) : Type 0 where
+  pub tag : tagOf s n ≡ rowTag
+  pub row-length : lengthOf s n ≡ rowLength
+  pub few : n < limits .rows
+  pub whole : place n rowSize ≤ length s
+  pub kind : kindOk n (kindOf s n) ≡ true
+  pub role : roleOk n (roleOf s n) ≡ true
+  pub parent : parentOk n (parentOf s n) ≡ true
+  pub shallow : depthOk limits (depth (parentOf s) n) ≡ true
+  pub impossible : impossibleOk (impossibleOf s n) ≡ true
+
+pub record EndOk (s : List ℕ) (n : ℕ) : Type 0 where
+  pub tag : tagOf s n ≡ endTag
+  pub end-length : lengthOf s n ≡ endLength
+  pub rows : 0 < n
+  pub stops : length s ≡ place n endSize
+
+-- a field that is no refusal
+good : Field → Bool
+good (Row d) = true
+good End = true
+good (Bad q) = false
+
+-- a question on the way to such a field was answered yes
+passed : (q : ℕ) (b : Bool) (next f : Field) → good f ≡ true → ask q b next ≡ f → (b ≡ true) × (next ≡ f)
+unfolding good
+passed q true next f g h = (refl, h)
+passed q false next (Row d) g h = absurd (let z : _≡_ {A = ℕ} 0 1 = cc in omega arith)
+passed q false next End g h = absurd (let z : _≡_ {A = ℕ} 0 1 = cc in omega arith)
+passed q false next (Bad p) g h = absurd (let z : _≡_ {A = ℕ} 0 1 = cc in omega arith)
+
+module _ (limits : Limits) (s : List ℕ) (n : ℕ) (f : Field) (g : good f ≡ true) where
+  row-part : tagOf s n ≡ rowTag → ask 4 (eqb (lengthOf s n) rowLength) (rowField limits s n) ≡ f → RowOk limits s n × (Row (depth (parentOf s) n) ≡ f)
+  unfolding rowField valueField
+  row-part t h =
+      let l = passed 4 _ _ f g h in
+      let r = passed 5 _ _ f g (l .1) in
+      let w = passed 6 _ _ f g (r .1) in
+      let k = passed 9 _ _ f g (w .1) in
+      let o = passed 10 _ _ f g (k .1) in
+      let p = passed 11 _ _ f g (o .1) in
+      let d = passed 12 _ _ f g (p .1) in
+      let i = passed 13 _ _ f g (d .1) in (
+        record {
+          tag = t;
+          row-length = eqb-true (lengthOf s n) rowLength (l .0);
+          few = ltb-true n (limits .rows) (r .0);
+          whole = leb-true (place n rowSize) (length s) (w .0);
+          kind = k .0;
+          role = o .0;
+          parent = p .0;
+          shallow = d .0;
+          impossible = i .0;
+        },
+        i .1,
+      )
+
+  end-part : ask 3 (eqb (tagOf s n) endTag) (ask 4 (eqb (lengthOf s n) endLength) (endField s n)) ≡ f → EndOk s n × (End ≡ f)
+  unfolding endField
+  end-part h =
+      let t = passed 3 _ _ f g h in
+      let l = passed 4 _ _ f g (t .1) in
+      let r = passed 7 _ _ f g (l .1) in
+      let e = passed 8 _ _ f g (r .1) in (
+        record {
+          tag = eqb-true (tagOf s n) endTag (t .0);
+          end-length = eqb-true (lengthOf s n) endLength (l .0);
+          rows = ltb-true 0 n (r .0);
+          stops = eqb-true (length s) (place n endSize) (e .0);
+        },
+        e .1,
+      )
+
+-- a row's head, or another
+by-tag : (t : Bool) (x y f : Field) → pick t x y ≡ f → ((t ≡ true) × (x ≡ f)) ⊎ ((t ≡ false) × (y ≡ f))
+by-tag true x y f h = inl (refl, h)
+by-tag false x y f h = inr (refl, h)
+
+head : (limits : Limits) (s : List ℕ) (n : ℕ) (f : Field) → good f ≡ true → fieldAt limits s n ≡ f → (RowOk limits s n × (Row (depth (parentOf s) n) ≡ f)) ⊎ (EndOk s n × (End ≡ f))
+unfolding fieldAt
+head limits s n f g h =
+    ⊎-map (λ w. row-part limits s n f g (eqb-true (tagOf s n) rowTag (w .0)) (w .1)) (λ w. end-part limits s n f g (w .1))
+    (by-tag (eqb (tagOf s n) rowTag) _ _ f (passed 2 (leb (place n headSize) (length s)) _ f g h .1))
+
+pub row-ok : (limits : Limits) (s : List ℕ) (n d : ℕ) → fieldAt limits s n ≡ Row d → RowOk limits s n × (d ≡ depth (parentOf s) n)
+unfolding good
+row-ok limits s n d h =
+    ⊎-elim (λ w. (w .0, (let e : Row (depth (parentOf s) n) ≡ Row d = w .1 in cc))) (λ w. absurd (let e : End ≡ Row d = w .1 in let z : _≡_ {A = ℕ} 0 1 = cc in omega arith)) (head limits s n (Row d) refl h)
+
+pub end-ok : (limits : Limits) (s : List ℕ) (n : ℕ) → fieldAt limits s n ≡ End → EndOk s n
+unfolding good
+end-ok limits s n h =
+    ⊎-elim (λ w. absurd (let e : Row (depth (parentOf s) n) ≡ End = w .1 in let z : _≡_ {A = ℕ} 0 1 = cc in omega arith)) (λ w. w .0) (head limits s n End refl h)
+
+pub ok-row : (limits : Limits) (s : List ℕ) (n : ℕ) → RowOk limits s n → fieldAt limits s n ≡ Row (depth (parentOf s) n)
+unfolding fieldAt rowField valueField
+ok-row limits s n r =
+    simp (le-leb (place n headSize) (length s) (omega (arith, r .whole)), eq-eqb _ _ (r .tag), eq-eqb _ _ (r .row-length), lt-ltb _ _ (r .few), le-leb _ _ (r .whole), r .kind, r .role, r .parent, r .shallow, r .impossible)
+
+pub ok-end : (limits : Limits) (s : List ℕ) (n : ℕ) → EndOk s n → fieldAt limits s n ≡ End
+unfolding fieldAt endField
+ok-end limits s n r =
+    simp (le-leb (place n headSize) (length s) (omega (arith, r .stops)), r .tag, r .end-length, lt-ltb 0 n (r .rows), eq-eqb _ _ (r .stops))

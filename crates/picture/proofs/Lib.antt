@@ -1,0 +1,6 @@
+-- The laws of reading, by subject.
+pub mod Depths
+pub mod Questions
+pub mod Fields
+pub mod Scans
+pub mod Readables

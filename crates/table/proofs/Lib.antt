@@ -1,0 +1,3 @@
+-- The laws of the definitions, by subject.
+pub mod Puts
+pub mod Numbers

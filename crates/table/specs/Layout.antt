@@ -1,0 +1,67 @@
+-- 01, "The file": the numbers of the format. Each number of the paper stands once; the others are computed from them.
+use Prim.Native.Nat.{ℕ, _+_, _*_, _-_}
+
+-- a field: one byte of tag, two of length, then the value
+abbrev pub headSize : ℕ
+headSize = 3
+
+abbrev pub rowTag : ℕ
+rowTag = 0x10
+
+abbrev pub endTag : ℕ
+endTag = 0x2F
+
+-- the end field is a head alone
+abbrev pub endLength : ℕ
+endLength = 0
+
+abbrev pub endSize : ℕ
+endSize = headSize + endLength
+
+-- a set of names is this many bytes, a bit for each name
+abbrev pub nameBytes : ℕ
+nameBytes = 8
+
+abbrev pub nameCount : ℕ
+nameCount = 8 * nameBytes
+
+-- where the parts of a row's field begin, from its tag on
+abbrev pub parentAt : ℕ
+parentAt = headSize
+
+abbrev pub kindAt : ℕ
+kindAt = parentAt + 2
+
+abbrev pub roleAt : ℕ
+roleAt = kindAt + 1
+
+abbrev pub impossibleAt : ℕ
+impossibleAt = roleAt + 1
+
+abbrev pub wantedAt : ℕ
+wantedAt = impossibleAt + 1
+
+abbrev pub excludedAt : ℕ
+excludedAt = wantedAt + nameBytes
+
+abbrev pub rowSize : ℕ
+rowSize = excludedAt + nameBytes
+
+abbrev pub rowLength : ℕ
+rowLength = rowSize - headSize
+
+abbrev pub kindRoot : ℕ
+kindRoot = 0
+
+abbrev pub kindSome : ℕ
+kindSome = 1
+
+abbrev pub kindAll : ℕ
+kindAll = 2
+
+abbrev pub roles : ℕ
+roles = 32
+
+-- the byte at which a part of a row stands: rows stand one after the other from the first byte on
+abbrev pub place : ℕ → ℕ → ℕ
+place row offset = rowSize * row + offset

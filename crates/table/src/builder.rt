@@ -1,0 +1,65 @@
+// A table under construction: the rows are counted by value, and the bytes stay in the lent part.
+use crate::layout::END_LENGTH;
+use crate::layout::END_SIZE;
+use crate::layout::END_TAG;
+use crate::layout::EXCLUDED_AT;
+use crate::layout::ROW_LENGTH;
+use crate::layout::ROW_TAG;
+use crate::layout::WANTED_AT;
+use crate::layout::place;
+use crate::number::copy_in;
+use crate::row::Row;
+ghost use mathlib.Core.Path.{_≡_};
+ghost use Prim.Native.Nat.{ℕ, _+_, _≤_, _<_};
+ghost use lib.ListN.{length};
+ghost use Rattle.table.specs.Layout.{«place», rowSize, endSize};
+ghost use Rattle.table.specs.Bounds.{maxRows};
+ghost use Rattle.table.specs.Put.{put};
+ghost use Rattle.table.specs.Fields.{rowBytes, endBytes};
+
+pub struct Builder {
+    pub rows: usize,
+}
+
+impl Builder {
+    pub fn new() -> Builder
+        ensures { λ r. ⌜ r .rows ≡ 0 ⌝ }
+    {
+        Builder { rows: 0 }
+    }
+
+    // The table with one row more, which is written after those that are there.
+    pub fn push(self, out: &mut [u8], row: Row) -> Builder
+        requires { ⌜ (self .rows < maxRows) × («place» (self .rows) rowSize ≤ length (now out)) ⌝ }
+        ensures { λ r. ⌜ (r .rows ≡ self .rows + 1) × (now (out .exit) ≡ put (now (out .entry)) («place» (self .rows) 0) (rowBytes row)) ⌝ }
+    {
+        let rows = self.rows;
+        let head = [
+            ROW_TAG,
+            (ROW_LENGTH / 256) as u8,
+            (ROW_LENGTH % 256) as u8,
+            (row.parent / 256 % 256) as u8,
+            (row.parent % 256) as u8,
+            row.kind,
+            row.role,
+            row.impossible,
+        ];
+        copy_in(out, place(rows, 0), &head);
+        let wanted = row.wanted;
+        wanted.store(out, place(rows, WANTED_AT));
+        let excluded = row.excluded;
+        excluded.store(out, place(rows, EXCLUDED_AT));
+        Builder { rows: rows + 1 }
+    }
+
+    // Ends the table, and gives its length in bytes.
+    pub fn finish(self, out: &mut [u8]) -> usize
+        requires { ⌜ (self .rows ≤ maxRows) × («place» (self .rows) endSize ≤ length (now out)) ⌝ }
+        ensures { λ r. ⌜ (r ≡ «place» (self .rows) endSize) × (now (out .exit) ≡ put (now (out .entry)) («place» (self .rows) 0) endBytes) ⌝ }
+    {
+        let rows = self.rows;
+        let end = [END_TAG, (END_LENGTH / 256) as u8, (END_LENGTH % 256) as u8];
+        copy_in(out, place(rows, 0), &end);
+        place(rows, END_SIZE)
+    }
+}

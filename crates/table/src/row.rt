@@ -1,0 +1,108 @@
+// The fields of a row, read by the row's number.
+use crate::layout::EXCLUDED_AT;
+use crate::layout::IMPOSSIBLE_AT;
+use crate::layout::KIND_AT;
+use crate::layout::PARENT_AT;
+use crate::layout::ROLE_AT;
+use crate::layout::WANTED_AT;
+use crate::layout::place;
+use crate::names::Names;
+use crate::number::load16;
+ghost use mathlib.Core.Path.{_≡_};
+ghost use Prim.Native.Nat.{ℕ, _+_, _≤_, _<_};
+ghost use lib.ListN.{length, getD};
+ghost use Rattle.table.specs.Layout.{«place», nameBytes, headSize, rowSize};
+ghost use Rattle.table.specs.Number.{be};
+ghost use Rattle.table.specs.Bounds.{maxRows};
+ghost use Rattle.table.specs.NameSet.{setOf};
+ghost use Rattle.table.specs.Fields.{tagOf, lengthOf, parentOf, kindOf, roleOf, impossibleOf, wantedOf, excludedOf, HasRow};
+
+// A row by value: what a table under construction takes.
+pub struct Row {
+    pub parent: usize,
+    pub kind: u8,
+    pub role: u8,
+    pub impossible: u8,
+    pub wanted: Names,
+    pub excluded: Names,
+}
+
+// One byte, a number of two bytes and a set of names at an offset of a row.
+fn byte(s: &[u8], row: usize, offset: usize) -> u8
+    requires { ⌜ (row ≤ maxRows) × (offset ≤ rowSize) × («place» row offset < length (now s)) ⌝ }
+    ensures { λ r. ⌜ r ≡ getD (now (s .entry)) («place» row offset) 0 ⌝ }
+{
+    s[place(row, offset)]
+}
+
+fn number(s: &[u8], row: usize, offset: usize) -> usize
+    requires { ⌜ (row ≤ maxRows) × (offset ≤ rowSize) × («place» row offset + 2 ≤ length (now s)) ⌝ }
+    ensures { λ r. ⌜ r ≡ be (now (s .entry)) («place» row offset) 2 ⌝ }
+{
+    load16(s, place(row, offset)) as usize
+}
+
+fn names(s: &[u8], row: usize, offset: usize) -> Names
+    requires { ⌜ (row ≤ maxRows) × (offset ≤ rowSize) × («place» row offset + nameBytes ≤ length (now s)) ⌝ }
+    ensures { λ r. ⌜ setOf r ≡ be (now (s .entry)) («place» row offset) nameBytes ⌝ }
+{
+    Names::load(s, place(row, offset))
+}
+
+// The head of a field.
+pub fn tag(s: &[u8], row: usize) -> u8
+    requires { ⌜ (row ≤ maxRows) × («place» row headSize ≤ length (now s)) ⌝ }
+    ensures { λ r. ⌜ r ≡ tagOf (now (s .entry)) row ⌝ }
+{
+    byte(s, row, 0)
+}
+
+pub fn length(s: &[u8], row: usize) -> usize
+    requires { ⌜ (row ≤ maxRows) × («place» row headSize ≤ length (now s)) ⌝ }
+    ensures { λ r. ⌜ r ≡ lengthOf (now (s .entry)) row ⌝ }
+{
+    number(s, row, 1)
+}
+
+// The value of a row.
+pub fn parent(s: &[u8], row: usize) -> usize
+    requires { ⌜ HasRow (now s) row ⌝ }
+    ensures { λ r. ⌜ r ≡ parentOf (now (s .entry)) row ⌝ }
+{
+    number(s, row, PARENT_AT)
+}
+
+pub fn kind(s: &[u8], row: usize) -> u8
+    requires { ⌜ HasRow (now s) row ⌝ }
+    ensures { λ r. ⌜ r ≡ kindOf (now (s .entry)) row ⌝ }
+{
+    byte(s, row, KIND_AT)
+}
+
+pub fn role(s: &[u8], row: usize) -> u8
+    requires { ⌜ HasRow (now s) row ⌝ }
+    ensures { λ r. ⌜ r ≡ roleOf (now (s .entry)) row ⌝ }
+{
+    byte(s, row, ROLE_AT)
+}
+
+pub fn impossible(s: &[u8], row: usize) -> u8
+    requires { ⌜ HasRow (now s) row ⌝ }
+    ensures { λ r. ⌜ r ≡ impossibleOf (now (s .entry)) row ⌝ }
+{
+    byte(s, row, IMPOSSIBLE_AT)
+}
+
+pub fn wanted(s: &[u8], row: usize) -> Names
+    requires { ⌜ HasRow (now s) row ⌝ }
+    ensures { λ r. ⌜ setOf r ≡ wantedOf (now (s .entry)) row ⌝ }
+{
+    names(s, row, WANTED_AT)
+}
+
+pub fn excluded(s: &[u8], row: usize) -> Names
+    requires { ⌜ HasRow (now s) row ⌝ }
+    ensures { λ r. ⌜ setOf r ≡ excludedOf (now (s .entry)) row ⌝ }
+{
+    names(s, row, EXCLUDED_AT)
+}
