@@ -1,3 +1,7 @@
 -- The laws of the definitions, by subject.
 pub mod Puts
 pub mod Numbers
+pub mod Ranges
+pub mod Bits
+pub mod NameSets
+pub mod Rows

@@ -1,0 +1,44 @@
+# make        prove the library and write target/staticlib/libzuvaropy.a
+# make test   prove everything, then run the C tests; the last line is 'N passed, M failed'
+# make demo   validate the sample pictures
+# make bench  time the library beside a scan hand-written in C
+# make clean  remove what the others made
+
+CC = gcc
+CFLAGS = -std=c99 -O2 -Wall -Wextra -Wpedantic -Werror
+LIBRARY = target/staticlib/libzuvaropy.a
+
+.PHONY: all library test gate demo bench clean tools
+
+all: library
+
+# Always run: rt knows what has to be proved again.
+library: tools
+	@rt staticlib zuvaropy
+
+# Where a recipe fails, the last line is make's own. So that it counts the failures all the same, the
+# gate leaves its status and its last line, and make's message is made of that line.
+test: gate
+	@$(if $(filter 0,$(shell cat build/gate.status)),,$(error $(shell cat build/gate.last)))
+
+gate: tools
+	@mkdir -p build
+	@CC='$(CC)' sh tests/gate.sh; echo $$? >build/gate.status
+
+demo: library
+	@mkdir -p build/examples
+	@$(CC) $(CFLAGS) -Iinclude examples/validate.c $(LIBRARY) -o build/examples/validate
+	@build/examples/validate samples/*.pic
+
+bench: library
+	@mkdir -p build/bench
+	@$(CC) $(CFLAGS) -Iinclude -Ibench bench/validate.c bench/scan.c $(LIBRARY) -o build/bench/validate
+	@build/bench/validate
+
+clean:
+	rm -rf build target
+
+# A missing tool stops make with one line.
+need = $(if $(shell command -v $(1) 2>/dev/null),,$(error $(1) is not on the PATH: it is $(2)))
+tools:
+	@$(call need,rt,the Rattle toolchain)$(call need,$(CC),the C compiler)

@@ -1,0 +1,101 @@
+-- Laws of sets of names, by membership; a set of the format is a number below 2 ^ nameCount.
+--   union-below, intersection-below, complement-below       the results are sets of the format
+--   has-none, has-union, has-intersection, has-complement   the names of each operation's result
+--   has-below                                               a set of the format has only names below nameCount
+--   set-ext                                                 sets with the same names are equal
+--   subset-has, has-subset                                  a set is within another exactly when the other has its names
+--   subset-not                                              a set that is not within another has a name that the other lacks
+--   overlap-has, has-overlap                                sets overlap exactly when some name is in both
+use mathlib.Core.Path.{_≡_, refl, ap, sym, _∙_}
+use mathlib.Core.Bool.{Bool, true, false, not, _&&_, _||_, false≢true, true≢false}
+use Prim.Native.Nat.{ℕ, zero, suc, _-_, _^_, _<_, min, max}
+use native.Mathlib.Nat.{zero-div, lt-of-not-le, lt-of-le-of-lt}
+use native.Mathlib.Decide.{decLt}
+use native.Mathlib.Omega.{arith}
+use lib.Dec.{eqb, ltb}
+use lib.Bits.{bitAnd, or-lt, and-le-l}
+use lib.Pow.{ones-sub-lt}
+use borrow.Author.Tests.{lt-ltb, le-ltb, eqb-true, eqb-false, eq-eqb, ne-eqb, not-true}
+use Rattle.table.specs.Layout.{nameCount}
+use Rattle.table.specs.NameSet.{bit, has, none, union, intersection, complement, subset, overlap}
+use Rattle.table.proofs.Bits.{pow-above, bit-bound, bit-or, bit-and, bit-below, bit-complement, bits-differ, bit-found, bits-eq}
+
+pub union-below : (a b : ℕ) → a < 2 ^ nameCount → b < 2 ^ nameCount → union a b < 2 ^ nameCount
+union-below = or-lt nameCount
+
+pub intersection-below : (a b : ℕ) → a < 2 ^ nameCount → intersection a b < 2 ^ nameCount
+intersection-below a b h = lt-of-le-of-lt (and-le-l a b) h
+
+pub complement-below : (a : ℕ) → complement a < 2 ^ nameCount
+complement-below = ones-sub-lt nameCount
+
+-- a fact about two bits is four cases
+bit-cases : (P : ℕ → ℕ → Type 0) → P 0 0 → P 0 1 → P 1 0 → P 1 1 → (a b n : ℕ) → P (bit a n) (bit b n)
+bit-cases P p q r s a b n = go (bit a n) (bit b n) (bit-bound a n) (bit-bound b n)
+  where
+    go : (x y : ℕ) → x < 2 → y < 2 → P x y
+    go zero zero hx hy = p
+    go zero (suc zero) hx hy = q
+    go zero (suc (suc y)) hx hy = absurd (omega arith)
+    go (suc zero) zero hx hy = r
+    go (suc zero) (suc zero) hx hy = s
+    go (suc zero) (suc (suc y)) hx hy = absurd (omega arith)
+    go (suc (suc x)) y hx hy = absurd (omega arith)
+
+pub has-none : (n : ℕ) → has none n ≡ false
+unfolding has
+has-none n = rw zero-div
+
+pub has-union : (a b n : ℕ) → has (union a b) n ≡ (has a n || has b n)
+unfolding has
+has-union a b n = rw (bit-or a b n) (bit-cases (λ x y. eqb (max x y) 1 ≡ (eqb x 1 || eqb y 1)) refl refl refl refl a b n)
+
+pub has-intersection : (a b n : ℕ) → has (intersection a b) n ≡ (has a n && has b n)
+unfolding has
+has-intersection a b n = rw (bit-and a b n) (bit-cases (λ x y. eqb (min x y) 1 ≡ (eqb x 1 && eqb y 1)) refl refl refl refl a b n)
+
+pub has-complement : (a n : ℕ) → a < 2 ^ nameCount → has (complement a) n ≡ (ltb n nameCount && not (has a n))
+unfolding has
+has-complement a n h =
+    elim (decLt n nameCount) [
+      | yes l ↦ rw (lt-ltb n nameCount l, bit-complement nameCount a n h l) (bit-cases (λ x y. eqb (1 - x) 1 ≡ not (eqb x 1)) refl refl refl refl a a n)
+      | no u ↦ rw (le-ltb n nameCount (omega arith), bit-below nameCount (complement a) n (complement-below a) (omega arith))
+    ]
+
+pub has-below : (a n : ℕ) → a < 2 ^ nameCount → has a n ≡ true → n < nameCount
+unfolding has
+has-below a n h e = lt-of-not-le (λ l. omega (arith, eqb-true (bit a n) 1 e, bit-below nameCount a n h l))
+
+pub set-ext : (a b : ℕ) → ((n : ℕ) → has a n ≡ has b n) → a ≡ b
+unfolding has
+set-ext a b h = bits-eq a b (λ n. bit-cases (λ x y. eqb x 1 ≡ eqb y 1 → x ≡ y) (λ e. refl) (λ e. absurd (false≢true e)) (λ e. absurd (true≢false e)) (λ e. refl) a b n (h n))
+
+pub subset-has : (a b : ℕ) → subset a b ≡ true → (n : ℕ) → has a n ≡ true → has b n ≡ true
+subset-has a b s n e = sym (rw e at (has-intersection a b n)) ∙ ap (λ (x : ℕ). has x n) (eqb-true (bitAnd a b) a s) ∙ e
+
+pub has-subset : (a b : ℕ) → ((n : ℕ) → has a n ≡ true → has b n ≡ true) → subset a b ≡ true
+has-subset a b h = eq-eqb (bitAnd a b) a (set-ext (bitAnd a b) a (λ n. has-intersection a b n ∙ within (has a n) (has b n) (h n)))
+  where
+    within : (x y : Bool) → (x ≡ true → y ≡ true) → (x && y) ≡ x
+    within true y h = h refl
+    within false y h = refl
+
+width : (a b : ℕ) → bitAnd a b < 2 ^ a
+width a b = lt-of-le-of-lt (and-le-l a b) (pow-above a)
+
+pub subset-not : (a b : ℕ) → subset a b ≡ false → (n : ℕ) × (has a n ≡ true) × (has b n ≡ false)
+unfolding has
+subset-not a b s =
+    let (n, l, u) = bits-differ a (bitAnd a b) a (width a b) (pow-above a) (eqb-false (bitAnd a b) a s) in
+    let m = bit-and a b n in
+    (n, eq-eqb (bit a n) 1 (omega arith), ne-eqb (bit b n) 1 (omega arith))
+
+pub overlap-has : (a b : ℕ) → overlap a b ≡ true → (n : ℕ) × (has a n ≡ true) × (has b n ≡ true)
+unfolding has
+overlap-has a b s =
+    let (n, l, e) = bit-found a (bitAnd a b) (width a b) (eqb-false (bitAnd a b) 0 (not-true (eqb (bitAnd a b) 0) s)) in
+    let m = bit-and a b n in
+    (n, eq-eqb (bit a n) 1 (omega arith), eq-eqb (bit b n) 1 (omega arith))
+
+pub has-overlap : (a b n : ℕ) → has a n ≡ true → has b n ≡ true → overlap a b ≡ true
+has-overlap a b n p q = ap not (ne-eqb (bitAnd a b) 0 (λ z. false≢true (sym (has-none n) ∙ ap (λ (x : ℕ). has x n) (sym z) ∙ has-intersection a b n ∙ rw (p, q))))

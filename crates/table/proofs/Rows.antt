@@ -1,0 +1,162 @@
+-- Laws of the fields of a table: what was put reads back, and the other rows keep theirs.
+--   Same                                  the first k bytes of field m of s are those of field n of t
+--   number-same, tag-same, length-same,
+--   parent-same, kind-same, role-same,
+--   impossible-same, wanted-same,
+--   excluded-same                         fields with the same bytes have the same parts
+--   length-rowBytes, length-endBytes      the sizes of a row and of the end field
+--   pushed, ended                         the table d with a row, or with the end field, put at n
+--   row-put, row-tag, row-length,
+--   row-parent, row-kind, row-role,
+--   row-impossible, row-wanted,
+--   row-excluded                          what the row that was put reads back as
+--   end-put, end-tag, end-length          what the end field that was put reads back as
+--   row-other, end-other                  the other rows are as they were
+use mathlib.Core.Path.{_≡_, refl, ap, sym, _∙_}
+use mathlib.Core.List.{List, []}
+use Prim.Native.Nat.{ℕ, _+_, _*_, _-_, _^_, _≤_, _<_}
+use native.Mathlib.Nat.{add-assoc, zero-add}
+use native.Mathlib.Decide.{decLt}
+use native.Mathlib.Omega.{arith}
+use lib.ListN.{length, take, getD}
+use Rattle.table.specs.Layout.{«place», rowTag, endTag, endLength, endSize, headSize, nameBytes, nameCount, parentAt, kindAt, roleAt, impossibleAt, wantedAt, excludedAt, rowLength, rowSize}
+use Rattle.table.specs.Number.{be, beBytes}
+use Rattle.table.specs.NameSet.{setOf}
+use Rattle.table.specs.Put.{put}
+use Rattle.table.specs.Fields.{tagOf, lengthOf, parentOf, kindOf, roleOf, impossibleOf, wantedOf, excludedOf, rowBytes, endBytes}
+use Rattle.table.specs.declared.row.Row.{Row}
+use Rattle.table.proofs.Puts.{put-before, put-in, put-after}
+use Rattle.table.proofs.Numbers.{be-same, be-inside}
+
+-- fields with the same bytes
+
+pub record Same (k : ℕ) (s : List ℕ) (m : ℕ) (t : List ℕ) (n : ℕ) : Type 0 where
+  pub byte : (i : ℕ) → i < k → getD s (place m i) 0 ≡ getD t (place n i) 0
+
+module _ {k : ℕ} {s : List ℕ} {m : ℕ} {t : List ℕ} {n : ℕ} (e : Same k s m t n) where
+  pub number-same : (offset w : ℕ) → offset + w ≤ k → be s (place m offset) w ≡ be t (place n offset) w
+  number-same offset w h = be-same s t (place m offset) (place n offset) w (λ i l. rw (add-assoc (rowSize * m), add-assoc (rowSize * n)) (e .byte (offset + i) (omega arith)))
+
+  pub tag-same : headSize ≤ k → tagOf s m ≡ tagOf t n
+  tag-same h = e .byte 0 (omega arith)
+
+  pub length-same : headSize ≤ k → lengthOf s m ≡ lengthOf t n
+  length-same h = number-same 1 2 h
+
+module _ {s : List ℕ} {m : ℕ} {t : List ℕ} {n : ℕ} (e : Same rowSize s m t n) where
+  pub parent-same : parentOf s m ≡ parentOf t n
+  parent-same = number-same e parentAt 2 (omega arith)
+
+  pub kind-same : kindOf s m ≡ kindOf t n
+  kind-same = e .byte kindAt (omega arith)
+
+  pub role-same : roleOf s m ≡ roleOf t n
+  role-same = e .byte roleAt (omega arith)
+
+  pub impossible-same : impossibleOf s m ≡ impossibleOf t n
+  impossible-same = e .byte impossibleAt (omega arith)
+
+  pub wanted-same : wantedOf s m ≡ wantedOf t n
+  wanted-same = number-same e wantedAt nameBytes (omega arith)
+
+  pub excluded-same : excludedOf s m ≡ excludedOf t n
+  excluded-same = number-same e excludedAt nameBytes (omega arith)
+
+-- bytes put at a row's place
+
+field-put : (d s : List ℕ) (n i : ℕ) → place n (length s) ≤ length d → i < length s → getD (put d (place n 0) s) (place n i) 0 ≡ getD s i 0
+field-put d s n i h l =
+    let e : place n i ≡ place n 0 + i = omega arith in
+    ap (λ (j : ℕ). getD (put d (place n 0) s) j 0) e ∙ put-in d (place n 0) s i (omega arith) l
+
+field-other : (d s : List ℕ) (n m : ℕ) → place n (length s) ≤ length d → length s ≤ rowSize → (m ≡ n → ⊥) → Same rowSize (put d (place n 0) s) m d m
+field-other d s n m h w u = record { byte = keeps }
+  where
+    keeps : (i : ℕ) → i < rowSize → getD (put d (place n 0) s) (place m i) 0 ≡ getD d (place m i) 0
+    keeps i l =
+        elim (decLt m n) [
+          | yes b ↦ put-before d (place n 0) s (place m i) (omega arith) (omega arith)
+          | no b ↦
+              let j : ℕ = place m i - (place n 0 + length s) in
+              let e : place m i ≡ place n 0 + length s + j = omega arith in
+              rw e (put-after d (place n 0) s j (omega arith))
+        ]
+
+-- a row
+
+pub length-rowBytes : (r : Row) → length (rowBytes r) ≡ rowSize
+unfolding rowBytes beBytes
+length-rowBytes r = refl
+
+abbrev pub pushed : List ℕ → ℕ → Row → List ℕ
+pushed d n r = put d (place n 0) (rowBytes r)
+
+module _ (d : List ℕ) (n : ℕ) (r : Row) (h : place n rowSize ≤ length d) where
+  pub row-put : (i : ℕ) → i < rowSize → getD (pushed d n r) (place n i) 0 ≡ getD (rowBytes r) i 0
+  row-put i l = let w = length-rowBytes r in field-put d (rowBytes r) n i (omega arith) (omega arith)
+
+  -- the row's bytes are a table of one row
+  row-same : Same rowSize (pushed d n r) n (rowBytes r) 0
+  row-same = record { byte = λ i l. row-put i l ∙ ap (λ (j : ℕ). getD (rowBytes r) j 0) (sym (zero-add i)) }
+
+  pub row-tag : tagOf (pushed d n r) n ≡ rowTag
+  unfolding rowBytes
+  row-tag = tag-same row-same (omega arith)
+
+  pub row-length : lengthOf (pushed d n r) n ≡ rowLength
+  unfolding rowBytes beBytes be
+  row-length = length-same row-same (omega arith)
+
+  pub row-parent : r .parent < 256 ^ 2 → parentOf (pushed d n r) n ≡ r .parent
+  unfolding rowBytes beBytes
+  row-parent f = parent-same row-same ∙ be-inside (take parentAt (rowBytes r)) _ 2 (r .parent) f
+
+  pub row-kind : kindOf (pushed d n r) n ≡ r .kind
+  unfolding rowBytes beBytes
+  row-kind = kind-same row-same
+
+  pub row-role : roleOf (pushed d n r) n ≡ r .role
+  unfolding rowBytes beBytes
+  row-role = role-same row-same
+
+  pub row-impossible : impossibleOf (pushed d n r) n ≡ r .impossible
+  unfolding rowBytes beBytes
+  row-impossible = impossible-same row-same
+
+  pub row-wanted : setOf (r .wanted) < 2 ^ nameCount → wantedOf (pushed d n r) n ≡ setOf (r .wanted)
+  unfolding rowBytes beBytes
+  row-wanted f = wanted-same row-same ∙ be-inside (take wantedAt (rowBytes r)) _ nameBytes (setOf (r .wanted)) f
+
+  pub row-excluded : setOf (r .excluded) < 2 ^ nameCount → excludedOf (pushed d n r) n ≡ setOf (r .excluded)
+  unfolding rowBytes beBytes
+  row-excluded f = excluded-same row-same ∙ be-inside (take excludedAt (rowBytes r)) [] nameBytes (setOf (r .excluded)) f
+
+  pub row-other : (m : ℕ) → (m ≡ n → ⊥) → Same rowSize (pushed d n r) m d m
+  row-other m u = let w = length-rowBytes r in field-other d (rowBytes r) n m (omega arith) (omega arith) u
+
+-- the end field
+
+pub length-endBytes : length endBytes ≡ endSize
+unfolding endBytes beBytes
+length-endBytes = refl
+
+abbrev pub ended : List ℕ → ℕ → List ℕ
+ended d n = put d (place n 0) endBytes
+
+module _ (d : List ℕ) (n : ℕ) (h : place n endSize ≤ length d) where
+  pub end-put : (i : ℕ) → i < endSize → getD (ended d n) (place n i) 0 ≡ getD endBytes i 0
+  end-put i l = let w = length-endBytes in field-put d endBytes n i (omega arith) (omega arith)
+
+  end-same : Same endSize (ended d n) n endBytes 0
+  end-same = record { byte = λ i l. end-put i l ∙ ap (λ (j : ℕ). getD endBytes j 0) (sym (zero-add i)) }
+
+  pub end-tag : tagOf (ended d n) n ≡ endTag
+  unfolding endBytes
+  end-tag = tag-same end-same (omega arith)
+
+  pub end-length : lengthOf (ended d n) n ≡ endLength
+  unfolding endBytes beBytes be
+  end-length = length-same end-same (omega arith)
+
+  pub end-other : (m : ℕ) → (m ≡ n → ⊥) → Same rowSize (ended d n) m d m
+  end-other m u = let w = length-endBytes in field-other d endBytes n m (omega arith) (omega arith) u

@@ -1,0 +1,43 @@
+-- The 64-bit answer word of a call.
+--   bits 63..56  outcome: 0 a refusal, 1 yes, 2 no
+--   a refusal:   bits 55..48 the question's number, 47..40 the input's code, 39..32 the card's number or 0, the rest 0
+--   an answer:   bits 31..0 the value, the rest 0
+use Prim.Native.Nat.{ℕ, _+_, _*_, _^_}
+use Rattle.picture.specs.declared.answer.Input.{Input}
+use Rattle.picture.specs.declared.answer.Input.the-variants.{Buffer, First, Second, Evidence, Book, Card}
+use Rattle.picture.specs.declared.answer.Refusal.{Refusal}
+use Rattle.picture.specs.declared.answer.Answer.{Answer}
+use Rattle.picture.specs.declared.answer.Answer.the-variants.{Rows, Refused}
+
+abbrev pub outcomeYes : ℕ
+outcomeYes = 1
+
+abbrev pub outcomeNo : ℕ
+outcomeNo = 2
+
+abbrev pub inputCode : Input → ℕ
+inputCode Buffer = 0
+inputCode First = 1
+inputCode Second = 2
+inputCode Evidence = 3
+inputCode Book = 4
+inputCode (Card n) = 5
+
+abbrev pub cardOf : Input → ℕ
+cardOf Buffer = 0
+cardOf First = 0
+cardOf Second = 0
+cardOf Evidence = 0
+cardOf Book = 0
+cardOf (Card n) = n
+
+abbrev pub valueWord : ℕ → ℕ → ℕ
+valueWord outcome value = outcome * 2 ^ 56 + value
+
+abbrev pub refusalWord : Refusal → ℕ
+refusalWord r = r .number * 2 ^ 48 + inputCode (r .input) * 2 ^ 40 + cardOf (r .input) * 2 ^ 32
+
+-- the plain test: the row count, or the refusal
+abbrev pub readWord : Answer → ℕ
+readWord (Rows n) = valueWord outcomeYes n
+readWord (Refused r) = refusalWord r

@@ -1,0 +1,23 @@
+// The C interface: each call takes numbers and byte buffers and gives one 64-bit word, which specs/Word.antt lays down.
+use crate::word::YES;
+use crate::word::refusal_word;
+use crate::word::value_word;
+use picture::answer::Answer;
+use picture::answer::Input;
+use picture::read::read;
+use table::layout::Limits;
+ghost use mathlib.Core.Path.{_≡_};
+ghost use Rattle.zuvaropy.specs.Calls.{validateWord};
+
+mod word;
+
+// Tests one picture, and gives its row count.
+#[no_mangle]
+pub extern "C" fn zuvaropy_validate(picture: &[u8]) -> u64
+    ensures { λ r. ⌜ r ≡ validateWord (now (picture .entry)) ⌝ }
+{
+    match read(picture, Limits::bench(), Input::First) {
+        Answer::Rows(n) => value_word(YES, n as u64),
+        Answer::Refused(refusal) => refusal_word(refusal),
+    }
+}

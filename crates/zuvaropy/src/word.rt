@@ -1,0 +1,63 @@
+// The answer word.
+use picture::answer::Input;
+use picture::answer::Refusal;
+ghost use mathlib.Core.Path.{_≡_};
+ghost use Prim.Native.Nat.{ℕ, _+_, _*_, _^_, _≤_, _<_};
+ghost use Rattle.zuvaropy.specs.Word.{outcomeNo, valueWord, refusalWord, inputCode, cardOf};
+
+// Outcomes that are no refusal.
+pub const YES: u64 = 1;
+
+pub const NO: u64 = 2;
+
+// Weights of the parts of a word.
+const OUTCOME: u64 = 0x0100_0000_0000_0000;
+
+const NUMBER: u64 = 0x0001_0000_0000_0000;
+
+const INPUT: u64 = 0x0000_0100_0000_0000;
+
+const CARD: u64 = 0x0000_0001_0000_0000;
+
+pub fn value_word(outcome: u64, value: u64) -> u64
+    requires { ⌜ (outcome ≤ outcomeNo) × (value < 2 ^ 32) ⌝ }
+    ensures { λ r. ⌜ r ≡ valueWord outcome value ⌝ }
+{
+    outcome * OUTCOME + value
+}
+
+fn input_code(input: Input) -> u8
+    ensures { λ r. ⌜ r ≡ inputCode input ⌝ }
+{
+    match input {
+        Input::Buffer => 0,
+        Input::First => 1,
+        Input::Second => 2,
+        Input::Evidence => 3,
+        Input::Book => 4,
+        Input::Card(_) => 5,
+    }
+}
+
+fn card_of(input: Input) -> u8
+    ensures { λ r. ⌜ r ≡ cardOf input ⌝ }
+{
+    match input {
+        Input::Buffer => 0,
+        Input::First => 0,
+        Input::Second => 0,
+        Input::Evidence => 0,
+        Input::Book => 0,
+        Input::Card(card) => card,
+    }
+}
+
+pub fn refusal_word(refusal: Refusal) -> u64
+    ensures { λ r. ⌜ r ≡ refusalWord refusal ⌝ }
+{
+    let input = refusal.input;
+    let number = refusal.number;
+    let code = input_code(input);
+    let card = card_of(input);
+    (number as u64) * NUMBER + (code as u64) * INPUT + (card as u64) * CARD
+}

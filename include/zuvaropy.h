@@ -1,0 +1,209 @@
+/*
+ * zuvaropy.h - the C interface of Zuvaropy
+ *
+ * Zuvaropy works on concept descriptions of the description logic ALE. A
+ * description is a tree; its file is called a picture, and each node of the
+ * tree is a row of the picture.
+ *
+ * Every call takes numbers and byte buffers and returns one 64-bit answer
+ * word. The library allocates nothing, keeps no state and calls nothing, so
+ * every call may be made from any thread at any time.
+ *
+ * A buffer is a pointer and a length in bytes. The pointer may be NULL where
+ * the length is 0. A buffer lent for writing overlaps no other buffer of its
+ * call.
+ *
+ * Contents: sizes, codes, the answer word, calls.
+ */
+
+#ifndef ZUVAROPY_H
+#define ZUVAROPY_H
+
+#include <stddef.h>
+#include <stdint.h>
+
+#ifdef __cplusplus
+extern "C" {
+#endif
+
+/*
+ * Sizes
+ *
+ * A picture is a sequence of fields: tag, length of the value, value. Numbers
+ * have the high byte first. There is a field for each row, the root first, and
+ * then an end field, which has no value. Rows are numbered from 0.
+ *
+ * The value of a row is, in this order:
+ *
+ *   parent      number of an earlier row; 0 in row 0
+ *   kind        of the edge from the parent (ZUVAROPY_KIND_...)
+ *   role        of the edge from the parent; 0 in row 0
+ *   impossible  1 to say that nothing is an instance of the row, else 0
+ *   wanted      set of the names that an instance has
+ *   excluded    set of the names that an instance has not
+ *
+ * Names and roles are numbered from 0. In a set, name n is the bit of weight
+ * 2^n of the one number that its bytes are.
+ */
+
+#define ZUVAROPY_NAMES      64  /* concept names */
+#define ZUVAROPY_ROLES      32  /* roles */
+#define ZUVAROPY_MAX_ROWS  256  /* rows of a picture, at most */
+#define ZUVAROPY_MAX_DEPTH  12  /* edges from the root to a row, at most */
+
+/* The parts of a field's head, in bytes. */
+#define ZUVAROPY_TAG_BYTES     1
+#define ZUVAROPY_LENGTH_BYTES  2
+#define ZUVAROPY_HEAD_BYTES    (ZUVAROPY_TAG_BYTES + ZUVAROPY_LENGTH_BYTES)
+
+/* The parts of a row's value, in bytes. */
+#define ZUVAROPY_PARENT_BYTES      2
+#define ZUVAROPY_KIND_BYTES        1
+#define ZUVAROPY_ROLE_BYTES        1
+#define ZUVAROPY_IMPOSSIBLE_BYTES  1
+#define ZUVAROPY_NAME_SET_BYTES    (ZUVAROPY_NAMES / 8)
+
+/* Where each part begins, counted from the value's first byte. */
+#define ZUVAROPY_PARENT_AT      0
+#define ZUVAROPY_KIND_AT        (ZUVAROPY_PARENT_AT + ZUVAROPY_PARENT_BYTES)
+#define ZUVAROPY_ROLE_AT        (ZUVAROPY_KIND_AT + ZUVAROPY_KIND_BYTES)
+#define ZUVAROPY_IMPOSSIBLE_AT  (ZUVAROPY_ROLE_AT + ZUVAROPY_ROLE_BYTES)
+#define ZUVAROPY_WANTED_AT      (ZUVAROPY_IMPOSSIBLE_AT + ZUVAROPY_IMPOSSIBLE_BYTES)
+#define ZUVAROPY_EXCLUDED_AT    (ZUVAROPY_WANTED_AT + ZUVAROPY_NAME_SET_BYTES)
+
+/* The value of each kind of field, and a row's whole field, in bytes. */
+#define ZUVAROPY_ROW_VALUE_BYTES  (ZUVAROPY_EXCLUDED_AT + ZUVAROPY_NAME_SET_BYTES)
+#define ZUVAROPY_END_VALUE_BYTES  0
+#define ZUVAROPY_ROW_BYTES        (ZUVAROPY_HEAD_BYTES + ZUVAROPY_ROW_VALUE_BYTES)
+
+/* A picture of so many rows, and the longest one, in bytes. */
+#define ZUVAROPY_PICTURE_BYTES(rows)  ((rows) * ZUVAROPY_ROW_BYTES + ZUVAROPY_HEAD_BYTES)
+#define ZUVAROPY_MAX_PICTURE_BYTES    ZUVAROPY_PICTURE_BYTES(ZUVAROPY_MAX_ROWS)
+
+/*
+ * Codes
+ */
+
+/* Tags of a picture's fields. */
+#define ZUVAROPY_TAG_ROW  0x10
+#define ZUVAROPY_TAG_END  0x2F
+
+/* Kinds of row. */
+#define ZUVAROPY_KIND_ROOT    0  /* row 0, and no other */
+#define ZUVAROPY_KIND_EXISTS  1  /* some: existential restriction */
+#define ZUVAROPY_KIND_FORALL  2  /* all: value restriction */
+
+/* Outcomes of a call. */
+#define ZUVAROPY_OUTCOME_REFUSAL  0  /* an input was refused */
+#define ZUVAROPY_OUTCOME_YES      1  /* the answer; yes, where it is yes or no */
+#define ZUVAROPY_OUTCOME_NO       2  /* no, where the answer is yes or no */
+
+/* Inputs that a refusal can concern. */
+#define ZUVAROPY_INPUT_BUFFER    0  /* a buffer lent for writing */
+#define ZUVAROPY_INPUT_FIRST     1  /* the first picture, or the only one */
+#define ZUVAROPY_INPUT_SECOND    2  /* the second picture */
+#define ZUVAROPY_INPUT_EVIDENCE  3  /* the evidence */
+#define ZUVAROPY_INPUT_BOOK      4  /* the book */
+#define ZUVAROPY_INPUT_CARD      5  /* a card of the book */
+
+/*
+ * Questions asked of a picture: field by field, those of one field in the
+ * order of their numbers. The first one whose answer is no refuses the
+ * picture.
+ */
+#define ZUVAROPY_QUESTION_HEAD         2  /* are the bytes of the head there? */
+#define ZUVAROPY_QUESTION_TAG          3  /* is the tag that of a row or of the end? */
+#define ZUVAROPY_QUESTION_LENGTH       4  /* is the length the one that goes with the tag? */
+#define ZUVAROPY_QUESTION_ROWS         5  /* row: have fewer than ZUVAROPY_MAX_ROWS been read? */
+#define ZUVAROPY_QUESTION_VALUE        6  /* is the whole value there? */
+#define ZUVAROPY_QUESTION_NONEMPTY     7  /* end: was there a row? */
+#define ZUVAROPY_QUESTION_STOP         8  /* end: does the file stop there? */
+#define ZUVAROPY_QUESTION_KIND         9  /* row: is the kind root in row 0, else exists or forall? */
+#define ZUVAROPY_QUESTION_ROLE        10  /* row: is the role below ZUVAROPY_ROLES, and 0 in row 0? */
+#define ZUVAROPY_QUESTION_PARENT      11  /* row: is the parent below the row's number (0 in row 0)? */
+#define ZUVAROPY_QUESTION_DEPTH       12  /* row: is the depth at most ZUVAROPY_MAX_DEPTH? */
+#define ZUVAROPY_QUESTION_IMPOSSIBLE  13  /* row: is the impossible byte 0 or 1? */
+
+/*
+ * The answer word
+ *
+ *   bits      answer   refusal
+ *   63..56    outcome  outcome
+ *   55..48    0        question
+ *   47..40    0        input
+ *   39..32    0        card, if the input is a card; else 0
+ *   31..0     value    0
+ */
+
+#define ZUVAROPY_OUTCOME_SHIFT   56
+#define ZUVAROPY_QUESTION_SHIFT  48
+#define ZUVAROPY_INPUT_SHIFT     40
+#define ZUVAROPY_CARD_SHIFT      32
+
+/* The outcome: one of ZUVAROPY_OUTCOME_.... */
+static inline unsigned int zuvaropy_outcome(uint64_t word)
+{
+    return (unsigned int)(word >> ZUVAROPY_OUTCOME_SHIFT);
+}
+
+/* Of an answer: the value, whose meaning each call gives. */
+static inline uint32_t zuvaropy_value(uint64_t word)
+{
+    return (uint32_t)(word & 0xFFFFFFFFu);
+}
+
+/* Of a refusal: the question whose answer was no, one of ZUVAROPY_QUESTION_.... */
+static inline unsigned int zuvaropy_question(uint64_t word)
+{
+    return (unsigned int)(word >> ZUVAROPY_QUESTION_SHIFT & 0xFFu);
+}
+
+/* Of a refusal: the input it concerns, one of ZUVAROPY_INPUT_.... */
+static inline unsigned int zuvaropy_input(uint64_t word)
+{
+    return (unsigned int)(word >> ZUVAROPY_INPUT_SHIFT & 0xFFu);
+}
+
+/* Of a refusal that concerns a card: the card's number, from 0. */
+static inline unsigned int zuvaropy_card(uint64_t word)
+{
+    return (unsigned int)(word >> ZUVAROPY_CARD_SHIFT & 0xFFu);
+}
+
+/*
+ * Calls
+ *
+ * The library's functions want a pointer that is not NULL even where the
+ * length is 0. Each call is therefore also a macro of the same name that puts
+ * zuvaropy_lent around its pointers; every argument is evaluated once. The
+ * function itself is reached by its address or as (zuvaropy_validate)(..).
+ */
+
+/* The pointer itself, or one to a byte that is never read where it is NULL. */
+static inline const uint8_t *zuvaropy_lent(const uint8_t *buffer)
+{
+    static const uint8_t unread = 0;
+    return buffer != NULL ? buffer : &unread;
+}
+
+/*
+ * Test whether a buffer holds one whole picture.
+ *
+ * Reads:   picture, at most picture_len bytes.
+ * Writes:  nothing.
+ * Returns: ZUVAROPY_OUTCOME_YES, value: the number of rows, from 1 to
+ *          ZUVAROPY_MAX_ROWS; or ZUVAROPY_OUTCOME_REFUSAL, question 2 to 13,
+ *          input ZUVAROPY_INPUT_FIRST.
+ *
+ * Any bytes of any length may be given. An empty buffer is refused by
+ * ZUVAROPY_QUESTION_HEAD.
+ */
+uint64_t zuvaropy_validate(const uint8_t *picture, size_t picture_len);
+#define zuvaropy_validate(picture, picture_len) \
+    zuvaropy_validate(zuvaropy_lent(picture), (picture_len))
+
+#ifdef __cplusplus
+}
+#endif
+
+#endif

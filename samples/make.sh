@@ -1,0 +1,52 @@
+#!/bin/sh
+# Writes the sample pictures: sh samples/make.sh [FOLDER], by default beside this script.
+set -eu
+folder=${1:-$(dirname "$0")}
+mkdir -p "$folder"
+
+# bytes NUMBER..: a byte for each number.
+bytes() {
+    for number; do
+        printf "\\$(printf '%03o' "$number")"
+    done
+}
+
+# row PARENT KIND ROLE IMPOSSIBLE WANTED EXCLUDED: names are added up by weight; 7 is the highest.
+row() {
+    bytes 16 0 21
+    bytes 0 "$1" "$2" "$3" "$4"
+    bytes 0 0 0 0 0 0 0 "$5"
+    bytes 0 0 0 0 0 0 0 "$6"
+}
+
+end() {
+    bytes 47 0 0
+}
+
+root=0 some=1 all=2              # kinds
+child=0 pet=1                    # roles
+woman=1 doctor=2 smoker=4 dog=8  # names 0 to 3, by weight
+
+# A woman without pets, whose children are doctors who do not smoke, and with a daughter who has a dog.
+family() {
+    row 0 $root 0 0 $woman 0
+    row 0 $all $child 0 $doctor $smoker
+    row 0 $some $child 0 $woman 0
+    row 2 $some $pet 0 $dog 0
+    row 0 $all $pet 1 0 0
+}
+
+# A chain of so many edges.
+chain() {
+    row 0 $root 0 0 0 0
+    parent=0
+    while [ "$parent" -lt "$1" ]; do
+        row "$parent" $some $child 0 $doctor 0
+        parent=$((parent + 1))
+    done
+}
+
+{ family; end; } >"$folder/family.pic"
+{ row 0 $root 0 0 0 0; end; } >"$folder/top.pic"     # what everything is an instance of
+{ family; bytes 16 0 21 0 1 2; } >"$folder/cut.pic"  # a sixth row, cut off
+{ chain 13; end; } >"$folder/deep.pic"               # one edge more than allowed

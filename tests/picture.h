@@ -1,0 +1,48 @@
+/*
+ * Pictures for the tests: built row by row, damaged on purpose, and validated
+ * with a look at whether the input stayed as it was.
+ */
+
+#ifndef PICTURE_H
+#define PICTURE_H
+
+#include "zuvaropy.h"
+
+/* Room for a few rows more than a picture may have. */
+#define PICTURE_ROOM ZUVAROPY_PICTURE_BYTES(ZUVAROPY_MAX_ROWS + 16)
+
+struct picture {
+    size_t length;
+    uint8_t bytes[PICTURE_ROOM];
+};
+
+void picture_clear(struct picture *p);
+void picture_byte(struct picture *p, unsigned int byte);
+void picture_row(struct picture *p, unsigned int parent, unsigned int kind, unsigned int role);
+void picture_end(struct picture *p);
+
+/* A root and its successors; a chain of so many edges. Neither has an end
+ * field yet, so that rows can follow. */
+void picture_fan(struct picture *p, unsigned int rows);
+void picture_chain(struct picture *p, unsigned int edges);
+
+/* A whole good picture: a chain as deep as it may be, then successors of
+ * rows all over it, with every kind, role and name. */
+void picture_mixed(struct picture *p, unsigned int rows);
+
+/* A row's field, from its tag, and the row's value. */
+uint8_t *picture_field(struct picture *p, unsigned int row);
+uint8_t *picture_value(struct picture *p, unsigned int row);
+
+/* Damages a row other than row 0 so that this question refuses it: 3, 4, or 9
+ * to 13. For 12 the picture must begin with a chain as deep as it may be. */
+void picture_damage(struct picture *p, unsigned int row, unsigned int question);
+
+/* The call, with a check that it left the input as it was. */
+uint64_t picture_validate(const struct picture *p);
+
+/* The answer words of the call. */
+uint64_t word_rows(unsigned int rows);
+uint64_t word_refusal(unsigned int question);
+
+#endif

@@ -1,0 +1,97 @@
+#!/bin/sh
+# Builds the C tests against an archive of the library and runs them.
+#
+#   sh tests/run.sh ARCHIVE
+#
+# Prints a line for each test and last 'C tests: P passed, F failed'; exits 1 if F is not 0. F is also
+# written to build/tests/failed. What does not build, or ends without its summary, counts as one failure.
+set -u
+
+case ${1-} in
+'') echo "usage: sh tests/run.sh ARCHIVE" >&2; exit 2 ;;
+/*) archive=$1 ;;
+*) archive=$PWD/$1 ;;
+esac
+cd "$(dirname "$0")/.." || exit 2
+
+warnings='-Wall -Wextra -Wpedantic -Werror'
+c="${CC:-gcc} -std=c99 -O2 -g $warnings -Iinclude"
+cxx="${CXX:-g++}"
+out=build/tests
+passed=0
+failed=0
+rm -rf "$out"
+mkdir -p "$out"
+
+# one NAME COMMAND..: a check that passes if COMMAND does.
+one() {
+    name=$1
+    shift
+    if "$@"; then
+        passed=$((passed + 1))
+        echo "$name: 1 passed, 0 failed"
+    else
+        failed=$((failed + 1))
+        echo "$name: 0 passed, 1 failed"
+    fi
+}
+
+# program NAME COMPILER..: builds a test program, runs it and adds what its summary says.
+program() {
+    name=$1
+    shift
+    if ! "$@" "$archive" -o "$out/$name"; then
+        failed=$((failed + 1))
+        echo "$name: does not build"
+        return
+    fi
+    status=0
+    "$out/$name" >"$out/$name.log" || status=$?
+    cat "$out/$name.log"
+    counts=$(sed -n '$s/^.*: \([0-9]*\) passed, \([0-9]*\) failed$/\1 \2/p' "$out/$name.log")
+    if [ -z "$counts" ]; then
+        failed=$((failed + 1))
+        echo "$name: ended by status $status without a summary"
+    else
+        passed=$((passed + ${counts% *}))
+        failed=$((failed + ${counts#* }))
+    fi
+}
+
+shared='tests/check.c tests/picture.c tests/reference.c tests/second_unit.c'
+for source in tests/test_*.c; do
+    name=$(basename "$source" .c)
+    program "$name" $c "$source" $shared
+done
+if command -v "$cxx" >/dev/null; then
+    program test_header_cxx "$cxx" -x c++ -std=c++11 $warnings -Iinclude tests/test_header.c tests/check.c \
+        tests/second_unit.c -x none
+else
+    echo "header as C++: not tested, no $cxx"
+fi
+
+# The samples are what their script makes, and the example says of them what it should.
+samples() {
+    sh samples/make.sh "$out/samples" || return 1
+    for sample in samples/*.pic; do
+        cmp "$sample" "$out/$sample" || return 1
+    done
+}
+example() {
+    $c examples/validate.c "$archive" -o "$out/validate" && "$out/validate" samples/*.pic >"$out/validate.log" &&
+        diff samples/validate.stdout "$out/validate.log"
+}
+
+# The program of the README builds and runs as it stands there.
+readme() {
+    sed -n '/^```c$/,/^```$/p' README.md | sed '/^```/d' >"$out/readme.c"
+    $c "$out/readme.c" "$archive" -o "$out/readme" && [ "$("$out/readme")" = 'a picture of 2 rows' ]
+}
+
+one samples samples
+one example example
+one readme readme
+
+echo "$failed" >"$out/failed"
+echo "C tests: $passed passed, $failed failed"
+[ "$failed" -eq 0 ]

@@ -1,0 +1,12 @@
+/* The header in a second translation unit, beside that of the test. */
+
+#ifndef SECOND_UNIT_H
+#define SECOND_UNIT_H
+
+#include <stddef.h>
+#include <stdint.h>
+
+unsigned int second_unit_question(uint64_t word);
+uint64_t second_unit_validate(const uint8_t *picture, size_t picture_len);
+
+#endif

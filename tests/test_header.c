@@ -1,0 +1,136 @@
+/*
+ * The header: its numbers are those of the format, and its inline functions
+ * take a word apart. Compiles as C99 and as C++.
+ */
+
+#include "zuvaropy.h"
+#include "zuvaropy.h" /* a second time: nothing may be declared twice */
+
+#include "check.h"
+#include "second_unit.h"
+
+#include <string.h>
+
+/* Sizes and codes are for the preprocessor too. */
+#if ZUVAROPY_MAX_PICTURE_BYTES != 6147 || ZUVAROPY_TAG_ROW != 0x10 || ZUVAROPY_TAG_END != 0x2F
+#error "a size or a tag is not that of the format"
+#endif
+
+static void test_sizes(void)
+{
+    CHECK(ZUVAROPY_NAMES == 64);
+    CHECK(ZUVAROPY_ROLES == 32);
+    CHECK(ZUVAROPY_MAX_ROWS == 256);
+    CHECK(ZUVAROPY_MAX_DEPTH == 12);
+    CHECK(ZUVAROPY_HEAD_BYTES == 3);
+    CHECK(ZUVAROPY_NAME_SET_BYTES == 8);
+    CHECK(ZUVAROPY_ROW_VALUE_BYTES == 2 + 1 + 1 + 1 + 2 * 8);
+    CHECK(ZUVAROPY_ROW_VALUE_BYTES == 21);
+    CHECK(ZUVAROPY_END_VALUE_BYTES == 0);
+    CHECK(ZUVAROPY_ROW_BYTES == 24);
+    CHECK(ZUVAROPY_PARENT_AT == 0);
+    CHECK(ZUVAROPY_KIND_AT == 2);
+    CHECK(ZUVAROPY_ROLE_AT == 3);
+    CHECK(ZUVAROPY_IMPOSSIBLE_AT == 4);
+    CHECK(ZUVAROPY_WANTED_AT == 5);
+    CHECK(ZUVAROPY_EXCLUDED_AT == 13);
+    CHECK(ZUVAROPY_PICTURE_BYTES(1) == 27);
+    CHECK(ZUVAROPY_PICTURE_BYTES(1 + 1) == 51);
+    CHECK(ZUVAROPY_MAX_PICTURE_BYTES == 6147);
+}
+
+static void test_codes(void)
+{
+    CHECK(ZUVAROPY_KIND_ROOT == 0);
+    CHECK(ZUVAROPY_KIND_EXISTS == 1);
+    CHECK(ZUVAROPY_KIND_FORALL == 2);
+
+    CHECK(ZUVAROPY_OUTCOME_REFUSAL == 0);
+    CHECK(ZUVAROPY_OUTCOME_YES == 1);
+    CHECK(ZUVAROPY_OUTCOME_NO == 2);
+
+    CHECK(ZUVAROPY_INPUT_BUFFER == 0);
+    CHECK(ZUVAROPY_INPUT_FIRST == 1);
+    CHECK(ZUVAROPY_INPUT_SECOND == 2);
+    CHECK(ZUVAROPY_INPUT_EVIDENCE == 3);
+    CHECK(ZUVAROPY_INPUT_BOOK == 4);
+    CHECK(ZUVAROPY_INPUT_CARD == 5);
+
+    CHECK(ZUVAROPY_QUESTION_HEAD == 2);
+    CHECK(ZUVAROPY_QUESTION_TAG == 3);
+    CHECK(ZUVAROPY_QUESTION_LENGTH == 4);
+    CHECK(ZUVAROPY_QUESTION_ROWS == 5);
+    CHECK(ZUVAROPY_QUESTION_VALUE == 6);
+    CHECK(ZUVAROPY_QUESTION_NONEMPTY == 7);
+    CHECK(ZUVAROPY_QUESTION_STOP == 8);
+    CHECK(ZUVAROPY_QUESTION_KIND == 9);
+    CHECK(ZUVAROPY_QUESTION_ROLE == 10);
+    CHECK(ZUVAROPY_QUESTION_PARENT == 11);
+    CHECK(ZUVAROPY_QUESTION_DEPTH == 12);
+    CHECK(ZUVAROPY_QUESTION_IMPOSSIBLE == 13);
+}
+
+static void test_word(void)
+{
+    const uint64_t word = (uint64_t)0x12345678u << 32 | 0x9ABCDEF0u;
+    const uint64_t ones = ~(uint64_t)0;
+
+    CHECK(zuvaropy_outcome(word) == 0x12);
+    CHECK(zuvaropy_question(word) == 0x34);
+    CHECK(zuvaropy_input(word) == 0x56);
+    CHECK(zuvaropy_card(word) == 0x78);
+    CHECK(zuvaropy_value(word) == 0x9ABCDEF0u);
+
+    CHECK(zuvaropy_outcome(ones) == 0xFF);
+    CHECK(zuvaropy_question(ones) == 0xFF);
+    CHECK(zuvaropy_input(ones) == 0xFF);
+    CHECK(zuvaropy_card(ones) == 0xFF);
+    CHECK(zuvaropy_value(ones) == 0xFFFFFFFFu);
+
+    CHECK(second_unit_question(word) == 0x34);
+}
+
+static void test_lent(void)
+{
+    const uint8_t byte = 7;
+
+    CHECK(zuvaropy_lent(&byte) == &byte);
+    CHECK(zuvaropy_lent(NULL) != NULL);
+}
+
+/* The least picture: one row that is all zero, and the end field. */
+static void test_call(void)
+{
+    uint64_t (*function)(const uint8_t *, size_t) = zuvaropy_validate;
+    const uint64_t one_row = (uint64_t)1 << 56 | 1;
+    uint8_t bytes[ZUVAROPY_PICTURE_BYTES(1)];
+    const uint8_t *next = bytes;
+
+    memset(bytes, 0, sizeof bytes);
+    bytes[0] = ZUVAROPY_TAG_ROW;
+    bytes[2] = ZUVAROPY_ROW_VALUE_BYTES;
+    bytes[ZUVAROPY_ROW_BYTES] = ZUVAROPY_TAG_END;
+
+    CHECK_WORD(zuvaropy_validate(bytes, sizeof bytes), one_row, 0);
+    CHECK_WORD((zuvaropy_validate)(bytes, sizeof bytes), one_row, 0);
+    CHECK_WORD(function(bytes, sizeof bytes), one_row, 0);
+    CHECK_WORD(second_unit_validate(bytes, sizeof bytes), one_row, 0);
+
+    /* The macro evaluates its argument once. */
+    zuvaropy_validate(next++, 0);
+    CHECK(next == bytes + 1);
+}
+
+int main(void)
+{
+    test_sizes();
+    test_codes();
+    test_word();
+    test_lent();
+    test_call();
+#ifdef __cplusplus
+    return check_summary("header as C++");
+#else
+    return check_summary("header");
+#endif
+}

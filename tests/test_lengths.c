@@ -1,0 +1,55 @@
+/*
+ * Every length from nothing to past the longest picture, and no buffer at all.
+ */
+
+#include "check.h"
+#include "picture.h"
+
+#define MAX_LENGTH 6200
+
+static struct picture p;
+
+/* The first `length` bytes of the longest picture with more bytes after it. */
+static uint64_t wanted(size_t length)
+{
+    if (length > ZUVAROPY_MAX_PICTURE_BYTES)
+        return word_refusal(8);
+    if (length == ZUVAROPY_MAX_PICTURE_BYTES)
+        return word_rows(ZUVAROPY_MAX_ROWS);
+    return word_refusal(length % ZUVAROPY_ROW_BYTES < ZUVAROPY_HEAD_BYTES ? 2 : 6);
+}
+
+/* `junk`: what the file goes on with, over and over. */
+static void test_every_length(const char *junk, size_t junk_length)
+{
+    size_t i, length;
+
+    picture_mixed(&p, ZUVAROPY_MAX_ROWS);
+    for (i = 0; p.length < MAX_LENGTH; i++)
+        picture_byte(&p, (uint8_t)junk[i % junk_length]);
+    for (length = 0; length <= MAX_LENGTH; length++) {
+        p.length = length;
+        CHECK_WORD(picture_validate(&p), wanted(length), length);
+    }
+}
+
+static void test_nothing(void)
+{
+    uint64_t (*function)(const uint8_t *, size_t) = zuvaropy_validate;
+    const uint8_t byte = ZUVAROPY_TAG_ROW;
+
+    CHECK_WORD(zuvaropy_validate(NULL, 0), word_refusal(2), 0);
+    CHECK_WORD((zuvaropy_validate)(NULL, 0), word_refusal(2), 0);
+    CHECK_WORD(function(NULL, 0), word_refusal(2), 0);
+    CHECK_WORD(zuvaropy_validate(&byte, 0), word_refusal(2), 0);
+}
+
+int main(void)
+{
+    test_every_length("\0", 1);
+    test_every_length("\xFF", 1);
+    test_every_length("\x10\0\x15", 3);
+    test_every_length("\x2F\0\0", 3);
+    test_nothing();
+    return check_summary("lengths");
+}
