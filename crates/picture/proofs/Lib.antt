@@ -4,3 +4,4 @@ pub mod Questions
 pub mod Fields
 pub mod Scans
 pub mod Readables
+pub mod Cases
