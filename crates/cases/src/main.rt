@@ -10,6 +10,7 @@ use crate::make::set;
 use crate::make::small;
 use crate::tell::tell;
 use crate::tell::tell_cut;
+use table::layout::HEAD_SIZE;
 
 // As many bytes as 257 rows and the end field take, and some more.
 const SPACE: usize = 6200;
@@ -19,7 +20,7 @@ fn changed(label: &[u8], at: usize, value: u8) {
     let mut s = [0u8; SPACE];
     let n = small(&mut s);
     set(&mut s, at, value);
-    tell(label, &s[..n]);
+    tell(label, &s, n);
 }
 
 // A picture of so many rows, in a chain or under one root.
@@ -27,7 +28,7 @@ fn counted(label: &[u8], count: usize, chain: bool) {
     let mut s = [0u8; SPACE];
     let m = rows(&mut s, count, chain);
     let n = end(&mut s, m);
-    tell(label, &s[..n]);
+    tell(label, &s, n);
 }
 
 // 5, and that it is asked before 6; 12.
@@ -38,10 +39,7 @@ fn sizes() {
     let mut s = [0u8; SPACE];
     let n = rows(&mut s, 256, false);
     row(&mut s, n, 0, 1, 8);
-    let m = n + 3;
-    if m <= SPACE {
-        tell(b"257 rows, the last cut after its head", &s[..m]);
-    }
+    tell(b"257 rows, the last cut after its head", &s, n + HEAD_SIZE);
     counted(b"depth 12", 13, true);
     counted(b"depth 13", 14, true);
 }
@@ -49,10 +47,10 @@ fn sizes() {
 // 2, 3, 4, 7 and 8.
 fn heads() {
     let mut s = [0u8; SPACE];
-    tell(b"an empty file", &s[..0]);
+    tell(b"an empty file", &s, 0);
     let n = end(&mut s, 0);
-    tell(b"the end field alone", &s[..n]);
-    tell(b"the end field and two bytes more", &s[..5]);
+    tell(b"the end field alone", &s, n);
+    tell(b"the end field and two bytes more", &s, 5);
     changed(b"tag 11", 24, 0x11);
     changed(b"tag 0F", 24, 0x0F);
     changed(b"tag 30", 72, 0x30);
@@ -61,7 +59,7 @@ fn heads() {
     changed(b"end length 1", 74, 1);
     let m = small(&mut s);
     let k = end(&mut s, m);
-    tell(b"two end fields", &s[..k]);
+    tell(b"two end fields", &s, k);
 }
 
 // 9, 10, 11 and 13.
@@ -84,7 +82,7 @@ fn cuts() {
     let mut s = [0u8; SPACE];
     let n = small(&mut s);
     for k in 0..n {
-        tell_cut(k, &s[..k]);
+        tell_cut(&s, k);
     }
 }
 

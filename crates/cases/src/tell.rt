@@ -19,13 +19,20 @@ fn tell_answer(s: &[u8]) {
     io::write_all(STDOUT_FILENO, b"\n");
 }
 
-pub fn tell(label: &[u8], s: &[u8]) {
-    io::write_all(STDOUT_FILENO, label);
-    tell_answer(s);
+// The picture is the first n bytes of s.
+fn tell_first(s: &[u8], n: usize) {
+    if n <= s.len() {
+        tell_answer(&s[..n]);
+    }
 }
 
-pub fn tell_cut(at: usize, s: &[u8]) {
+pub fn tell(label: &[u8], s: &[u8], n: usize) {
+    io::write_all(STDOUT_FILENO, label);
+    tell_first(s, n);
+}
+
+pub fn tell_cut(s: &[u8], n: usize) {
     io::write_all(STDOUT_FILENO, b"cut at ");
-    io::print_decimal(STDOUT_FILENO, at as u64);
-    tell_answer(s);
+    io::print_decimal(STDOUT_FILENO, n as u64);
+    tell_first(s, n);
 }

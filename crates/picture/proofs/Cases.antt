@@ -1,7 +1,7 @@
 -- Worked cases of reading, computed: K1, each question of 2 to 13 once, and a picture at each limit. One list, one theorem.
 use mathlib.Core.Path.{_≡_, refl}
 use mathlib.Core.List.{List, [], _∷_, _++_}
-use Prim.Native.Nat.{ℕ, zero, suc}
+use Prim.Native.Nat.{ℕ}
 use lib.ListN.{replicate}
 use Rattle.table.specs.Number.{be}
 use Rattle.table.specs.declared.layout.Limits.{Limits}

@@ -4,13 +4,13 @@
 --   row-ok, ok-row   a field that is a row, and back
 --   end-ok, ok-end   a field that is the end field, and back
 use mathlib.Core.Logic.{_⊎_, inl, inr, ⊎-elim, ⊎-map}
-use mathlib.Core.Path.{_≡_, refl, sym, _∙_}
+use mathlib.Core.Path.{_≡_, refl}
 use mathlib.Core.Bool.{Bool, true, false}
 use mathlib.Core.List.{List}
 use Prim.Native.Nat.{ℕ, _≤_, _<_}
 use native.Mathlib.Omega.{arith}
-use borrow.Author.Tests.{ltb-true, leb-true, eqb-true, eqb-false, lt-ltb, le-leb, eq-eqb, ne-eqb}
-use lib.Dec.{eqb, leb, ltb}
+use borrow.Author.Tests.{ltb-true, leb-true, eqb-true, lt-ltb, le-leb, eq-eqb}
+use lib.Dec.{eqb, leb}
 use lib.ListN.{length}
 use Rattle.table.specs.Pick.{pick}
 use Rattle.table.specs.Layout.{«place», headSize, rowTag, endTag, rowLength, endLength, rowSize, endSize}

@@ -12,13 +12,13 @@
 --   readable-depth, readable-depth-under   12
 --   readable-impossible                13
 use mathlib.Core.Logic.{_⊎_, ⊎-elim}
-use mathlib.Core.Path.{_≡_, refl, ap, sym, subst, _∙_}
+use mathlib.Core.Path.{_≡_, refl, ap, sym, subst}
 use mathlib.Core.List.{List}
 use Prim.Native.Nat.{ℕ, zero, suc, _+_, _≤_, _<_}
 use native.Mathlib.Nat.{eq-or-lt-of-le}
 use native.Mathlib.Omega.{arith}
 use lib.ListN.{length}
-use Rattle.table.specs.Layout.{«place», rowSize, endSize, kindRoot, kindSome, kindAll, roles}
+use Rattle.table.specs.Layout.{«place», endSize, kindRoot, kindSome, kindAll, roles}
 use Rattle.table.specs.Bounds.{Bounded}
 use Rattle.table.specs.Fields.{parentOf, kindOf, roleOf, impossibleOf, HasRow}
 use Rattle.table.specs.declared.layout.Limits.{Limits}

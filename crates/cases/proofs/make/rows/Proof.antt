@@ -1,13 +1,10 @@
+-- The place stays within the buffer, which keeps its length. The measure is the number of rows to come.
 use Prim.Native.Nat.{_≤_, _-_}
 use mathlib.Core.Path.{_≡_}
 use native.Mathlib.Omega.{arith}
 use lib.ListN.{length}
 use Rattle.cases.proofs.make.rows.Statement.{statement}
 use Rattle.cases.proofs.make.rows.Tie as tie
-use Rattle.cases.proofs.make.rows.Reads as reads
-use Rattle.cases.proofs.make.rows.Lts as lts
-use Rattle.cases.proofs.make.parent_of.Reads as parent-of-reads
-use Rattle.cases.proofs.make.row.Reads as row-reads
 
 abbrev Inv-loop : tie.InvT-loop
 Inv-loop out₀ count chain at₀ n₀ out at n = (at ≤ length out) × ((length out ≡ length out₀) × (1 ≤ n))
@@ -15,39 +12,30 @@ Inv-loop out₀ count chain at₀ n₀ out at n = (at ≤ length out) × ((lengt
 abbrev μ-loop : tie.MeasureT-loop
 μ-loop out₀ count chain at₀ n₀ out at n = count - n
 
--- src/make.rt:59:9
 row-requires : tie.Need-row-requires Inv-loop μ-loop
 row-requires c κs = omega arith
 
--- src/make.rt:60:5
 loop-holds : tie.Need-loop-holds Inv-loop μ-loop
 loop-holds c = omega arith
 
--- src/make.rt:61:27
 parent-of-requires : tie.Need-parent-of-requires Inv-loop μ-loop
 parent-of-requires c κs = omega arith
 
--- src/make.rt:61:9
 row-requires-2 : tie.Need-row-requires-2 Inv-loop μ-loop
 row-requires-2 c κs = omega arith
 
--- src/make.rt:60:9
 add-n : tie.Need-add-n Inv-loop μ-loop
 add-n c = omega arith
 
--- src/make.rt:60:5
 loop-less : tie.Need-loop-less Inv-loop μ-loop
 loop-less c = omega arith
 
--- src/make.rt:60:5
 loop-again : tie.Need-loop-again Inv-loop μ-loop
 loop-again c = omega arith
 
--- src/make.rt:56:1
 same-length : tie.Need-same-length Inv-loop μ-loop
 same-length c = omega arith
 
--- src/make.rt:56:1
 returns : tie.Need-returns Inv-loop μ-loop
 returns c = omega arith
 

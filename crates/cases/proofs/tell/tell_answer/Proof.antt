@@ -1,67 +1,48 @@
+-- The limits are those of the bench.
 use native.Mathlib.Omega.{arith}
 use borrow.Author.Needs.{needs}
 use Rattle.cases.proofs.tell.tell_answer.Statement.{statement}
 use Rattle.cases.proofs.tell.tell_answer.Tie as tie
-use Rattle.cases.proofs.tell.tell_answer.Reads as reads
-use Rattle.cases.proofs.tell.tell_answer.Lts as lts
-use Rattle.io.proofs.print_decimal.Reads as print-decimal-reads
-use Rattle.io.proofs.write_all.Reads as write-all-reads
-use Rattle.picture.proofs.read.read.Reads as read-reads
-use Rattle.table.proofs.layout.Limits.bench.Reads as bench-reads
 
--- src/tell.rt:9:19
 bench-requires : tie.Need-bench-requires
 bench-requires c κs = search needs
 
--- src/tell.rt:9:11
 read-requires : tie.Need-read-requires
 read-requires c κs = rw (c .bench .ensures) (omega arith, omega arith)
 
--- src/tell.rt:10:22
 enum-known-n : tie.Need-enum-known-n
 enum-known-n c = search needs
 
--- src/tell.rt:11:42
 slice-aggregate-write-all : tie.Need-slice-aggregate-write-all
 slice-aggregate-write-all c = search needs
 
--- src/tell.rt:11:13
 write-all-requires : tie.Need-write-all-requires
 write-all-requires c κs = search needs
 
--- src/tell.rt:12:13
 print-decimal-requires : tie.Need-print-decimal-requires
 print-decimal-requires c κs = search needs
 
--- src/tell.rt:14:25
 enum-known-refusal : tie.Need-enum-known-refusal
 enum-known-refusal c = search needs
 
--- src/tell.rt:15:42
 slice-aggregate-write-all-2 : tie.Need-slice-aggregate-write-all-2
 slice-aggregate-write-all-2 c = search needs
 
--- src/tell.rt:15:13
 write-all-requires-2 : tie.Need-write-all-requires-2
 write-all-requires-2 c κs = search needs
 
--- src/tell.rt:16:46
 cast-print-decimal : tie.Need-cast-print-decimal
 cast-print-decimal c = search needs
 
--- src/tell.rt:16:13
 print-decimal-requires-2 : tie.Need-print-decimal-requires-2
 print-decimal-requires-2 c κs = search needs
 
--- src/tell.rt:19:34
 slice-aggregate-write-all-3 : tie.Need-slice-aggregate-write-all-3
 slice-aggregate-write-all-3 c = search needs
 
--- src/tell.rt:19:5
 write-all-requires-3 : tie.Need-write-all-requires-3
 write-all-requires-3 c κs = search needs
 
--- src/tell.rt:8:1
 returns : tie.Need-returns
 returns c = search needs
 

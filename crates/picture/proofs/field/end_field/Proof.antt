@@ -1,29 +1,23 @@
-use borrow.Author.Tests.{eq-eqb, ne-eqb, lt-ltb, le-ltb, le-leb, lt-leb, not-true, not-false}
+-- Each return follows from the tests on the way to it.
+use borrow.Author.Tests.{eq-eqb, ne-eqb, lt-ltb}
 use Rattle.picture.specs.Questions.{endField}
 use mathlib.Core.Path.{sym}
 use native.Mathlib.Omega.{arith}
 use borrow.Author.Needs.{needs}
 use Rattle.picture.proofs.field.end_field.Statement.{statement}
 use Rattle.picture.proofs.field.end_field.Tie as tie
-use Rattle.picture.proofs.field.end_field.Reads as reads
-use Rattle.picture.proofs.field.end_field.Lts as lts
-use Rattle.table.proofs.layout.place.Reads as place-reads
 
--- src/field.rt:139:9
 returns : tie.Need-returns
 unfolding endField
 returns c = simp (c .if1 .taken)
 
--- src/field.rt:141:19
 place-requires : tie.Need-place-requires
 place-requires c κs = search needs
 
--- src/field.rt:134:1
 returns-2 : tie.Need-returns-2
 unfolding endField
 returns-2 c = rw (sym (c .before .place .ensures)) (simp (lt-ltb 0 (c .before .before .before .before .args .n) (omega (arith, c .before .before .if1 .left)), eq-eqb _ _ (c .if2 .taken)))
 
--- src/field.rt:134:1
 returns-3 : tie.Need-returns-3
 unfolding endField
 returns-3 c = rw (sym (c .before .place .ensures)) (simp (lt-ltb 0 (c .before .before .before .before .args .n) (omega (arith, c .before .before .if1 .left)), ne-eqb _ _ (c .if2 .left)))

@@ -1,23 +1,18 @@
-use borrow.Author.Tests.{eq-eqb, ne-eqb, lt-ltb, le-ltb, le-leb, lt-leb, not-true, not-false}
+-- The test of each branch is that of `parentOk`.
+use borrow.Author.Tests.{eq-eqb, ne-eqb}
 use Rattle.picture.specs.Questions.{parentOk}
 use mathlib.Core.Path.{sym}
 use borrow.Author.Needs.{needs}
 use Rattle.picture.proofs.field.parent_ok.Statement.{statement}
 use Rattle.picture.proofs.field.parent_ok.Tie as tie
-use Rattle.picture.proofs.field.parent_ok.Reads as reads
-use Rattle.picture.proofs.field.parent_ok.Lts as lts
-use Rattle.table.proofs.row.parent.Reads as parent-reads
 
--- src/field.rt:71:9
 parent-requires : tie.Need-parent-requires
 parent-requires c κs = search needs
 
--- src/field.rt:67:1
 returns : tie.Need-returns
 unfolding parentOk
 returns c = rw (sym (c .before .parent .ensures)) (simp (eq-eqb _ _ (c .if1 .taken)))
 
--- src/field.rt:67:1
 returns-2 : tie.Need-returns-2
 unfolding parentOk
 returns-2 c = rw (sym (c .before .parent .ensures)) (simp (ne-eqb _ _ (c .if1 .left)))

@@ -1,68 +1,49 @@
-use borrow.Author.Tests.{eq-eqb, ne-eqb, lt-ltb, le-ltb, le-leb, lt-leb, not-true, not-false}
+-- Each return follows from the tests on the way to it; the depth is asked for once 11 was answered yes.
+use borrow.Author.Tests.{le-leb, lt-leb, not-true, not-false}
 use Rattle.picture.specs.Questions.{valueField}
 use mathlib.Core.Path.{sym, _∙_}
-use native.Mathlib.Omega.{arith}
 use borrow.Author.Needs.{needs}
 use Rattle.picture.proofs.field.value_field.Statement.{statement}
 use Rattle.picture.proofs.field.value_field.Tie as tie
-use Rattle.picture.proofs.field.value_field.Reads as reads
-use Rattle.picture.proofs.field.value_field.Lts as lts
-use Rattle.picture.proofs.field.depth_at.Reads as depth-at-reads
-use Rattle.picture.proofs.field.impossible_ok.Reads as impossible-ok-reads
-use Rattle.picture.proofs.field.kind_ok.Reads as kind-ok-reads
-use Rattle.picture.proofs.field.parent_ok.Reads as parent-ok-reads
-use Rattle.picture.proofs.field.role_ok.Reads as role-ok-reads
 
--- src/field.rt:100:9
 kind-ok-requires : tie.Need-kind-ok-requires
 kind-ok-requires c κs = search needs
 
--- src/field.rt:101:9
 returns : tie.Need-returns
 unfolding valueField
 returns c = simp (sym (c .before .kind-ok .ensures) ∙ not-true _ (c .if1 .taken))
 
--- src/field.rt:103:9
 role-ok-requires : tie.Need-role-ok-requires
 role-ok-requires c κs = search needs
 
--- src/field.rt:104:9
 returns-2 : tie.Need-returns-2
 unfolding valueField
 returns-2 c = simp (sym (c .before .before .before .kind-ok .ensures) ∙ not-false _ (c .before .before .if1 .left), sym (c .before .role-ok .ensures) ∙ not-true _ (c .if2 .taken))
 
--- src/field.rt:106:9
 parent-ok-requires : tie.Need-parent-ok-requires
 parent-ok-requires c κs = search needs
 
--- src/field.rt:107:9
 returns-3 : tie.Need-returns-3
 unfolding valueField
 returns-3 c = simp (sym (c .before .before .before .before .before .kind-ok .ensures) ∙ not-false _ (c .before .before .before .before .if1 .left), sym (c .before .before .before .role-ok .ensures) ∙ not-false _ (c .before .before .if2 .left), sym (c .before .parent-ok .ensures) ∙ not-true _ (c .if3 .taken))
 
--- src/field.rt:109:9
 depth-at-requires : tie.Need-depth-at-requires
 depth-at-requires c κs = (c .before .before .before .before .before .before .before .pre .1 .0, (c .before .before .before .before .before .before .before .pre .1 .1, sym (c .before .parent-ok .ensures) ∙ not-false _ (c .if3 .left)))
 
--- src/field.rt:111:9
 returns-4 : tie.Need-returns-4
 unfolding valueField
 returns-4 c = simp (sym (c .before .before .before .before .before .before .before .before .kind-ok .ensures) ∙ not-false _ (c .before .before .before .before .before .before .before .if1 .left), sym (c .before .before .before .before .before .before .role-ok .ensures) ∙ not-false _ (c .before .before .before .before .before .if2 .left), sym (c .before .before .before .before .parent-ok .ensures) ∙ not-false _ (c .before .before .before .if3 .left), sym (c .before .before .depth-at .ensures), lt-leb _ _ (c .if4 .taken))
 
--- src/field.rt:113:9
 impossible-ok-requires : tie.Need-impossible-ok-requires
 impossible-ok-requires c κs = search needs
 
--- src/field.rt:114:9
 returns-5 : tie.Need-returns-5
 unfolding valueField
 returns-5 c = simp (sym (c .before .before .before .before .before .before .before .before .before .before .kind-ok .ensures) ∙ not-false _ (c .before .before .before .before .before .before .before .before .before .if1 .left), sym (c .before .before .before .before .before .before .before .before .role-ok .ensures) ∙ not-false _ (c .before .before .before .before .before .before .before .if2 .left), sym (c .before .before .before .before .before .before .parent-ok .ensures) ∙ not-false _ (c .before .before .before .before .before .if3 .left), sym (c .before .before .before .before .depth-at .ensures), le-leb _ _ (c .before .before .if4 .left), sym (c .before .impossible-ok .ensures) ∙ not-true _ (c .if5 .taken))
 
--- src/field.rt:116:16
 cast-t8 : tie.Need-cast-t8
 cast-t8 c = search needs
 
--- src/field.rt:96:1
 returns-6 : tie.Need-returns-6
 unfolding valueField
 returns-6 c = simp (sym (c .before .before .before .before .before .before .before .before .before .before .kind-ok .ensures) ∙ not-false _ (c .before .before .before .before .before .before .before .before .before .if1 .left), sym (c .before .before .before .before .before .before .before .before .role-ok .ensures) ∙ not-false _ (c .before .before .before .before .before .before .before .if2 .left), sym (c .before .before .before .before .before .before .parent-ok .ensures) ∙ not-false _ (c .before .before .before .before .before .if3 .left), sym (c .before .before .before .before .depth-at .ensures), le-leb _ _ (c .before .before .if4 .left), sym (c .before .impossible-ok .ensures) ∙ not-false _ (c .if5 .left))

@@ -1,30 +1,23 @@
-use mathlib.Core.Path.{sym, _∙_}
+-- The reading with the input named.
+use mathlib.Core.Path.{sym}
 use Rattle.picture.specs.Read.{answerOf}
 use borrow.Author.Needs.{needs}
 use Rattle.picture.proofs.read.read.Statement.{statement}
 use Rattle.picture.proofs.read.read.Tie as tie
-use Rattle.picture.proofs.read.read.Reads as reads
-use Rattle.picture.proofs.read.read.Lts as lts
-use Rattle.picture.proofs.read.scan.Reads as scan-reads
 
--- src/read.rt:46:11
 scan-requires : tie.Need-scan-requires
 scan-requires c κs = search needs
 
--- src/read.rt:47:23
 enum-known-n : tie.Need-enum-known-n
 enum-known-n c = search needs
 
--- src/read.rt:48:25
 enum-known-number : tie.Need-enum-known-number
 enum-known-number c = search needs
 
--- src/read.rt:42:1
 returns : tie.Need-returns
 unfolding answerOf
 returns c = rw (sym (c .before .before .before .scan .ensures), c .before .n .given .1)
 
--- src/read.rt:42:1
 returns-2 : tie.Need-returns-2
 unfolding answerOf
 returns-2 c = rw (sym (c .before .before .before .scan .ensures), c .before .number .given .1)

@@ -1,11 +1,13 @@
+-- At the loop's head n rows have been read, the table has their depths, and the reading is that of the scan from row n on.
+-- The measure is the number of rows that may still come.
 use native.Mathlib.Nat.{sub-zero}
 use Rattle.table.specs.Fields.{parentOf}
 use Rattle.picture.specs.Depth.{depth, Known}
 use Rattle.picture.proofs.Fields.{RowOk, row-ok}
 use mathlib.Core.Path.{_≡_, refl, sym, _∙_}
-use Prim.Native.Nat.{suc, _≤_, _<_, _+_, _-_}
+use Prim.Native.Nat.{suc, _≤_, _-_}
 use native.Mathlib.Omega.{arith}
-use lib.ListN.{length, length-set, length-replicate}
+use lib.ListN.{length, length-set}
 use borrow.Author.Needs.{needs}
 use denote.Ref.{now}
 use Rattle.table.specs.Bounds.{maxRows}
@@ -13,9 +15,6 @@ use Rattle.picture.specs.Read.{scanFrom, readingOf}
 use Rattle.picture.proofs.Scans.{scan-step, known-none, known-next}
 use Rattle.picture.proofs.read.scan.Statement.{statement}
 use Rattle.picture.proofs.read.scan.Tie as tie
-use Rattle.picture.proofs.read.scan.Reads as reads
-use Rattle.picture.proofs.read.scan.Lts as lts
-use Rattle.picture.proofs.field.field_at.Reads as field-at-reads
 
 abbrev Inv-loop : tie.InvT-loop
 Inv-loop s limits depths₀ n₀ depths n =
@@ -24,18 +23,15 @@ Inv-loop s limits depths₀ n₀ depths n =
 abbrev μ-loop : tie.MeasureT-loop
 μ-loop s limits depths₀ n₀ depths n = limits .rows - n
 
--- src/read.rt:25:5
 loop-holds : tie.Need-loop-holds Inv-loop μ-loop
 unfolding readingOf
 loop-holds c = (omega arith, (refl, (known-none _ _, rw sub-zero)))
 
--- src/read.rt:26:15
 field-at-requires : tie.Need-field-at-requires Inv-loop μ-loop
 field-at-requires c κs =
     let l = c .before .loop in
     (c .before .before .before .pre, (omega (arith, c .before .before .before, l .inv .0), l .inv .1 .1 .0))
 
--- src/read.rt:27:24
 enum-known-depth : tie.Need-enum-known-depth Inv-loop μ-loop
 enum-known-depth c = search needs
 
@@ -44,19 +40,15 @@ is-row : (c : tie.After-known-told Inv-loop μ-loop) → RowOk (c .before .befor
 is-row c =
     row-ok (c .before .before .before .before .before .before .before .args .limits) (now (c .before .before .before .before .before .before .before .args .s)) (c .before .before .before .before .before .loop .n) (c .before .depth .given .0 .0) (sym (c .before .before .before .field-at .ensures) ∙ c .before .depth .given .1)
 
--- src/read.rt:28:17
 array-write-depths : tie.Need-array-write-depths Inv-loop μ-loop
 array-write-depths c = omega (arith, is-row c .0 .few, c .before .before .before .before .before .before .before .pre .0)
 
--- src/read.rt:29:17
 add-n : tie.Need-add-n Inv-loop μ-loop
 add-n c = omega (arith, is-row c .0 .few)
 
--- src/read.rt:25:5
 loop-less : tie.Need-loop-less Inv-loop μ-loop
 loop-less c = omega (arith, is-row c .0 .few)
 
--- src/read.rt:25:5
 loop-again : tie.Need-loop-again Inv-loop μ-loop
 loop-again c =
     let a = c .before .before .before .before .before .before .before .args in
@@ -72,22 +64,18 @@ loop-again c =
       ),
     )
 
--- src/read.rt:32:17
 enum-told : tie.Need-enum-told Inv-loop μ-loop
 enum-told c = search needs
 
--- src/read.rt:32:17
 returns : tie.Need-returns Inv-loop μ-loop
 returns c =
     let a = c .before .before .before .before .before .before .args in
     let l = c .before .before .before .before .loop in
     sym (l .inv .1 .1 .1 ∙ scan-step (a .limits) (now (a .s)) (l .n) (l .inv .0) ∙ rw (sym (c .before .before .field-at .ensures), c .enum-told .given .1))
 
--- src/read.rt:34:24
 enum-known-number : tie.Need-enum-known-number Inv-loop μ-loop
 enum-known-number c = search needs
 
--- src/read.rt:35:17
 returns-2 : tie.Need-returns-2 Inv-loop μ-loop
 returns-2 c =
     let a = c .before .before .before .before .before .before .before .args in

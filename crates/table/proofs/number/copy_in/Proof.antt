@@ -1,16 +1,16 @@
-use mathlib.Core.Path.{_≡_, refl, ap, sym, _∙_}
-use Prim.Native.Nat.{ℕ, suc, _+_, _-_, _≤_, _<_}
+-- At the loop's head the first j bytes of src stand at their place, and all else is as it was.
+-- The measure is what is left of src.
+use mathlib.Core.Path.{_≡_, refl, ap, _∙_}
+use Prim.Native.Nat.{ℕ, _+_, _-_, _≤_, _<_}
 use native.Mathlib.Omega.{arith}
 use native.Mathlib.Numerals.{add-one}
-use lib.ListN.{length, getD, set, length-set}
-use lib.Seq.{paste, paste-zero, paste-suc, length-paste}
+use lib.ListN.{length, length-set}
+use lib.Seq.{paste, paste-zero, paste-suc}
 use borrow.Author.Needs.{needs}
 use denote.Ref.{now}
 use Rattle.table.proofs.Puts.{put-paste}
 use Rattle.table.proofs.number.copy_in.Statement.{statement}
 use Rattle.table.proofs.number.copy_in.Tie as tie
-use Rattle.table.proofs.number.copy_in.Reads as reads
-use Rattle.table.proofs.number.copy_in.Lts as lts
 
 abbrev Inv-loop : tie.InvT-loop
 Inv-loop dst₀ at src j₀ dst j = (j ≤ length src) × ((dst ≡ paste dst₀ at src j) × (length dst ≡ length dst₀))

@@ -1,44 +1,32 @@
-use Prim.Native.Nat.{_+_}
-use mathlib.Core.Path.{sym, _∙_}
+-- Two bytes, the first with weight 256: `be-two`.
 use native.Mathlib.Omega.{arith}
 use denote.Ref.{now}
 use Rattle.table.proofs.Numbers.{be-two}
 use borrow.Author.Needs.{needs}
 use Rattle.table.proofs.number.load16.Statement.{statement}
 use Rattle.table.proofs.number.load16.Tie as tie
-use Rattle.table.proofs.number.load16.Reads as reads
-use Rattle.table.proofs.number.load16.Lts as lts
-use Rattle.table.proofs.number.wide.Reads as wide-reads
 
--- src/number.rt:18:10
 shared-slice-read-wide : tie.Need-shared-slice-read-wide
 shared-slice-read-wide c = search needs
 
--- src/number.rt:18:5
 wide-requires : tie.Need-wide-requires
 wide-requires c κs = search needs
 
--- src/number.rt:18:5
 mul-result : tie.Need-mul-result
 mul-result c = search needs
 
--- src/number.rt:18:32
 add-wide : tie.Need-add-wide
 add-wide c = search needs
 
--- src/number.rt:18:30
 shared-slice-read-wide-2 : tie.Need-shared-slice-read-wide-2
 shared-slice-read-wide-2 c = search needs
 
--- src/number.rt:18:25
 wide-requires-2 : tie.Need-wide-requires-2
 wide-requires-2 c κs = search needs
 
--- src/number.rt:18:5
 add-result : tie.Need-add-result
 add-result c = search needs
 
--- src/number.rt:14:1
 returns : tie.Need-returns
 returns c =
     let a = c .before .before .before .before .before .args in

@@ -1,3 +1,4 @@
+-- The byte at the place that `place` gives.
 use Prim.Native.Nat.{ℕ}
 use mathlib.Core.Path.{ap}
 use denote.Ref.{now}
@@ -5,19 +6,13 @@ use lib.ListN.{getD}
 use borrow.Author.Needs.{needs}
 use Rattle.table.proofs.row.byte.Statement.{statement}
 use Rattle.table.proofs.row.byte.Tie as tie
-use Rattle.table.proofs.row.byte.Reads as reads
-use Rattle.table.proofs.row.byte.Lts as lts
-use Rattle.table.proofs.layout.place.Reads as place-reads
 
--- src/row.rt:35:7
 place-requires : tie.Need-place-requires
 place-requires c κs = search needs
 
--- src/row.rt:35:5
 shared-slice-read-result : tie.Need-shared-slice-read-result
 shared-slice-read-result c = search needs
 
--- src/row.rt:31:1
 returns : tie.Need-returns
 returns c = ap (λ (k : ℕ). getD (now (c .before .before .before .args .s)) k 0) (c .before .place .ensures)
 

@@ -1,3 +1,4 @@
+-- The head, the wanted and the excluded names are put one after the other, which is putting the row: `put-three`.
 use mathlib.Core.Path.{refl}
 use native.Mathlib.Nat.{div-one}
 use native.Mathlib.Omega.{arith}
@@ -9,65 +10,46 @@ use Rattle.table.proofs.Puts.{put-three}
 use borrow.Author.Needs.{needs}
 use Rattle.table.proofs.builder.Builder.push.Statement.{statement}
 use Rattle.table.proofs.builder.Builder.push.Tie as tie
-use Rattle.table.proofs.builder.Builder.push.Reads as reads
-use Rattle.table.proofs.builder.Builder.push.Lts as lts
-use Rattle.table.proofs.layout.place.Reads as place-reads
-use Rattle.table.proofs.names.Names.store.Reads as store-reads
-use Rattle.table.proofs.number.copy_in.Reads as copy-in-reads
 
--- src/builder.rt:39:13
 cast-t9 : tie.Need-cast-t9
 cast-t9 c = search needs
 
--- src/builder.rt:40:13
 cast-t11 : tie.Need-cast-t11
 cast-t11 c = search needs
 
--- src/builder.rt:41:13
 cast-t14 : tie.Need-cast-t14
 cast-t14 c = search needs
 
--- src/builder.rt:42:13
 cast-t16 : tie.Need-cast-t16
 cast-t16 c = search needs
 
--- src/builder.rt:47:22
 place-requires : tie.Need-place-requires
 place-requires c κs = search needs
 
--- src/builder.rt:47:38
 slice-aggregate-copy-in : tie.Need-slice-aggregate-copy-in
 slice-aggregate-copy-in c = search needs
 
--- src/builder.rt:47:9
 copy-in-requires : tie.Need-copy-in-requires
 copy-in-requires c κs = search needs
 
--- src/builder.rt:49:27
 place-requires-2 : tie.Need-place-requires-2
 place-requires-2 c κs = search needs
 
--- src/builder.rt:49:9
 store-requires : tie.Need-store-requires
 store-requires c κs = search needs
 
--- src/builder.rt:51:29
 place-requires-3 : tie.Need-place-requires-3
 place-requires-3 c κs = search needs
 
--- src/builder.rt:51:9
 store-requires-2 : tie.Need-store-requires-2
 store-requires-2 c κs = search needs
 
--- src/builder.rt:52:25
 add-t10 : tie.Need-add-t10
 add-t10 c = search needs
 
--- src/builder.rt:32:5
 same-length : tie.Need-same-length
 same-length c = search needs
 
--- src/builder.rt:32:5
 returns : tie.Need-returns
 unfolding rowBytes beBytes
 returns c =
