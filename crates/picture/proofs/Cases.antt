@@ -8,7 +8,7 @@ use Rattle.table.specs.declared.layout.Limits.{Limits}
 use Rattle.picture.specs.declared.read.Reading.{Reading}
 use Rattle.picture.specs.declared.read.Reading.the-variants.{Rows, Failed}
 use Rattle.picture.specs.Depth.{depthIn, depth}
-use Rattle.picture.specs.Questions.{kindOk, roleOk, parentOk, valueField, rowField, endField, fieldAt}
+use Rattle.picture.specs.Questions.{tagOk, lengthFor, kindOk, roleOk, parentOk, valueField, rowField, endField, fieldAt}
 use Rattle.picture.specs.Read.{scanFrom, readingOf}
 
 pub data Case : Type 0 where
@@ -72,5 +72,5 @@ cases =
     ∷ []
 
 pub all-pass : runAll cases ≡ cases
-unfolding be depthIn depth kindOk roleOk parentOk valueField rowField endField fieldAt scanFrom readingOf
+unfolding be depthIn depth tagOk lengthFor kindOk roleOk parentOk valueField rowField endField fieldAt scanFrom readingOf
 all-pass = refl

@@ -4,7 +4,7 @@
 --   row-ok, ok-row   a field that is a row, and back
 --   end-ok, ok-end   a field that is the end field, and back
 use mathlib.Core.Logic.{_⊎_, inl, inr, ⊎-elim, ⊎-map}
-use mathlib.Core.Path.{_≡_, refl}
+use mathlib.Core.Path.{_≡_, refl, _∙_}
 use mathlib.Core.Bool.{Bool, true, false}
 use mathlib.Core.List.{List}
 use Prim.Native.Nat.{ℕ, _≤_, _<_}
@@ -12,12 +12,11 @@ use native.Mathlib.Omega.{arith}
 use borrow.Author.Tests.{ltb-true, leb-true, eqb-true, lt-ltb, le-leb, eq-eqb}
 use lib.Dec.{eqb, leb}
 use lib.ListN.{length}
-use Rattle.table.specs.Pick.{pick}
 use Rattle.table.specs.Layout.{«place», headSize, rowTag, endTag, rowLength, endLength, rowSize, endSize}
 use Rattle.table.specs.Fields.{tagOf, lengthOf, parentOf, kindOf, roleOf, impossibleOf}
 use Rattle.table.specs.declared.layout.Limits.{Limits}
 use Rattle.picture.specs.Depth.{depth}
-use Rattle.picture.specs.Questions.{ask, kindOk, roleOk, parentOk, depthOk, impossibleOk, valueField, rowField, endField, fieldAt}
+use Rattle.picture.specs.Questions.{ask, tagOk, lengthFor, kindOk, roleOk, parentOk, depthOk, impossibleOk, valueField, rowField, endField, fieldAt}
 use Rattle.picture.specs.declared.field.Field.{Field}
 use Rattle.picture.specs.declared.field.Field.the-variants.{Row, End, Bad}
 
@@ -53,11 +52,10 @@ passed q false next End g h = absurd (let z : _≡_ {A = ℕ} 0 1 = cc in omega 
 passed q false next (Bad p) g h = absurd (let z : _≡_ {A = ℕ} 0 1 = cc in omega arith)
 
 module _ (limits : Limits) (s : List ℕ) (n : ℕ) (f : Field) (g : good f ≡ true) where
-  row-part : tagOf s n ≡ rowTag → ask 4 (eqb (lengthOf s n) rowLength) (rowField limits s n) ≡ f → RowOk limits s n × (Row (depth (parentOf s) n) ≡ f)
+  row-part : tagOf s n ≡ rowTag → lengthOf s n ≡ rowLength → rowField limits s n ≡ f → RowOk limits s n × (Row (depth (parentOf s) n) ≡ f)
   unfolding rowField valueField
-  row-part t h =
-      let l = passed 4 _ _ f g h in
-      let r = passed 5 _ _ f g (l .1) in
+  row-part t l h =
+      let r = passed 5 _ _ f g h in
       let w = passed 6 _ _ f g (r .1) in
       let k = passed 9 _ _ f g (w .1) in
       let o = passed 10 _ _ f g (k .1) in
@@ -66,7 +64,7 @@ module _ (limits : Limits) (s : List ℕ) (n : ℕ) (f : Field) (g : good f ≡ 
       let i = passed 13 _ _ f g (d .1) in (
         record {
           tag = t;
-          row-length = eqb-true (lengthOf s n) rowLength (l .0);
+          row-length = l;
           few = ltb-true n (limits .rows) (r .0);
           whole = leb-true (place n rowSize) (length s) (w .0);
           kind = k .0;
@@ -78,32 +76,34 @@ module _ (limits : Limits) (s : List ℕ) (n : ℕ) (f : Field) (g : good f ≡ 
         i .1,
       )
 
-  end-part : ask 3 (eqb (tagOf s n) endTag) (ask 4 (eqb (lengthOf s n) endLength) (endField s n)) ≡ f → EndOk s n × (End ≡ f)
+  end-part : tagOf s n ≡ endTag → lengthOf s n ≡ endLength → endField s n ≡ f → EndOk s n × (End ≡ f)
   unfolding endField
-  end-part h =
-      let t = passed 3 _ _ f g h in
-      let l = passed 4 _ _ f g (t .1) in
-      let r = passed 7 _ _ f g (l .1) in
+  end-part t l h =
+      let r = passed 7 _ _ f g h in
       let e = passed 8 _ _ f g (r .1) in (
         record {
-          tag = eqb-true (tagOf s n) endTag (t .0);
-          end-length = eqb-true (lengthOf s n) endLength (l .0);
+          tag = t;
+          end-length = l;
           rows = ltb-true 0 n (r .0);
           stops = eqb-true (length s) (place n endSize) (e .0);
         },
         e .1,
       )
 
--- a row's head, or another
-by-tag : (t : Bool) (x y f : Field) → pick t x y ≡ f → ((t ≡ true) × (x ≡ f)) ⊎ ((t ≡ false) × (y ≡ f))
-by-tag true x y f h = inl (refl, h)
-by-tag false x y f h = inr (refl, h)
+-- a tag that passed 3, with the length that it asks for, is a row's or the end field's
+by-tag : (tag len : ℕ) (b : Bool) → eqb tag rowTag ≡ b → tagOk tag ≡ true → len ≡ lengthFor tag → ((tag ≡ rowTag) × (len ≡ rowLength) × (b ≡ true)) ⊎ ((tag ≡ endTag) × (len ≡ endLength) × (b ≡ false))
+unfolding tagOk lengthFor
+by-tag tag len true e t l = inl (eqb-true tag rowTag e, l ∙ simp e, refl)
+by-tag tag len false e t l = inr (eqb-true tag endTag (simp e at t), l ∙ simp e, refl)
 
 head : (limits : Limits) (s : List ℕ) (n : ℕ) (f : Field) → good f ≡ true → fieldAt limits s n ≡ f → (RowOk limits s n × (Row (depth (parentOf s) n) ≡ f)) ⊎ (EndOk s n × (End ≡ f))
 unfolding fieldAt
 head limits s n f g h =
-    ⊎-map (λ w. row-part limits s n f g (eqb-true (tagOf s n) rowTag (w .0)) (w .1)) (λ w. end-part limits s n f g (w .1))
-    (by-tag (eqb (tagOf s n) rowTag) _ _ f (passed 2 (leb (place n headSize) (length s)) _ f g h .1))
+    let b = passed 2 (leb (place n headSize) (length s)) _ f g h in
+    let t = passed 3 (tagOk (tagOf s n)) _ f g (b .1) in
+    let l = passed 4 (eqb (lengthOf s n) (lengthFor (tagOf s n))) _ f g (t .1) in
+    ⊎-map (λ w. row-part limits s n f g (w .0) (w .1) (rw (w .2) at (l .1))) (λ w. end-part limits s n f g (w .0) (w .1) (rw (w .2) at (l .1)))
+    (by-tag (tagOf s n) (lengthOf s n) (eqb (tagOf s n) rowTag) refl (t .0) (eqb-true (lengthOf s n) (lengthFor (tagOf s n)) (l .0)))
 
 pub row-ok : (limits : Limits) (s : List ℕ) (n d : ℕ) → fieldAt limits s n ≡ Row d → RowOk limits s n × (d ≡ depth (parentOf s) n)
 unfolding good
@@ -116,11 +116,11 @@ end-ok limits s n h =
     ⊎-elim (λ w. absurd (let e : Row (depth (parentOf s) n) ≡ End = w .1 in let z : _≡_ {A = ℕ} 0 1 = cc in omega arith)) (λ w. w .0) (head limits s n End refl h)
 
 pub ok-row : (limits : Limits) (s : List ℕ) (n : ℕ) → RowOk limits s n → fieldAt limits s n ≡ Row (depth (parentOf s) n)
-unfolding fieldAt rowField valueField
+unfolding fieldAt tagOk lengthFor rowField valueField
 ok-row limits s n r =
-    simp (le-leb (place n headSize) (length s) (omega (arith, r .whole)), eq-eqb _ _ (r .tag), eq-eqb _ _ (r .row-length), lt-ltb _ _ (r .few), le-leb _ _ (r .whole), r .kind, r .role, r .parent, r .shallow, r .impossible)
+    simp (le-leb (place n headSize) (length s) (omega (arith, r .whole)), r .tag, r .row-length, lt-ltb _ _ (r .few), le-leb _ _ (r .whole), r .kind, r .role, r .parent, r .shallow, r .impossible)
 
 pub ok-end : (limits : Limits) (s : List ℕ) (n : ℕ) → EndOk s n → fieldAt limits s n ≡ End
-unfolding fieldAt endField
+unfolding fieldAt tagOk lengthFor endField
 ok-end limits s n r =
     simp (le-leb (place n headSize) (length s) (omega (arith, r .stops)), r .tag, r .end-length, lt-ltb 0 n (r .rows), eq-eqb _ _ (r .stops))

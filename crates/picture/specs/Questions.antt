@@ -1,5 +1,6 @@
 -- 01, "Questions asked": 2 to 13, of the field after n rows of the picture s. The fields before it are rows, so it begins at place n 0.
 --   ask q yes next           go on with `next` where question q is answered yes; else q is the refusal's number
+--   tagOk, lengthFor         question 3, and the length that 4 asks for
 --   kindOk .. impossibleOk   questions 9, 10, 11, 12, 13
 --   valueField               9 to 13, in their order
 --   rowField                 5, 6 and then those
@@ -21,6 +22,14 @@ use Rattle.picture.specs.declared.field.Field.the-variants.{Row, End, Ba
 abbrev pub ask : ℕ → Bool → Field → Field
 ask q true next = next
 ask q false next = Bad q
+
+-- 3. Is the tag 10 or 2F?
+unfoldable pub tagOk : ℕ → Bool
+tagOk tag = eqb tag rowTag || eqb tag endTag
+
+-- 4. Is the length 21 or 0 to match?
+unfoldable pub lengthFor : ℕ → ℕ
+lengthFor tag = pick (eqb tag rowTag) rowLength endLength
 
 -- 9. Is the kind 0 in row 0, else 1 or 2?
 unfoldable pub kindOk : ℕ → ℕ → Bool
@@ -69,7 +78,6 @@ endField s n =
 unfoldable pub fieldAt : Limits → List ℕ → ℕ → Field
 fieldAt limits s n =
     ask 2 (leb (place n headSize) (length s))
-    (pick (eqb (tagOf s n) rowTag)
-    (ask 4 (eqb (lengthOf s n) rowLength) (rowField limits s n))
-    (ask 3 (eqb (tagOf s n) endTag)
-    (ask 4 (eqb (lengthOf s n) endLength) (endField s n))))
+    (ask 3 (tagOk (tagOf s n))
+    (ask 4 (eqb (lengthOf s n) (lengthFor (tagOf s n)))
+    (pick (eqb (tagOf s n) rowTag) (rowField limits s n) (endField s n))))

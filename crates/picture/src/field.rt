@@ -26,13 +26,34 @@ ghost use Prim.Native.Nat.{ℕ, _+_, _≤_, _<_};
 ghost use Rattle.table.specs.Bounds.{maxRows, Bounded};
 ghost use Rattle.table.specs.Fields.{parentOf, kindOf, roleOf, impossibleOf, HasRow};
 ghost use Rattle.picture.specs.Depth.{depth, Known};
-ghost use Rattle.picture.specs.Questions.{kindOk, roleOk, parentOk, impossibleOk, valueField, rowField, endField, fieldAt};
+ghost use Rattle.picture.specs.Questions.{tagOk, lengthFor, kindOk, roleOk, parentOk, impossibleOk, valueField, rowField, endField, fieldAt};
 
 // What stands where a field is to begin: a row with its depth, the end field, or the number of a question answered no.
 pub enum Field {
     Row(u8),
     End,
     Bad(u8),
+}
+
+// 3
+fn tag_ok(tag: u8) -> bool
+    ensures { λ r. ⌜ r ≡ tagOk tag ⌝ }
+{
+    match tag {
+        ROW_TAG => true,
+        END_TAG => true,
+        0..=0x0F | 0x11..=0x2E | 0x30..=0xFF => false,
+    }
+}
+
+// The length that 4 asks for.
+fn length_for(tag: u8) -> usize
+    ensures { λ r. ⌜ r ≡ lengthFor tag ⌝ }
+{
+    match tag {
+        ROW_TAG => ROW_LENGTH,
+        0..=0x0F | 0x11..=0xFF => END_LENGTH,
+    }
 }
 
 // 9
@@ -155,21 +176,15 @@ pub fn field_at(s: &[u8], n: usize, limits: Limits, depths: &[u8; MAX_ROWS]) -> 
         return Field::Bad(2);
     }
     let tag = tag(s, n);
-    match tag {
-        ROW_TAG => {
-            if length(s, n) == ROW_LENGTH {
-                row_field(s, n, limits, depths)
-            } else {
-                Field::Bad(4)
-            }
-        }
-        END_TAG => {
-            if length(s, n) == END_LENGTH {
-                end_field(s, n)
-            } else {
-                Field::Bad(4)
-            }
-        }
-        0..=0x0F | 0x11..=0x2E | 0x30..=0xFF => Field::Bad(3),
+    if !tag_ok(tag) {
+        return Field::Bad(3);
+    }
+    if length(s, n) != length_for(tag) {
+        return Field::Bad(4);
+    }
+    if tag == ROW_TAG {
+        row_field(s, n, limits, depths)
+    } else {
+        end_field(s, n)
     }
 }

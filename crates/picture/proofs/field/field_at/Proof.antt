@@ -1,7 +1,7 @@
--- Each return follows from the tests on the way to it: the head's bytes, the tag's arm, the length.
-use borrow.Author.Tests.{eq-eqb, ne-eqb, le-leb, lt-leb}
+-- Each return follows from the tests on the way to it: the head's bytes, the tag, the length.
+use borrow.Author.Tests.{eq-eqb, ne-eqb, le-leb, lt-leb, not-true, not-false}
 use Rattle.picture.specs.Questions.{fieldAt}
-use mathlib.Core.Path.{sym}
+use mathlib.Core.Path.{sym, _∙_}
 use borrow.Author.Needs.{needs}
 use Rattle.picture.proofs.field.field_at.Statement.{statement}
 use Rattle.picture.proofs.field.field_at.Tie as tie
@@ -16,37 +16,36 @@ returns c = rw (sym (c .before .place .ensures)) (simp (lt-leb _ _ (c .if1 .take
 tag-requires : tie.Need-tag-requires
 tag-requires c κs = search needs
 
+tag-ok-requires : tie.Need-tag-ok-requires
+tag-ok-requires c κs = search needs
+
+returns-2 : tie.Need-returns-2
+unfolding fieldAt
+returns-2 c = rw (sym (c .before .before .before .before .place .ensures), sym (c .before .before .tag .ensures)) (simp (le-leb _ _ (c .before .before .before .if1 .left), sym (c .before .tag-ok .ensures) ∙ not-true _ (c .if2 .taken)))
+
 length-requires : tie.Need-length-requires
 length-requires c κs = search needs
+
+length-for-requires : tie.Need-length-for-requires
+length-for-requires c κs = search needs
+
+returns-3 : tie.Need-returns-3
+unfolding fieldAt
+returns-3 c = rw (sym (c .before .before .before .before .before .before .before .place .ensures), sym (c .before .before .before .before .before .tag .ensures), sym (c .before .before .length .ensures), sym (c .before .length-for .ensures)) (simp (le-leb _ _ (c .before .before .before .before .before .before .if1 .left), sym (c .before .before .before .before .tag-ok .ensures) ∙ not-false _ (c .before .before .before .if2 .left), ne-eqb _ _ (c .if3 .taken)))
 
 row-field-requires : tie.Need-row-field-requires
 row-field-requires c κs = search needs
 
-length-requires-2 : tie.Need-length-requires-2
-length-requires-2 c κs = search needs
-
 end-field-requires : tie.Need-end-field-requires
 end-field-requires c κs = search needs
 
-returns-2 : tie.Need-returns-2
-unfolding fieldAt
-returns-2 c = rw (sym (c .before .before .before .before .before .before .place .ensures), sym (c .before .before .before .before .tag .ensures), sym (c .before .before .length .ensures)) (simp (le-leb _ _ (c .before .before .before .before .before .if1 .left), eq-eqb _ _ (c .before .before .before .match .keys1), eq-eqb _ _ (c .before .if2 .taken)) (c .row-field .ensures))
-
-returns-3 : tie.Need-returns-3
-unfolding fieldAt
-returns-3 c = rw (sym (c .before .before .before .before .before .place .ensures), sym (c .before .before .before .tag .ensures), sym (c .before .length .ensures)) (simp (le-leb _ _ (c .before .before .before .before .if1 .left), eq-eqb _ _ (c .before .before .match .keys1), ne-eqb _ _ (c .if2 .left)))
-
 returns-4 : tie.Need-returns-4
 unfolding fieldAt
-returns-4 c = rw (sym (c .before .before .before .before .before .before .place .ensures), sym (c .before .before .before .before .tag .ensures), sym (c .before .before .length2 .ensures)) (simp (le-leb _ _ (c .before .before .before .before .before .if1 .left), c .before .before .before .match .keys2, eq-eqb _ _ (c .before .if3 .taken)) (c .end-field .ensures))
+returns-4 c = rw (sym (c .before .before .before .before .before .before .before .before .before .place .ensures), sym (c .before .before .before .before .before .before .before .tag .ensures), sym (c .before .before .before .before .length .ensures), sym (c .before .before .before .length-for .ensures)) (simp (le-leb _ _ (c .before .before .before .before .before .before .before .before .if1 .left), sym (c .before .before .before .before .before .before .tag-ok .ensures) ∙ not-false _ (c .before .before .before .before .before .if2 .left), eq-eqb _ _ (c .before .before .if3 .left), eq-eqb _ _ (c .before .if4 .taken)) (c .row-field .ensures))
 
 returns-5 : tie.Need-returns-5
 unfolding fieldAt
-returns-5 c = rw (sym (c .before .before .before .before .before .place .ensures), sym (c .before .before .before .tag .ensures), sym (c .before .length2 .ensures)) (simp (le-leb _ _ (c .before .before .before .before .if1 .left), c .before .before .match .keys2, ne-eqb _ _ (c .if3 .left)))
-
-returns-6 : tie.Need-returns-6
-unfolding fieldAt
-returns-6 c = rw (sym (c .before .before .before .place .ensures), sym (c .before .tag .ensures)) (simp (le-leb _ _ (c .before .before .if1 .left), ne-eqb _ _ (c .match .rest .0 .1), ne-eqb _ _ (c .match .rest .1)))
+returns-5 c = rw (sym (c .before .before .before .before .before .before .before .before .before .place .ensures), sym (c .before .before .before .before .before .before .before .tag .ensures), sym (c .before .before .before .before .length .ensures), sym (c .before .before .before .length-for .ensures)) (simp (le-leb _ _ (c .before .before .before .before .before .before .before .before .if1 .left), sym (c .before .before .before .before .before .before .tag-ok .ensures) ∙ not-false _ (c .before .before .before .before .before .if2 .left), eq-eqb _ _ (c .before .before .if3 .left), ne-eqb _ _ (c .before .if4 .left)) (c .end-field .ensures))
 
 pub field-at-spec : {M : Type 1} → statement M
 field-at-spec =
@@ -55,12 +54,12 @@ field-at-spec =
     place-requires
     returns
     tag-requires
-    length-requires
-    row-field-requires
-    length-requires-2
-    end-field-requires
+    tag-ok-requires
     returns-2
+    length-requires
+    length-for-requires
     returns-3
+    row-field-requires
+    end-field-requires
     returns-4
-    returns-5
-    returns-6)
+    returns-5)
