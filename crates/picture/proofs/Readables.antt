@@ -5,6 +5,7 @@
 --   answer-most                        an answer's rows are within the limits
 --   readable-count, readable-length    its rows are those that its length says
 --   readable-some, readable-most       from 1 to the limit
+--   readable-size                      and no longer than the longest picture
 --   readable-row, readable-has         each row's questions, and that the row is there
 --   readable-kind, readable-root       9: row 0 has kind 0, the others 1 or 2
 --   readable-role, readable-root-role  10
@@ -19,7 +20,7 @@ use native.Mathlib.Nat.{eq-or-lt-of-le}
 use native.Mathlib.Omega.{arith}
 use lib.ListN.{length}
 use Rattle.table.specs.Layout.{«place», endSize, kindRoot, kindSome, kindAll, roles}
-use Rattle.table.specs.Bounds.{Bounded}
+use Rattle.table.specs.Bounds.{Bounded, pictureSize}
 use Rattle.table.specs.Fields.{parentOf, kindOf, roleOf, impossibleOf, HasRow}
 use Rattle.table.specs.declared.layout.Limits.{Limits}
 use Rattle.picture.specs.declared.answer.Input.{Input}
@@ -126,6 +127,9 @@ module _ (limits : Limits) (s : List ℕ) (readable : Readable limits s) where
 
   pub readable-most : rowCount s ≤ limits .rows
   readable-most = rw readable-count (formed-most limits s (readable .rows) formed)
+
+  pub readable-size : length s ≤ pictureSize limits
+  readable-size = omega (arith, readable-length, readable-most)
 
   pub readable-row : (k : ℕ) → k < rowCount s → RowOk limits s k
   readable-row k h = formed .rows k (rw readable-count at h)

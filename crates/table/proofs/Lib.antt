@@ -1,4 +1,5 @@
 -- The laws of the definitions, by subject.
+pub mod Sizes
 pub mod Puts
 pub mod Numbers
 pub mod Ranges

@@ -12,6 +12,8 @@
 --   row-excluded                          what the row that was put reads back as
 --   end-put, end-tag, end-length          what the end field that was put reads back as
 --   row-other, end-other                  the other rows are as they were
+--   parent-fits, wanted-fits,
+--   excluded-fits                         of a list of bytes the fields fit their widths
 use mathlib.Core.Path.{_≡_, refl, ap, sym, _∙_}
 use mathlib.Core.List.{List, []}
 use Prim.Native.Nat.{ℕ, _+_, _*_, _-_, _^_, _≤_, _<_}
@@ -20,13 +22,13 @@ use native.Mathlib.Decide.{decLt}
 use native.Mathlib.Omega.{arith}
 use lib.ListN.{length, take, getD}
 use Rattle.table.specs.Layout.{«place», rowTag, endTag, endLength, endSize, headSize, nameBytes, nameCount, parentAt, kindAt, roleAt, impossibleAt, wantedAt, excludedAt, rowLength, rowSize}
-use Rattle.table.specs.Number.{be, beBytes}
+use Rattle.table.specs.Number.{Bytes, be, beBytes}
 use Rattle.table.specs.NameSet.{setOf}
 use Rattle.table.specs.Put.{put}
 use Rattle.table.specs.Fields.{tagOf, lengthOf, parentOf, kindOf, roleOf, impossibleOf, wantedOf, excludedOf, rowBytes, endBytes}
 use Rattle.table.specs.declared.row.Row.{Row}
 use Rattle.table.proofs.Puts.{put-before, put-in, put-after}
-use Rattle.table.proofs.Numbers.{be-same, be-inside}
+use Rattle.table.proofs.Numbers.{be-same, be-bound, be-inside}
 
 -- fields with the same bytes
 
@@ -160,3 +162,15 @@ module _ (d : List ℕ) (n : ℕ) (h : place n endSize ≤ length d) where
 
   pub end-other : (m : ℕ) → (m ≡ n → ⊥) → Same rowSize (ended d n) m d m
   end-other m u = let w = length-endBytes in field-other d endBytes n m (omega arith) (omega arith) u
+
+-- the fields of a list of bytes fit their widths
+
+module _ (s : List ℕ) (bytes : Bytes s) (n : ℕ) where
+  pub parent-fits : parentOf s n < 65536
+  parent-fits = be-bound s (place n parentAt) 2 (λ i h. bytes (place n parentAt + i))
+
+  pub wanted-fits : wantedOf s n < 2 ^ nameCount
+  wanted-fits = be-bound s (place n wantedAt) nameBytes (λ i h. bytes (place n wantedAt + i))
+
+  pub excluded-fits : excludedOf s n < 2 ^ nameCount
+  excluded-fits = be-bound s (place n excludedAt) nameBytes (λ i h. bytes (place n excludedAt + i))
