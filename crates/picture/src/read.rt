@@ -6,7 +6,12 @@ use crate::field::Field;
 use crate::field::field_at;
 use table::layout::Limits;
 use table::layout::MAX_ROWS;
+use table::layout::ROW_SIZE;
+use table::layout::place;
 ghost use mathlib.Core.Path.{_≡_};
+ghost use Prim.Native.Nat.{_<_};
+ghost use lib.ListN.{length};
+ghost use Rattle.table.specs.Layout.{«place», rowSize};
 ghost use Rattle.table.specs.Bounds.{Bounded};
 ghost use Rattle.picture.specs.Read.{readingOf, answerOf};
 
@@ -16,7 +21,24 @@ pub enum Reading {
     Failed(u8),
 }
 
-pub fn scan(s: &[u8], limits: Limits) -> Reading
+// A file with no room for a second row. It needs no table of depths: clearing one takes longer than reading the file.
+fn scan_one(s: &[u8], limits: Limits) -> Reading
+    requires { ⌜ (Bounded limits) × (length (now s) < «place» 1 rowSize) ⌝ }
+    ensures { λ r. ⌜ r ≡ readingOf limits (now (s .entry)) ⌝ }
+{
+    let depths = [0u8; MAX_ROWS];
+    match field_at(s, 0, limits, &depths) {
+        Field::Row(_) => match field_at(s, 1, limits, &depths) {
+            Field::Row(_) => Reading::Failed(6),
+            Field::End => Reading::Rows(1),
+            Field::Bad(number) => Reading::Failed(number),
+        },
+        Field::End => Reading::Rows(0),
+        Field::Bad(number) => Reading::Failed(number),
+    }
+}
+
+fn scan_rows(s: &[u8], limits: Limits) -> Reading
     requires { ⌜ Bounded limits ⌝ }
     ensures { λ r. ⌜ r ≡ readingOf limits (now (s .entry)) ⌝ }
 {
@@ -35,6 +57,17 @@ pub fn scan(s: &[u8], limits: Limits) -> Reading
                 return Reading::Failed(number);
             }
         }
+    }
+}
+
+pub fn scan(s: &[u8], limits: Limits) -> Reading
+    requires { ⌜ Bounded limits ⌝ }
+    ensures { λ r. ⌜ r ≡ readingOf limits (now (s .entry)) ⌝ }
+{
+    if s.len() < place(1, ROW_SIZE) {
+        scan_one(s, limits)
+    } else {
+        scan_rows(s, limits)
     }
 }
 

@@ -13,8 +13,8 @@ use denote.Ref.{now}
 use Rattle.table.specs.Bounds.{maxRows}
 use Rattle.picture.specs.Read.{scanFrom, readingOf}
 use Rattle.picture.proofs.Scans.{scan-step, known-none, known-next}
-use Rattle.picture.proofs.read.scan.Statement.{statement}
-use Rattle.picture.proofs.read.scan.Tie as tie
+use Rattle.picture.proofs.read.scan_rows.Statement.{statement}
+use Rattle.picture.proofs.read.scan_rows.Tie as tie
 
 abbrev Inv-loop : tie.InvT-loop
 Inv-loop s limits depths₀ n₀ depths n =
@@ -82,8 +82,8 @@ returns-2 c =
     let l = c .before .before .before .before .before .loop in
     sym (l .inv .1 .1 .1 ∙ scan-step (a .limits) (now (a .s)) (l .n) (l .inv .0) ∙ rw (sym (c .before .before .before .field-at .ensures), c .before .number .given .1))
 
-pub scan-spec : {M : Type 1} → statement M
-scan-spec =
+pub scan-rows-spec : {M : Type 1} → statement M
+scan-rows-spec =
     tie.close
     (tie.spec
     Inv-loop
