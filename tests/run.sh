@@ -4,7 +4,8 @@
 #   sh tests/run.sh ARCHIVE
 #
 # Prints a line for each test and last 'C tests: P passed, F failed'; exits 1 if F is not 0. F is also
-# written to build/tests/failed. What does not build, or ends without its summary, counts as one failure.
+# written to build/tests/failed. A program counts as one failure if it does not build, ends without its
+# summary, made no check, or has an exit status other than 0 though none of its checks failed.
 set -u
 
 case ${1-} in
@@ -36,26 +37,32 @@ one() {
     fi
 }
 
+# fail NAME WHAT: a failure that no summary counts.
+fail() {
+    failed=$((failed + 1))
+    echo "$1: $2"
+}
+
 # program NAME COMPILER..: builds a test program, runs it and adds what its summary says.
 program() {
     name=$1
     shift
     if ! "$@" "$archive" -o "$out/$name"; then
-        failed=$((failed + 1))
-        echo "$name: does not build"
+        fail "$name" "does not build"
         return
     fi
     status=0
     "$out/$name" >"$out/$name.log" || status=$?
     cat "$out/$name.log"
-    counts=$(sed -n '$s/^.*: \([0-9]*\) passed, \([0-9]*\) failed$/\1 \2/p' "$out/$name.log")
-    if [ -z "$counts" ]; then
-        failed=$((failed + 1))
-        echo "$name: ended by status $status without a summary"
-    else
-        passed=$((passed + ${counts% *}))
-        failed=$((failed + ${counts#* }))
-    fi
+    counts=$(sed -n '$s/^.*: \([0-9][0-9]*\) passed, \([0-9][0-9]*\) failed$/\1 \2/p' "$out/$name.log")
+    case $status:$counts in
+    *:) fail "$name" "ended by status $status without a summary"; return ;;
+    *:'0 0') fail "$name" "made no check" ;;
+    0:* | *' '[1-9]*) ;;
+    *) fail "$name" "ended by status $status though no check failed" ;;
+    esac
+    passed=$((passed + ${counts% *}))
+    failed=$((failed + ${counts#* }))
 }
 
 shared='tests/check.c tests/picture.c tests/reference.c tests/second_unit.c'
@@ -70,12 +77,15 @@ else
     echo "header as C++: not tested, no $cxx"
 fi
 
+# The library calls nothing, but for what the compiler itself may put in.
+symbols() {
+    nm -u "$archive" >"$out/symbols.log" &&
+        ! grep -vE '^$|:$| (memset|memcpy|memmove|memcmp)$' "$out/symbols.log"
+}
+
 # The samples are what their script makes, and the example says of them what it should.
 samples() {
-    sh samples/make.sh "$out/samples" || return 1
-    for sample in samples/*.pic; do
-        cmp "$sample" "$out/$sample" || return 1
-    done
+    sh samples/make.sh "$out/samples" && diff -r -x make.sh -x validate.stdout samples "$out/samples"
 }
 example() {
     $c examples/validate.c "$archive" -o "$out/validate" && "$out/validate" samples/*.pic >"$out/validate.log" &&
@@ -85,9 +95,15 @@ example() {
 # The program of the README builds and runs as it stands there.
 readme() {
     sed -n '/^```c$/,/^```$/p' README.md | sed '/^```/d' >"$out/readme.c"
-    $c "$out/readme.c" "$archive" -o "$out/readme" && [ "$("$out/readme")" = 'a picture of 2 rows' ]
+    $c "$out/readme.c" "$archive" -o "$out/readme" && printed=$("$out/readme") &&
+        [ "$printed" = 'a picture of 2 rows' ]
 }
 
+if command -v nm >/dev/null; then
+    one symbols symbols
+else
+    echo "symbols: not tested, no nm"
+fi
 one samples samples
 one example example
 one readme readme

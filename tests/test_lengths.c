@@ -5,7 +5,8 @@
 #include "check.h"
 #include "picture.h"
 
-#define MAX_LENGTH 6200
+#define MARGIN 53 /* bytes past the longest picture: two rows and some more */
+#define MAX_LENGTH (ZUVAROPY_MAX_PICTURE_BYTES + MARGIN)
 
 static struct picture p;
 
@@ -35,12 +36,9 @@ static void test_every_length(const char *junk, size_t junk_length)
 
 static void test_nothing(void)
 {
-    uint64_t (*function)(const uint8_t *, size_t) = zuvaropy_validate;
     const uint8_t byte = ZUVAROPY_TAG_ROW;
 
     CHECK_WORD(zuvaropy_validate(NULL, 0), word_refusal(2), 0);
-    CHECK_WORD((zuvaropy_validate)(NULL, 0), word_refusal(2), 0);
-    CHECK_WORD(function(NULL, 0), word_refusal(2), 0);
     CHECK_WORD(zuvaropy_validate(&byte, 0), word_refusal(2), 0);
 }
 

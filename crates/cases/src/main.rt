@@ -10,16 +10,30 @@ use crate::make::set;
 use crate::make::small;
 use crate::tell::tell;
 use crate::tell::tell_cut;
+use table::layout::END_SIZE;
 use table::layout::HEAD_SIZE;
+use table::layout::IMPOSSIBLE_AT;
+use table::layout::KIND_AT;
+use table::layout::LENGTH_AT;
+use table::layout::MAX_ROWS;
+use table::layout::PARENT_AT;
+use table::layout::ROLE_AT;
+use table::layout::ROW_SIZE;
+use table::layout::place;
+ghost use Prim.Native.Nat.{_≤_};
+ghost use Rattle.table.specs.Layout.{rowSize};
+ghost use Rattle.table.specs.Bounds.{maxRows};
 
-// As many bytes as 257 rows and the end field take, and some more.
-const SPACE: usize = 6200;
+// As many bytes as 257 rows and the end field take.
+const SPACE: usize = ROW_SIZE * (MAX_ROWS + 1) + END_SIZE;
 
-// The small picture with the byte at a place changed.
-fn changed(label: &[u8], at: usize, value: u8) {
+// The small picture with a byte of a field changed.
+fn changed(label: &[u8], field: usize, offset: usize, value: u8)
+    requires { ⌜ (field ≤ maxRows) × (offset ≤ rowSize) ⌝ }
+{
     let mut s = [0u8; SPACE];
     let n = small(&mut s);
-    set(&mut s, at, value);
+    set(&mut s, place(field, offset), value);
     tell(label, &s, n);
 }
 
@@ -50,13 +64,13 @@ fn heads() {
     tell(b"an empty file", &s, 0);
     let n = end(&mut s, 0);
     tell(b"the end field alone", &s, n);
-    tell(b"the end field and two bytes more", &s, 5);
-    changed(b"tag 11", 24, 0x11);
-    changed(b"tag 0F", 24, 0x0F);
-    changed(b"tag 30", 72, 0x30);
-    changed(b"row length 20", 26, 20);
-    changed(b"row length 277", 25, 1);
-    changed(b"end length 1", 74, 1);
+    tell(b"the end field and two bytes more", &s, n + 2);
+    changed(b"tag 11", 1, 0, 0x11);
+    changed(b"tag 0F", 1, 0, 0x0F);
+    changed(b"tag 30", 3, 0, 0x30);
+    changed(b"row length 20", 1, LENGTH_AT + 1, 20);
+    changed(b"row length 277", 1, LENGTH_AT, 1);
+    changed(b"end length 1", 3, LENGTH_AT + 1, 1);
     let m = small(&mut s);
     let k = end(&mut s, m);
     tell(b"two end fields", &s, k);
@@ -64,17 +78,17 @@ fn heads() {
 
 // 9, 10, 11 and 13.
 fn values() {
-    changed(b"kind 1 in row 0", 5, 1);
-    changed(b"kind 0 in row 1", 29, 0);
-    changed(b"kind 3 in row 1", 29, 3);
-    changed(b"role 8 in row 0", 6, 8);
-    changed(b"role 31 in row 1", 30, 31);
-    changed(b"role 32 in row 1", 30, 32);
-    changed(b"parent 1 in row 0", 4, 1);
-    changed(b"parent 1 in row 1", 28, 1);
-    changed(b"parent 256 in row 2", 51, 1);
-    changed(b"impossible byte 1", 31, 1);
-    changed(b"impossible byte 2", 31, 2);
+    changed(b"kind 1 in row 0", 0, KIND_AT, 1);
+    changed(b"kind 0 in row 1", 1, KIND_AT, 0);
+    changed(b"kind 3 in row 1", 1, KIND_AT, 3);
+    changed(b"role 8 in row 0", 0, ROLE_AT, 8);
+    changed(b"role 31 in row 1", 1, ROLE_AT, 31);
+    changed(b"role 32 in row 1", 1, ROLE_AT, 32);
+    changed(b"parent 1 in row 0", 0, PARENT_AT + 1, 1);
+    changed(b"parent 1 in row 1", 1, PARENT_AT + 1, 1);
+    changed(b"parent 256 in row 2", 2, PARENT_AT, 1);
+    changed(b"impossible byte 1", 1, IMPOSSIBLE_AT, 1);
+    changed(b"impossible byte 2", 1, IMPOSSIBLE_AT, 2);
 }
 
 // The small picture, cut at every byte.

@@ -38,6 +38,19 @@ depth-under parent (suc n) h o =
     let below : parent (suc n) < suc n = o (suc n) (omega arith) (omega arith) in
     ap suc (depth-steps parent n (parent (suc n)) (parent (suc n)) (omega arith) (omega arith) (λ k i j. o k i (omega arith))) ∙ omega arith
 
+steps-same : (p q : ℕ → ℕ) (steps n : ℕ) → ((k : ℕ) → k ≤ n → p k ≡ q k) → Ordered p n → depthIn p steps n ≡ depthIn q steps n
+unfolding depthIn
+steps-same p q zero n same o = refl
+steps-same p q (suc steps) zero same o = refl
+steps-same p q (suc steps) (suc n) same o =
+    let below : p (suc n) < suc n = o (suc n) (omega arith) (omega arith) in
+    ap suc (steps-same p q steps (p (suc n)) (λ k h. same k (omega arith)) (λ k i j. o k i (omega arith)) ∙ ap (λ (m : ℕ). depthIn q steps m) (same (suc n) (omega arith)))
+
+-- the depth of row n depends on the parents of the rows up to n alone
+pub depth-same : (p q : ℕ → ℕ) (n : ℕ) → ((k : ℕ) → k ≤ n → p k ≡ q k) → Ordered p n → depth p n ≡ depth q n
+unfolding depth
+depth-same p q n same o = steps-same p q n n same o
+
 -- the rows before n are in order, and so is row n
 ordered-next : (s depths : List ℕ) (n : ℕ) → Known s n depths → parentOf s n < n → Ordered (parentOf s) n
 ordered-next s depths n known below k i j =

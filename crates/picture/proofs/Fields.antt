@@ -3,14 +3,17 @@
 --   EndOk            the same of an end field
 --   row-ok, ok-row   a field that is a row, and back
 --   end-ok, ok-end   a field that is the end field, and back
+--   Asked            a number from 2 to 13
+--   field-number     a refusal has such a number
 use mathlib.Core.Logic.{_⊎_, inl, inr, ⊎-elim, ⊎-map}
-use mathlib.Core.Path.{_≡_, refl, _∙_}
+use mathlib.Core.Path.{_≡_, refl, subst, _∙_}
 use mathlib.Core.Bool.{Bool, true, false}
 use mathlib.Core.List.{List}
 use Prim.Native.Nat.{ℕ, _≤_, _<_}
 use native.Mathlib.Omega.{arith}
 use borrow.Author.Tests.{ltb-true, leb-true, eqb-true, lt-ltb, le-leb, eq-eqb}
-use lib.Dec.{eqb, leb}
+use lib.Dec.{eqb, leb, ltb}
+use Rattle.table.specs.Pick.{pick}
 use lib.ListN.{length}
 use Rattle.table.specs.Layout.{«place», headSize, rowTag, endTag, rowLength, endLength, rowSize, endSize}
 use Rattle.table.specs.Fields.{tagOf, lengthOf, parentOf, kindOf, roleOf, impossibleOf}
@@ -124,3 +127,47 @@ pub ok-end : (limits : Limits) (s : List ℕ) (n : ℕ) → EndOk s n → fieldA
 unfolding fieldAt tagOk lengthFor endField
 ok-end limits s n r =
     simp (le-leb (place n headSize) (length s) (omega (arith, r .stops)), r .tag, r .end-length, lt-ltb 0 n (r .rows), eq-eqb _ _ (r .stops))
+
+-- a refusal's number is that of a question of a field
+pub record Asked (q : ℕ) : Type 0 where
+  pub least : 2 ≤ q
+  pub most : q ≤ 13
+
+asked : {q : ℕ} → 2 ≤ q → q ≤ 13 → Asked q
+asked least most = record { least = least; most = most }
+
+asks : (p q : ℕ) (b : Bool) (next : Field) → Asked p → (next ≡ Bad q → Asked q) → ask p b next ≡ Bad q → Asked q
+asks p q true next here rest h = rest h
+asks p q false next here rest h = let e : p ≡ q = cc in subst Asked e here
+
+picks : (q : ℕ) (b : Bool) (x y : Field) → (x ≡ Bad q → Asked q) → (y ≡ Bad q → Asked q) → pick b x y ≡ Bad q → Asked q
+picks q true x y f g h = f h
+picks q false x y f g h = g h
+
+module _ (limits : Limits) (s : List ℕ) (n q : ℕ) where
+  row-number : rowField limits s n ≡ Bad q → Asked q
+  unfolding rowField valueField
+  row-number =
+      asks 5 q (ltb n (limits .rows)) _ (asked (omega arith) (omega arith))
+      (asks 6 q (leb (place n rowSize) (length s)) _ (asked (omega arith) (omega arith))
+      (asks 9 q (kindOk n (kindOf s n)) _ (asked (omega arith) (omega arith))
+      (asks 10 q (roleOk n (roleOf s n)) _ (asked (omega arith) (omega arith))
+      (asks 11 q (parentOk n (parentOf s n)) _ (asked (omega arith) (omega arith))
+      (asks 12 q (depthOk limits (depth (parentOf s) n)) _ (asked (omega arith) (omega arith))
+      (asks 13 q (impossibleOk (impossibleOf s n)) _ (asked (omega arith) (omega arith))
+      (λ h. absurd (let z : _≡_ {A = ℕ} 0 1 = cc in omega arith))))))))
+
+  end-number : endField s n ≡ Bad q → Asked q
+  unfolding endField
+  end-number =
+      asks 7 q (ltb 0 n) _ (asked (omega arith) (omega arith))
+      (asks 8 q (eqb (length s) (place n endSize)) _ (asked (omega arith) (omega arith))
+      (λ h. absurd (let z : _≡_ {A = ℕ} 0 1 = cc in omega arith)))
+
+  pub field-number : fieldAt limits s n ≡ Bad q → Asked q
+  unfolding fieldAt
+  field-number =
+      asks 2 q (leb (place n headSize) (length s)) _ (asked (omega arith) (omega arith))
+      (asks 3 q (tagOk (tagOf s n)) _ (asked (omega arith) (omega arith))
+      (asks 4 q (eqb (lengthOf s n) (lengthFor (tagOf s n))) _ (asked (omega arith) (omega arith))
+      (picks q (eqb (tagOf s n) rowTag) _ _ row-number end-number)))

@@ -1,33 +1,31 @@
--- What a question that was answered yes says, 9 to 13.
+-- What a question that was answered yes says, 9 to 13, and when the answer is yes.
 --   kind-root, kind-later       9
 --   role-root, role-below       10
 --   parent-root, parent-below   11
 --   depth-most                  12
 --   impossible-most             13
+--   ok-kind .. ok-impossible    when the answer is yes; ok-root: in row 0
 use mathlib.Core.Logic.{_⊎_, inl, inr, ⊎-map}
 use mathlib.Core.Path.{_≡_, refl}
-use mathlib.Core.Bool.{Bool, true, false, _||_}
+use mathlib.Core.Bool.{Bool, true, false}
 use Prim.Native.Nat.{ℕ, _≤_, _<_}
-use borrow.Author.Tests.{eqb-true, ltb-true, leb-true, ne-eqb}
+use borrow.Author.Tests.{eqb-true, ltb-true, leb-true, ne-eqb, lt-ltb, le-leb}
 use native.Mathlib.Omega.{arith}
 use lib.Dec.{eqb, ltb}
 use Rattle.table.specs.Pick.{pick}
-use Rattle.table.specs.Layout.{kindRoot, kindSome, kindAll, roles}
+use Rattle.table.proofs.Bools.{either}
+use Rattle.table.specs.Layout.{kindRoot, kindExists, kindForAll, roles}
 use Rattle.table.specs.declared.layout.Limits.{Limits}
 use Rattle.picture.specs.Questions.{kindOk, roleOk, parentOk, depthOk, impossibleOk}
-
-either : (a b : Bool) → (a || b) ≡ true → (a ≡ true) ⊎ (b ≡ true)
-either true b h = inl refl
-either false b h = inr h
 
 pub kind-root : (kind : ℕ) → kindOk 0 kind ≡ true → kind ≡ kindRoot
 unfolding kindOk
 kind-root kind h = eqb-true kind kindRoot h
 
-pub kind-later : (n kind : ℕ) → (n ≡ 0 → ⊥) → kindOk n kind ≡ true → (kind ≡ kindSome) ⊎ (kind ≡ kindAll)
+pub kind-later : (n kind : ℕ) → (n ≡ 0 → ⊥) → kindOk n kind ≡ true → (kind ≡ kindExists) ⊎ (kind ≡ kindForAll)
 unfolding kindOk
 kind-later n kind later h =
-    ⊎-map (eqb-true kind kindSome) (eqb-true kind kindAll) (either (eqb kind kindSome) (eqb kind kindAll) (simp (ne-eqb n 0 later) at h))
+    ⊎-map (eqb-true kind kindExists) (eqb-true kind kindForAll) (either (eqb kind kindExists) (eqb kind kindForAll) (simp (ne-eqb n 0 later) at h))
 
 pub role-root : (role : ℕ) → roleOk 0 role ≡ true → role ≡ 0
 unfolding roleOk
@@ -54,3 +52,29 @@ depth-most limits depth h = leb-true depth (limits .depth) h
 
 pub impossible-most : (impossible : ℕ) → impossibleOk impossible ≡ true → impossible ≤ 1
 impossible-most impossible h = leb-true impossible 1 h
+
+-- and when the answer is yes
+
+pub ok-kind : (n kind : ℕ) → (n ≡ 0 → ⊥) → (kind ≡ kindExists) ⊎ (kind ≡ kindForAll) → kindOk n kind ≡ true
+unfolding kindOk
+ok-kind n kind later (inl e) = simp (ne-eqb n 0 later, e)
+ok-kind n kind later (inr e) = simp (ne-eqb n 0 later, e)
+
+pub ok-role : (n role : ℕ) → (n ≡ 0 → ⊥) → role < roles → roleOk n role ≡ true
+unfolding roleOk
+ok-role n role later h = simp (ne-eqb n 0 later, lt-ltb role roles h)
+
+pub ok-parent : (n parent : ℕ) → (n ≡ 0 → ⊥) → parent < n → parentOk n parent ≡ true
+unfolding parentOk
+ok-parent n parent later h = simp (ne-eqb n 0 later, lt-ltb parent n h)
+
+pub ok-depth : (limits : Limits) (depth : ℕ) → depth ≤ limits .depth → depthOk limits depth ≡ true
+ok-depth limits depth h = le-leb depth (limits .depth) h
+
+pub ok-impossible : (impossible : ℕ) → impossible ≤ 1 → impossibleOk impossible ≡ true
+ok-impossible impossible h = le-leb impossible 1 h
+
+-- row 0 is the root
+pub ok-root : (kindOk 0 kindRoot ≡ true) × (roleOk 0 0 ≡ true) × (parentOk 0 0 ≡ true)
+unfolding kindOk roleOk parentOk
+ok-root = (refl, refl, refl)

@@ -1,6 +1,8 @@
 -- What a readable picture holds, and that a file which holds it is readable.
 --   WellFormed                         m rows, each with its questions answered yes, and then the end field
 --   reading-formed, formed-reading     a file reads as m rows exactly when it is so formed
+--   reading-number                     a refusal's number is from 2 to 13
+--   scan-enough                        more fields to come than the limit allows change nothing
 --   answer-reading, reading-answer     which input it is changes nothing of that
 --   answer-most                        an answer's rows are within the limits
 --   readable-count, readable-length    its rows are those that its length says
@@ -12,6 +14,7 @@
 --   readable-parent, readable-root-parent  11
 --   readable-depth, readable-depth-under   12
 --   readable-impossible                13
+--   readable-view                      the view of a readable picture is proper
 use mathlib.Core.Logic.{_⊎_, ⊎-elim}
 use mathlib.Core.Path.{_≡_, refl, ap, sym, subst}
 use mathlib.Core.List.{List}
@@ -19,7 +22,7 @@ use Prim.Native.Nat.{ℕ, zero, suc, _+_, _≤_, _<_}
 use native.Mathlib.Nat.{eq-or-lt-of-le}
 use native.Mathlib.Omega.{arith}
 use lib.ListN.{length}
-use Rattle.table.specs.Layout.{«place», endSize, kindRoot, kindSome, kindAll, roles}
+use Rattle.table.specs.Layout.{«place», endSize, kindRoot, kindExists, kindForAll, roles}
 use Rattle.table.specs.Bounds.{Bounded, pictureSize}
 use Rattle.table.specs.Fields.{parentOf, kindOf, roleOf, impossibleOf, HasRow}
 use Rattle.table.specs.declared.layout.Limits.{Limits}
@@ -32,10 +35,12 @@ use Rattle.picture.specs.declared.read.Reading.the-variants as reading
 use Rattle.picture.specs.Depth.{depth}
 use Rattle.picture.specs.Questions.{fieldAt}
 use Rattle.picture.specs.Read.{onField, scanFrom, readingOf, answered, answerOf}
-use Rattle.picture.specs.View.{Readable, rowCount}
+use Rattle.picture.specs.View.{Readable, Proper, viewOf, rowCount}
+use Rattle.table.specs.Number.{Bytes}
+use Rattle.table.proofs.Rows.{wanted-fits, excluded-fits}
 use Rattle.picture.proofs.Depths.{depth-under}
 use Rattle.picture.proofs.Questions.{kind-root, kind-later, role-root, role-below, parent-root, parent-below, depth-most, impossible-most}
-use Rattle.picture.proofs.Fields.{RowOk, EndOk, row-ok, end-ok, ok-row, ok-end}
+use Rattle.picture.proofs.Fields.{RowOk, EndOk, Asked, row-ok, end-ok, ok-row, ok-end, field-number}
 
 -- from row n on: rows to row m, and there the end field
 record FormedFrom (limits : Limits) (s : List ℕ) (n m : ℕ) : Type 0 where
@@ -92,6 +97,35 @@ module _ (limits : Limits) (s : List ℕ) where
   unfolding readingOf
   formed-reading m f = formed-scan (suc (limits .rows)) 0 m (record { below = omega arith; rows = λ k i j. f .rows k j; end = f .end }) (omega (arith, formed-most m f))
 
+  -- ---- a refusal's number, and that the fields left are always enough
+
+  number-at : (f : Field) (n q : ℕ) (rest : Reading) → fieldAt limits s n ≡ f → (rest ≡ reading.Failed q → Asked q) → onField f n rest ≡ reading.Failed q → Asked q
+  number-at (Row d) n q rest e more h = more h
+  number-at End n q rest e more h = absurd (let z : _≡_ {A = ℕ} 0 1 = cc in omega arith)
+  number-at (Bad p) n q rest e more h = let i : p ≡ q = cc in field-number limits s n q (rw i at e)
+
+  scan-number : (left n q : ℕ) → scanFrom left limits s n ≡ reading.Failed q → Asked q
+  unfolding scanFrom
+  scan-number zero n q h = let e : 5 ≡ q = cc in record { least = omega arith; most = omega arith }
+  scan-number (suc left) n q h = number-at (fieldAt limits s n) n q _ refl (λ r. scan-number left (n + 1) q r) h
+
+  pub reading-number : (q : ℕ) → readingOf limits s ≡ reading.Failed q → Asked q
+  unfolding readingOf
+  reading-number q h = scan-number (suc (limits .rows)) 0 q h
+
+  -- what comes after a field matters only if the field is a row
+  rest-same : (f : Field) (n : ℕ) (a b : Reading) → fieldAt limits s n ≡ f → (RowOk limits s n → a ≡ b) → onField f n a ≡ onField f n b
+  rest-same (Row d) n a b e same = same (row-ok limits s n d e .0)
+  rest-same End n a b e same = refl
+  rest-same (Bad q) n a b e same = refl
+
+  pub scan-enough : (more left n : ℕ) → limits .rows ≤ n + left → scanFrom (suc (left + more)) limits s n ≡ scanFrom (suc left) limits s n
+  unfolding scanFrom
+  scan-enough more zero n h = rest-same (fieldAt limits s n) n _ _ refl (λ r. absurd (omega (arith, r .few)))
+  scan-enough more (suc left) n h =
+      let e : suc left + more ≡ suc (left + more) = omega arith in
+      rest-same (fieldAt limits s n) n _ _ refl (λ r. rw e (scan-enough more left (n + 1) (omega arith)))
+
   -- ---- the input named
 
   rows-answered : (input : Input) (r : Reading) (n : ℕ) → answered input r ≡ answer.Rows n → r ≡ reading.Rows n
@@ -140,7 +174,7 @@ module _ (limits : Limits) (s : List ℕ) (readable : Readable limits s) where
   pub readable-root : kindOf s 0 ≡ kindRoot
   readable-root = kind-root (kindOf s 0) (readable-row 0 readable-some .kind)
 
-  pub readable-kind : (k : ℕ) → (k ≡ 0 → ⊥) → k < rowCount s → (kindOf s k ≡ kindSome) ⊎ (kindOf s k ≡ kindAll)
+  pub readable-kind : (k : ℕ) → (k ≡ 0 → ⊥) → k < rowCount s → (kindOf s k ≡ kindExists) ⊎ (kindOf s k ≡ kindForAll)
   readable-kind k later h = kind-later k (kindOf s k) later (readable-row k h .kind)
 
   pub readable-root-role : roleOf s 0 ≡ 0
@@ -163,3 +197,23 @@ module _ (limits : Limits) (s : List ℕ) (readable : Readable limits s) where
 
   pub readable-impossible : (k : ℕ) → k < rowCount s → impossibleOf s k ≤ 1
   readable-impossible k h = impossible-most (impossibleOf s k) (readable-row k h .impossible)
+
+-- ---- and as a view
+
+pub readable-view : (limits : Limits) (s : List ℕ) → Bytes s → Readable limits s → Proper limits (viewOf s)
+unfolding viewOf
+readable-view limits s bytes readable =
+    record {
+      some = readable-some limits s readable;
+      most = readable-most limits s readable;
+      root-kind = readable-root limits s readable;
+      root-role = readable-root-role limits s readable;
+      root-parent = readable-root-parent limits s readable;
+      kinds = readable-kind limits s readable;
+      roles-below = readable-role limits s readable;
+      parents-below = readable-parent limits s readable;
+      shallow = readable-depth limits s readable;
+      impossible-most = readable-impossible limits s readable;
+      wanted-fits = λ k. wanted-fits s bytes k;
+      excluded-fits = λ k. excluded-fits s bytes k;
+    }

@@ -12,7 +12,7 @@ use Prim.Native.Nat.{ℕ}
 use lib.Dec.{eqb, leb, ltb}
 use lib.ListN.{length}
 use Rattle.table.specs.Pick.{pick}
-use Rattle.table.specs.Layout.{«place», headSize, rowTag, endTag, rowLength, endLength, rowSize, endSize, kindRoot, kindSome, kindAll, roles}
+use Rattle.table.specs.Layout.{«place», headSize, rowTag, endTag, rowLength, endLength, rowSize, endSize, kindRoot, kindExists, kindForAll, roles}
 use Rattle.table.specs.Fields.{tagOf, lengthOf, parentOf, kindOf, roleOf, impossibleOf}
 use Rattle.table.specs.declared.layout.Limits.{Limits}
 use Rattle.picture.specs.Depth.{depth}
@@ -27,13 +27,13 @@ ask q false next = Bad q
 unfoldable pub tagOk : ℕ → Bool
 tagOk tag = eqb tag rowTag || eqb tag endTag
 
--- 4. Is the length 21 or 0 to match?
+-- 4. Is the length 21 or 0 to match? By then 3 has left two tags.
 unfoldable pub lengthFor : ℕ → ℕ
 lengthFor tag = pick (eqb tag rowTag) rowLength endLength
 
 -- 9. Is the kind 0 in row 0, else 1 or 2?
 unfoldable pub kindOk : ℕ → ℕ → Bool
-kindOk n kind = pick (eqb n 0) (eqb kind kindRoot) (eqb kind kindSome || eqb kind kindAll)
+kindOk n kind = pick (eqb n 0) (eqb kind kindRoot) (eqb kind kindExists || eqb kind kindForAll)
 
 -- 10. Is the role below 32, and 0 in row 0?
 unfoldable pub roleOk : ℕ → ℕ → Bool

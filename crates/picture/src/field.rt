@@ -3,9 +3,9 @@ use table::layout::END_LENGTH;
 use table::layout::END_SIZE;
 use table::layout::END_TAG;
 use table::layout::HEAD_SIZE;
-use table::layout::KIND_ALL;
+use table::layout::KIND_EXISTS;
+use table::layout::KIND_FOR_ALL;
 use table::layout::KIND_ROOT;
-use table::layout::KIND_SOME;
 use table::layout::Limits;
 use table::layout::MAX_ROWS;
 use table::layout::ROLES;
@@ -46,7 +46,7 @@ fn tag_ok(tag: u8) -> bool
     }
 }
 
-// The length that 4 asks for.
+// The length that 4 asks for; by then 3 has left two tags.
 fn length_for(tag: u8) -> usize
     ensures { λ r. ⌜ r ≡ lengthFor tag ⌝ }
 {
@@ -69,8 +69,8 @@ fn kind_ok(s: &[u8], n: usize) -> bool
         }
     } else {
         match kind {
-            KIND_SOME => true,
-            KIND_ALL => true,
+            KIND_EXISTS => true,
+            KIND_FOR_ALL => true,
             0 | 3..=0xFF => false,
         }
     }
@@ -182,9 +182,8 @@ pub fn field_at(s: &[u8], n: usize, limits: Limits, depths: &[u8; MAX_ROWS]) -> 
     if length(s, n) != length_for(tag) {
         return Field::Bad(4);
     }
-    if tag == ROW_TAG {
-        row_field(s, n, limits, depths)
-    } else {
-        end_field(s, n)
+    match tag {
+        ROW_TAG => row_field(s, n, limits, depths),
+        0..=0x0F | 0x11..=0xFF => end_field(s, n),
     }
 }

@@ -1,4 +1,5 @@
 -- The laws of the definitions, by subject.
+pub mod Bools
 pub mod Sizes
 pub mod Puts
 pub mod Numbers

@@ -1,4 +1,9 @@
 -- Laws of `put`.
+--   put-paste                       what a copying loop makes is a `put`
+--   put-nil                         nothing put changes nothing
+--   length-put                      the length stays
+--   put-put, put-three              runs put one after the other
+--   put-before, put-in, put-after   what stands before the run, in it and after it
 use mathlib.Core.Path.{_≡_, ap, sym, _∙_}
 use mathlib.Core.List.{List, [], _++_, append-assoc, append-nil}
 use Prim.Native.Nat.{ℕ, _+_, _-_, _≤_, _<_}

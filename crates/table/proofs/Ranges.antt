@@ -9,13 +9,14 @@
 use mathlib.Core.Path.{_≡_, refl, _∙_}
 use mathlib.Core.Bool.{Bool, true, false, _&&_, _||_, false≢true, or-true}
 use mathlib.Core.List.{List, [], _++_}
-use mathlib.Core.Logic.{_⊎_, inl, inr, ⊎-elim}
+use mathlib.Core.Logic.{_⊎_, ⊎-elim}
 use Prim.Native.Nat.{ℕ, zero, suc, _+_, _-_, _≤_, _<_}
 use native.Mathlib.Nat.{eq-or-lt-of-le}
 use native.Mathlib.Numerals.{add-one}
 use native.Mathlib.Omega.{arith}
 use lib.ListN.{length, length-append}
 use Rattle.table.specs.Range.{some, each, upTo}
+use Rattle.table.proofs.Bools.{either, both}
 
 -- one turn of a loop
 
@@ -48,14 +49,6 @@ unfolding each
 each-done f n i h = let e : n - i ≡ zero = omega arith in rw e
 
 -- what the tests mean
-
-either : (a b : Bool) → (a || b) ≡ true → (a ≡ true) ⊎ (b ≡ true)
-either true b e = inl refl
-either false b e = inr e
-
-both : (a b : Bool) → (a && b) ≡ true → (a ≡ true) × (b ≡ true)
-both true b e = (refl, e)
-both false b e = absurd (false≢true e)
 
 pub some-at : (f : ℕ → Bool) (n j : ℕ) → some f n j ≡ true → (k : ℕ) × (j ≤ k) × (k < j + n) × (f k ≡ true)
 unfolding some

@@ -4,6 +4,7 @@
 --   parent-same, kind-same, role-same,
 --   impossible-same, wanted-same,
 --   excluded-same                         fields with the same bytes have the same parts
+--   same-take                             the first bytes of a list hold its first rows
 --   length-rowBytes, length-endBytes      the sizes of a row and of the end field
 --   pushed, ended                         the table d with a row, or with the end field, put at n
 --   row-put, row-tag, row-length,
@@ -21,11 +22,12 @@ use native.Mathlib.Nat.{add-assoc, zero-add}
 use native.Mathlib.Decide.{decLt}
 use native.Mathlib.Omega.{arith}
 use lib.ListN.{length, take, getD}
-use Rattle.table.specs.Layout.{«place», rowTag, endTag, endLength, endSize, headSize, nameBytes, nameCount, parentAt, kindAt, roleAt, impossibleAt, wantedAt, excludedAt, rowLength, rowSize}
+use lib.Seq.{getD-take}
+use Rattle.table.specs.Layout.{numberSize, «place», rowTag, endTag, endLength, endSize, headSize, nameBytes, nameCount, parentAt, kindAt, roleAt, impossibleAt, wantedAt, excludedAt, rowLength, rowSize}
 use Rattle.table.specs.Number.{Bytes, be, beBytes}
 use Rattle.table.specs.NameSet.{setOf}
 use Rattle.table.specs.Put.{put}
-use Rattle.table.specs.Fields.{tagOf, lengthOf, parentOf, kindOf, roleOf, impossibleOf, wantedOf, excludedOf, rowBytes, endBytes}
+use Rattle.table.specs.Fields.{tagOf, lengthOf, parentOf, kindOf, roleOf, impossibleOf, wantedOf, excludedOf, rowOf, rowBytes, endBytes}
 use Rattle.table.specs.declared.row.Row.{Row}
 use Rattle.table.proofs.Puts.{put-before, put-in, put-after}
 use Rattle.table.proofs.Numbers.{be-same, be-bound, be-inside}
@@ -47,7 +49,7 @@ module _ {k : ℕ} {s : List ℕ} {m : ℕ} {t : List ℕ} {n : ℕ} (e : Same k
 
 module _ {s : List ℕ} {m : ℕ} {t : List ℕ} {n : ℕ} (e : Same rowSize s m t n) where
   pub parent-same : parentOf s m ≡ parentOf t n
-  parent-same = number-same e parentAt 2 (omega arith)
+  parent-same = number-same e parentAt numberSize (omega arith)
 
   pub kind-same : kindOf s m ≡ kindOf t n
   kind-same = e .byte kindAt (omega arith)
@@ -63,6 +65,10 @@ module _ {s : List ℕ} {m : ℕ} {t : List ℕ} {n : ℕ} (e : Same rowSize s m
 
   pub excluded-same : excludedOf s m ≡ excludedOf t n
   excluded-same = number-same e excludedAt nameBytes (omega arith)
+
+-- a table that is the first bytes of a longer list
+pub same-take : (s : List ℕ) (m n : ℕ) → place n rowSize ≤ m → Same rowSize (take m s) n s n
+same-take s m n h = record { byte = λ i l. getD-take m s (place n i) 0 (omega arith) }
 
 -- bytes put at a row's place
 
@@ -87,7 +93,7 @@ field-other d s n m h w u = record { byte = keeps }
 -- a row
 
 pub length-rowBytes : (r : Row) → length (rowBytes r) ≡ rowSize
-unfolding rowBytes beBytes
+unfolding rowOf beBytes
 length-rowBytes r = refl
 
 abbrev pub pushed : List ℕ → ℕ → Row → List ℕ
@@ -102,35 +108,35 @@ module _ (d : List ℕ) (n : ℕ) (r : Row) (h : place n rowSize ≤ length d) w
   row-same = record { byte = λ i l. row-put i l ∙ ap (λ (j : ℕ). getD (rowBytes r) j 0) (sym (zero-add i)) }
 
   pub row-tag : tagOf (pushed d n r) n ≡ rowTag
-  unfolding rowBytes
+  unfolding rowOf
   row-tag = tag-same row-same (omega arith)
 
   pub row-length : lengthOf (pushed d n r) n ≡ rowLength
-  unfolding rowBytes beBytes be
+  unfolding rowOf beBytes be
   row-length = length-same row-same (omega arith)
 
   pub row-parent : r .parent < 256 ^ 2 → parentOf (pushed d n r) n ≡ r .parent
-  unfolding rowBytes beBytes
-  row-parent f = parent-same row-same ∙ be-inside (take parentAt (rowBytes r)) _ 2 (r .parent) f
+  unfolding rowOf beBytes
+  row-parent f = parent-same row-same ∙ be-inside (take parentAt (rowBytes r)) _ numberSize (r .parent) f
 
   pub row-kind : kindOf (pushed d n r) n ≡ r .kind
-  unfolding rowBytes beBytes
+  unfolding rowOf beBytes
   row-kind = kind-same row-same
 
   pub row-role : roleOf (pushed d n r) n ≡ r .role
-  unfolding rowBytes beBytes
+  unfolding rowOf beBytes
   row-role = role-same row-same
 
   pub row-impossible : impossibleOf (pushed d n r) n ≡ r .impossible
-  unfolding rowBytes beBytes
+  unfolding rowOf beBytes
   row-impossible = impossible-same row-same
 
   pub row-wanted : setOf (r .wanted) < 2 ^ nameCount → wantedOf (pushed d n r) n ≡ setOf (r .wanted)
-  unfolding rowBytes beBytes
+  unfolding rowOf beBytes
   row-wanted f = wanted-same row-same ∙ be-inside (take wantedAt (rowBytes r)) _ nameBytes (setOf (r .wanted)) f
 
   pub row-excluded : setOf (r .excluded) < 2 ^ nameCount → excludedOf (pushed d n r) n ≡ setOf (r .excluded)
-  unfolding rowBytes beBytes
+  unfolding rowOf beBytes
   row-excluded f = excluded-same row-same ∙ be-inside (take excludedAt (rowBytes r)) [] nameBytes (setOf (r .excluded)) f
 
   pub row-other : (m : ℕ) → (m ≡ n → ⊥) → Same rowSize (pushed d n r) m d m
@@ -166,8 +172,8 @@ module _ (d : List ℕ) (n : ℕ) (h : place n endSize ≤ length d) where
 -- the fields of a list of bytes fit their widths
 
 module _ (s : List ℕ) (bytes : Bytes s) (n : ℕ) where
-  pub parent-fits : parentOf s n < 65536
-  parent-fits = be-bound s (place n parentAt) 2 (λ i h. bytes (place n parentAt + i))
+  pub parent-fits : parentOf s n < 256 ^ numberSize
+  parent-fits = be-bound s (place n parentAt) numberSize (λ i h. bytes (place n parentAt + i))
 
   pub wanted-fits : wantedOf s n < 2 ^ nameCount
   wanted-fits = be-bound s (place n wantedAt) nameBytes (λ i h. bytes (place n wantedAt + i))

@@ -3,14 +3,14 @@ use mathlib.Core.Path.{_≡_, refl}
 use Rattle.table.specs.Layout.{nameCount, rowLength, rowSize}
 use Rattle.table.specs.Bounds.{benchLimits, pictureSize}
 
-pub names-are-64 : nameCount ≡ 64
-names-are-64 = refl
+pub name-count-agrees : nameCount ≡ 64
+name-count-agrees = refl
 
-pub row-length-is-21 : rowLength ≡ 21
-row-length-is-21 = refl
+pub row-length-agrees : rowLength ≡ 21
+row-length-agrees = refl
 
-pub row-size-is-24 : rowSize ≡ 24
-row-size-is-24 = refl
+pub row-size-agrees : rowSize ≡ 24
+row-size-agrees = refl
 
-pub picture-size-is-6147 : pictureSize benchLimits ≡ 6147
-picture-size-is-6147 = refl
+pub picture-size-agrees : pictureSize benchLimits ≡ 6147
+picture-size-agrees = refl

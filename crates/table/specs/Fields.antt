@@ -2,12 +2,12 @@
 --   HasRow                                                         whether row n stands in the table s
 --   parentOf, kindOf, roleOf, impossibleOf, wantedOf, excludedOf   what stands in row n of the table s
 --   tagOf, lengthOf                                                the head of field n
---   rowBytes                                                       the bytes of a row
+--   rowOf, rowBytes                                                the bytes of a row, from its parts and by value
 --   endBytes                                                       the bytes of the end field
 use mathlib.Core.List.{List, [], _∷_, _++_}
 use Prim.Native.Nat.{ℕ, _≤_, _<_}
 use lib.ListN.{length, getD}
-use Rattle.table.specs.Layout.{«place», rowTag, endTag, endLength, nameBytes, parentAt, kindAt, roleAt, impossibleAt, wantedAt, excludedAt, rowLength, rowSize}
+use Rattle.table.specs.Layout.{«place», numberSize, lengthAt, rowTag, endTag, endLength, nameBytes, parentAt, kindAt, roleAt, impossibleAt, wantedAt, excludedAt, rowLength, rowSize}
 use Rattle.table.specs.Bounds.{maxRows}
 use Rattle.table.specs.Number.{be, beBytes}
 use Rattle.table.specs.NameSet.{setOf}
@@ -21,10 +21,10 @@ abbrev pub tagOf : List ℕ → ℕ → ℕ
 tagOf s n = getD s (place n 0) 0
 
 abbrev pub lengthOf : List ℕ → ℕ → ℕ
-lengthOf s n = be s (place n 1) 2
+lengthOf s n = be s (place n lengthAt) numberSize
 
 abbrev pub parentOf : List ℕ → ℕ → ℕ
-parentOf s n = be s (place n parentAt) 2
+parentOf s n = be s (place n parentAt) numberSize
 
 abbrev pub kindOf : List ℕ → ℕ → ℕ
 kindOf s n = getD s (place n kindAt) 0
@@ -41,14 +41,18 @@ wantedOf s n = be s (place n wantedAt) nameBytes
 abbrev pub excludedOf : List ℕ → ℕ → ℕ
 excludedOf s n = be s (place n excludedAt) nameBytes
 
-unfoldable pub rowBytes : Row → List ℕ
-rowBytes r =
+unfoldable pub rowOf : ℕ → ℕ → ℕ → ℕ → ℕ → ℕ → List ℕ
+rowOf parent kind role impossible wanted excluded =
     (rowTag ∷ [])
-    ++ (beBytes 2 rowLength
-    ++ (beBytes 2 (r .parent)
-    ++ ((r .kind ∷ r .role ∷ r .impossible ∷ [])
-    ++ (beBytes nameBytes (setOf (r .wanted))
-    ++ beBytes nameBytes (setOf (r .excluded))))))
+    ++ (beBytes numberSize rowLength
+    ++ (beBytes numberSize parent
+    ++ ((kind ∷ role ∷ impossible ∷ [])
+    ++ (beBytes nameBytes wanted
+    ++ beBytes nameBytes excluded))))
+
+-- of a row that the code has by value
+abbrev pub rowBytes : Row → List ℕ
+rowBytes r = rowOf (r .parent) (r .kind) (r .role) (r .impossible) (setOf (r .wanted)) (setOf (r .excluded))
 
 unfoldable pub endBytes : List ℕ
-endBytes = (endTag ∷ []) ++ beBytes 2 endLength
+endBytes = (endTag ∷ []) ++ beBytes numberSize endLength

@@ -1,9 +1,27 @@
 -- 01, "The file": the numbers of the format. Each number of the paper stands once; the others are computed from them.
+--   tagSize, numberSize, headSize       the parts of a field's head, and the head
+--   rowTag, endTag                      tags
+--   nameBytes, nameCount                a set of names: its bytes, and how many names there are
+--   lengthAt, parentAt .. excludedAt    where each part of a field begins, from its tag on
+--   rowLength, endLength                the lengths that heads say
+--   rowSize, endSize                    whole fields
+--   kindRoot, kindExists, kindForAll    kinds of row
+--   roles                               how many roles there are
+--   place                               where a part of a row stands
 use Prim.Native.Nat.{ℕ, _+_, _*_, _-_}
 
--- a field: one byte of tag, two of length, then the value
+-- a field: one byte of tag, a number of two bytes for the length, then the value
+abbrev pub tagSize : ℕ
+tagSize = 1
+
+abbrev pub numberSize : ℕ
+numberSize = 2
+
+abbrev pub lengthAt : ℕ
+lengthAt = tagSize
+
 abbrev pub headSize : ℕ
-headSize = 3
+headSize = lengthAt + numberSize
 
 abbrev pub rowTag : ℕ
 rowTag = 0x10
@@ -30,7 +48,7 @@ abbrev pub parentAt : ℕ
 parentAt = headSize
 
 abbrev pub kindAt : ℕ
-kindAt = parentAt + 2
+kindAt = parentAt + numberSize
 
 abbrev pub roleAt : ℕ
 roleAt = kindAt + 1
@@ -53,11 +71,11 @@ rowLength = rowSize - headSize
 abbrev pub kindRoot : ℕ
 kindRoot = 0
 
-abbrev pub kindSome : ℕ
-kindSome = 1
+abbrev pub kindExists : ℕ
+kindExists = 1
 
-abbrev pub kindAll : ℕ
-kindAll = 2
+abbrev pub kindForAll : ℕ
+kindForAll = 2
 
 abbrev pub roles : ℕ
 roles = 32

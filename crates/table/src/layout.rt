@@ -4,8 +4,14 @@ ghost use Prim.Native.Nat.{ℕ, _+_, _≤_, _<_};
 ghost use Rattle.table.specs.Layout.{«place», rowSize};
 ghost use Rattle.table.specs.Bounds.{benchLimits, maxRows};
 
-// A field: one byte of tag, two of length, then the value.
-pub const HEAD_SIZE: usize = 3;
+// A field: one byte of tag, a number of two bytes for the length, then the value.
+pub const TAG_SIZE: usize = 1;
+
+pub const NUMBER_SIZE: usize = 2;
+
+pub const LENGTH_AT: usize = TAG_SIZE;
+
+pub const HEAD_SIZE: usize = LENGTH_AT + NUMBER_SIZE;
 
 pub const ROW_TAG: u8 = 0x10;
 
@@ -21,7 +27,7 @@ pub const NAME_BYTES: usize = 8;
 // Where the parts of a row's field begin, from its tag on.
 pub const PARENT_AT: usize = HEAD_SIZE;
 
-pub const KIND_AT: usize = PARENT_AT + 2;
+pub const KIND_AT: usize = PARENT_AT + NUMBER_SIZE;
 
 pub const ROLE_AT: usize = KIND_AT + 1;
 
@@ -37,9 +43,9 @@ pub const ROW_LENGTH: usize = ROW_SIZE - HEAD_SIZE;
 
 pub const KIND_ROOT: u8 = 0;
 
-pub const KIND_SOME: u8 = 1;
+pub const KIND_EXISTS: u8 = 1;
 
-pub const KIND_ALL: u8 = 2;
+pub const KIND_FOR_ALL: u8 = 2;
 
 pub const ROLES: u8 = 32;
 

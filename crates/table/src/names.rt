@@ -3,16 +3,16 @@ use crate::layout::NAME_BYTES;
 use crate::number::copy_in;
 use crate::number::load64;
 ghost use mathlib.Core.Path.{_≡_};
-ghost use Prim.Native.Nat.{ℕ, _+_, _≤_, _<_};
+ghost use Prim.Native.Nat.{ℕ, _+_, _^_, _≤_, _<_};
 ghost use lib.ListN.{length};
 ghost use lib.Dec.{eqb};
-ghost use Rattle.table.specs.Layout.{nameBytes};
+ghost use Rattle.table.specs.Layout.{nameBytes, nameCount};
 ghost use Rattle.table.specs.Number.{be, beBytes};
 ghost use Rattle.table.specs.Put.{put};
 ghost use Rattle.table.specs.NameSet.{setOf, none, union, intersection, complement, subset, overlap};
 
 pub struct Names {
-    pub word: u64,
+    word: u64,
 }
 
 impl Names {
@@ -25,7 +25,7 @@ impl Names {
     // The set that stands at a place of s.
     pub fn load(s: &[u8], at: usize) -> Names
         requires { ⌜ at + nameBytes ≤ length (now s) ⌝ }
-        ensures { λ r. ⌜ setOf r ≡ be (now (s .entry)) at nameBytes ⌝ }
+        ensures { λ r. ⌜ (setOf r ≡ be (now (s .entry)) at nameBytes) × (setOf r < 2 ^ nameCount) ⌝ }
     {
         Names {
             word: load64(s, at),

@@ -2,6 +2,7 @@
 use crate::layout::EXCLUDED_AT;
 use crate::layout::IMPOSSIBLE_AT;
 use crate::layout::KIND_AT;
+use crate::layout::LENGTH_AT;
 use crate::layout::PARENT_AT;
 use crate::layout::ROLE_AT;
 use crate::layout::WANTED_AT;
@@ -9,9 +10,9 @@ use crate::layout::place;
 use crate::names::Names;
 use crate::number::load16;
 ghost use mathlib.Core.Path.{_≡_};
-ghost use Prim.Native.Nat.{ℕ, _+_, _≤_, _<_};
+ghost use Prim.Native.Nat.{ℕ, _+_, _^_, _≤_, _<_};
 ghost use lib.ListN.{length, getD};
-ghost use Rattle.table.specs.Layout.{«place», nameBytes, headSize, rowSize};
+ghost use Rattle.table.specs.Layout.{«place», numberSize, nameBytes, nameCount, headSize, rowSize};
 ghost use Rattle.table.specs.Number.{be};
 ghost use Rattle.table.specs.Bounds.{maxRows};
 ghost use Rattle.table.specs.NameSet.{setOf};
@@ -36,15 +37,15 @@ fn byte(s: &[u8], row: usize, offset: usize) -> u8
 }
 
 fn number(s: &[u8], row: usize, offset: usize) -> usize
-    requires { ⌜ (row ≤ maxRows) × (offset ≤ rowSize) × («place» row offset + 2 ≤ length (now s)) ⌝ }
-    ensures { λ r. ⌜ r ≡ be (now (s .entry)) («place» row offset) 2 ⌝ }
+    requires { ⌜ (row ≤ maxRows) × (offset ≤ rowSize) × («place» row offset + numberSize ≤ length (now s)) ⌝ }
+    ensures { λ r. ⌜ (r ≡ be (now (s .entry)) («place» row offset) numberSize) × (r < 256 ^ numberSize) ⌝ }
 {
     load16(s, place(row, offset)) as usize
 }
 
 fn names(s: &[u8], row: usize, offset: usize) -> Names
     requires { ⌜ (row ≤ maxRows) × (offset ≤ rowSize) × («place» row offset + nameBytes ≤ length (now s)) ⌝ }
-    ensures { λ r. ⌜ setOf r ≡ be (now (s .entry)) («place» row offset) nameBytes ⌝ }
+    ensures { λ r. ⌜ (setOf r ≡ be (now (s .entry)) («place» row offset) nameBytes) × (setOf r < 2 ^ nameCount) ⌝ }
 {
     Names::load(s, place(row, offset))
 }
@@ -59,15 +60,15 @@ pub fn tag(s: &[u8], row: usize) -> u8
 
 pub fn length(s: &[u8], row: usize) -> usize
     requires { ⌜ (row ≤ maxRows) × («place» row headSize ≤ length (now s)) ⌝ }
-    ensures { λ r. ⌜ r ≡ lengthOf (now (s .entry)) row ⌝ }
+    ensures { λ r. ⌜ (r ≡ lengthOf (now (s .entry)) row) × (r < 256 ^ numberSize) ⌝ }
 {
-    number(s, row, 1)
+    number(s, row, LENGTH_AT)
 }
 
 // The value of a row.
 pub fn parent(s: &[u8], row: usize) -> usize
     requires { ⌜ HasRow (now s) row ⌝ }
-    ensures { λ r. ⌜ r ≡ parentOf (now (s .entry)) row ⌝ }
+    ensures { λ r. ⌜ (r ≡ parentOf (now (s .entry)) row) × (r < 256 ^ numberSize) ⌝ }
 {
     number(s, row, PARENT_AT)
 }
@@ -95,14 +96,14 @@ pub fn impossible(s: &[u8], row: usize) -> u8
 
 pub fn wanted(s: &[u8], row: usize) -> Names
     requires { ⌜ HasRow (now s) row ⌝ }
-    ensures { λ r. ⌜ setOf r ≡ wantedOf (now (s .entry)) row ⌝ }
+    ensures { λ r. ⌜ (setOf r ≡ wantedOf (now (s .entry)) row) × (setOf r < 2 ^ nameCount) ⌝ }
 {
     names(s, row, WANTED_AT)
 }
 
 pub fn excluded(s: &[u8], row: usize) -> Names
     requires { ⌜ HasRow (now s) row ⌝ }
-    ensures { λ r. ⌜ setOf r ≡ excludedOf (now (s .entry)) row ⌝ }
+    ensures { λ r. ⌜ (setOf r ≡ excludedOf (now (s .entry)) row) × (setOf r < 2 ^ nameCount) ⌝ }
 {
     names(s, row, EXCLUDED_AT)
 }

@@ -5,10 +5,8 @@ ghost use mathlib.Core.Path.{_≡_};
 ghost use Prim.Native.Nat.{ℕ, _+_, _*_, _^_, _≤_, _<_};
 ghost use Rattle.zuvaropy.specs.Word.{outcomeNo, valueWord, refusalWord, inputCode, cardOf};
 
-// Outcomes that are no refusal.
+// The outcome of an answer.
 pub const YES: u64 = 1;
-
-pub const NO: u64 = 2;
 
 // Weights of the parts of a word.
 const OUTCOME: u64 = 0x0100_0000_0000_0000;

@@ -19,7 +19,7 @@ parent-requires c κs = search needs
 element-copy-out-wide : tie.Need-element-copy-out-wide
 element-copy-out-wide c =
     let a = c .before .before .before .args in
-    omega (arith, c .parent .ensures, parent-below (a .n) (parentOf (now (a .s)) (a .n)) (c .before .if1 .left) (c .before .before .before .pre .1 .1), c .before .before .before)
+    omega (arith, c .parent .ensures .0, parent-below (a .n) (parentOf (now (a .s)) (a .n)) (c .before .if1 .left) (c .before .before .before .pre .1 .1), c .before .before .before)
 
 wide-requires : tie.Need-wide-requires
 wide-requires c κs = search needs
@@ -31,7 +31,7 @@ returns-2 : tie.Need-returns-2
 returns-2 c =
     let a = c .before .before .before .before .before .args in
     let below : parentOf (now (a .s)) (a .n) < a .n = parent-below (a .n) (parentOf (now (a .s)) (a .n)) (c .before .before .before .if1 .left) (c .before .before .before .before .before .pre .1 .1) in
-    rw (c .wide .ensures .0, c .before .before .parent .ensures) (sym (depth-known (now (a .s)) (now (a .depths)) (a .n) (c .before .before .before .before .before .pre .1 .0) below))
+    rw (c .wide .ensures .0, c .before .before .parent .ensures .0) (sym (depth-known (now (a .s)) (now (a .depths)) (a .n) (c .before .before .before .before .before .pre .1 .0) below))
 
 pub depth-at-spec : {M : Type 1} → statement M
 depth-at-spec =

@@ -31,7 +31,7 @@ length-for-requires c κs = search needs
 
 returns-3 : tie.Need-returns-3
 unfolding fieldAt
-returns-3 c = rw (sym (c .before .before .before .before .before .before .before .place .ensures), sym (c .before .before .before .before .before .tag .ensures), sym (c .before .before .length .ensures), sym (c .before .length-for .ensures)) (simp (le-leb _ _ (c .before .before .before .before .before .before .if1 .left), sym (c .before .before .before .before .tag-ok .ensures) ∙ not-false _ (c .before .before .before .if2 .left), ne-eqb _ _ (c .if3 .taken)))
+returns-3 c = rw (sym (c .before .before .before .before .before .before .before .place .ensures), sym (c .before .before .before .before .before .tag .ensures), sym (c .before .before .length .ensures .0), sym (c .before .length-for .ensures)) (simp (le-leb _ _ (c .before .before .before .before .before .before .if1 .left), sym (c .before .before .before .before .tag-ok .ensures) ∙ not-false _ (c .before .before .before .if2 .left), ne-eqb _ _ (c .if3 .taken)))
 
 row-field-requires : tie.Need-row-field-requires
 row-field-requires c κs = search needs
@@ -41,11 +41,11 @@ end-field-requires c κs = search needs
 
 returns-4 : tie.Need-returns-4
 unfolding fieldAt
-returns-4 c = rw (sym (c .before .before .before .before .before .before .before .before .before .place .ensures), sym (c .before .before .before .before .before .before .before .tag .ensures), sym (c .before .before .before .before .length .ensures), sym (c .before .before .before .length-for .ensures)) (simp (le-leb _ _ (c .before .before .before .before .before .before .before .before .if1 .left), sym (c .before .before .before .before .before .before .tag-ok .ensures) ∙ not-false _ (c .before .before .before .before .before .if2 .left), eq-eqb _ _ (c .before .before .if3 .left), eq-eqb _ _ (c .before .if4 .taken)) (c .row-field .ensures))
+returns-4 c = rw (sym (c .before .before .before .before .before .before .before .before .before .place .ensures), sym (c .before .before .before .before .before .before .before .tag .ensures), sym (c .before .before .before .before .length .ensures .0), sym (c .before .before .before .length-for .ensures)) (simp (le-leb _ _ (c .before .before .before .before .before .before .before .before .if1 .left), sym (c .before .before .before .before .before .before .tag-ok .ensures) ∙ not-false _ (c .before .before .before .before .before .if2 .left), eq-eqb _ _ (c .before .before .if3 .left), eq-eqb _ _ (c .before .match .keys1)) (c .row-field .ensures))
 
 returns-5 : tie.Need-returns-5
 unfolding fieldAt
-returns-5 c = rw (sym (c .before .before .before .before .before .before .before .before .before .place .ensures), sym (c .before .before .before .before .before .before .before .tag .ensures), sym (c .before .before .before .before .length .ensures), sym (c .before .before .before .length-for .ensures)) (simp (le-leb _ _ (c .before .before .before .before .before .before .before .before .if1 .left), sym (c .before .before .before .before .before .before .tag-ok .ensures) ∙ not-false _ (c .before .before .before .before .before .if2 .left), eq-eqb _ _ (c .before .before .if3 .left), ne-eqb _ _ (c .before .if4 .left)) (c .end-field .ensures))
+returns-5 c = rw (sym (c .before .before .before .before .before .before .before .before .before .place .ensures), sym (c .before .before .before .before .before .before .before .tag .ensures), sym (c .before .before .before .before .length .ensures .0), sym (c .before .before .before .length-for .ensures)) (simp (le-leb _ _ (c .before .before .before .before .before .before .before .before .if1 .left), sym (c .before .before .before .before .before .before .tag-ok .ensures) ∙ not-false _ (c .before .before .before .before .before .if2 .left), eq-eqb _ _ (c .before .before .if3 .left), ne-eqb _ _ (c .before .match .rest .1)) (c .end-field .ensures))
 
 pub field-at-spec : {M : Type 1} → statement M
 field-at-spec =

@@ -11,11 +11,11 @@ parent-requires c κs = search needs
 
 returns : tie.Need-returns
 unfolding parentOk
-returns c = rw (sym (c .before .parent .ensures)) (simp (eq-eqb _ _ (c .if1 .taken)))
+returns c = rw (sym (c .before .parent .ensures .0)) (simp (eq-eqb _ _ (c .if1 .taken)))
 
 returns-2 : tie.Need-returns-2
 unfolding parentOk
-returns-2 c = rw (sym (c .before .parent .ensures)) (simp (ne-eqb _ _ (c .if1 .left)))
+returns-2 c = rw (sym (c .before .parent .ensures .0)) (simp (ne-eqb _ _ (c .if1 .left)))
 
 pub parent-ok-spec : {M : Type 1} → statement M
 parent-ok-spec = tie.close (tie.spec parent-requires returns returns-2)

@@ -11,7 +11,7 @@ load-requires : tie.Need-load-requires
 load-requires c κs = search needs
 
 returns : tie.Need-returns
-returns c = c .load .ensures ∙ rw (c .before .place .ensures)
+returns c = (c .load .ensures .0 ∙ rw (c .before .place .ensures), c .load .ensures .1)
 
 pub names-spec : {M : Type 1} → statement M
 names-spec = tie.close (tie.spec place-requires load-requires returns)

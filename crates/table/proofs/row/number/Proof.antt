@@ -11,7 +11,7 @@ load16-requires : tie.Need-load16-requires
 load16-requires c κs = search needs
 
 returns : tie.Need-returns
-returns c = c .load16 .ensures .0 ∙ rw (c .before .place .ensures)
+returns c = (c .load16 .ensures .0 ∙ rw (c .before .place .ensures), c .load16 .ensures .1)
 
 pub number-spec : {M : Type 1} → statement M
 number-spec = tie.close (tie.spec place-requires load16-requires returns)

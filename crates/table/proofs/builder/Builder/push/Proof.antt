@@ -5,7 +5,7 @@ use native.Mathlib.Omega.{arith}
 use denote.Ref.{now}
 use Rattle.table.specs.Layout.{«place»}
 use Rattle.table.specs.Number.{beBytes}
-use Rattle.table.specs.Fields.{rowBytes}
+use Rattle.table.specs.Fields.{rowOf}
 use Rattle.table.proofs.Puts.{put-three}
 use borrow.Author.Needs.{needs}
 use Rattle.table.proofs.builder.Builder.push.Statement.{statement}
@@ -51,7 +51,7 @@ same-length : tie.Need-same-length
 same-length c = search needs
 
 returns : tie.Need-returns
-unfolding rowBytes beBytes
+unfolding rowOf beBytes
 returns c =
     let a = c .before .before .before .before .before .before .before .before .before .before .before .before .before .before .before .before .before .before .before .before .before .args in
     let p = c .before .before .before .before .before .before .before .before .before .before .before .before .before .before .copy-in in

@@ -1,0 +1,2 @@
+-- Laws of the answer word.
+pub mod Words
