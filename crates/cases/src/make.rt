@@ -1,13 +1,20 @@
-// Pictures made byte by byte, good or not. Each function gives the place after what it wrote, and writes nothing where there
-// is no room.
+// Pictures, good or not. Each function gives the place after what it wrote; those that go byte by byte write nothing where
+// there is no room.
+use table::builder::Builder;
 use table::layout::END_SIZE;
 use table::layout::END_TAG;
+use table::layout::KIND_EXISTS;
+use table::layout::KIND_FOR_ALL;
+use table::layout::KIND_ROOT;
 use table::layout::ROW_LENGTH;
 use table::layout::ROW_SIZE;
 use table::layout::ROW_TAG;
+use table::names::Names;
 use table::number::copy_in;
+use table::row::Row;
 ghost use Prim.Native.Nat.{_≤_};
 ghost use lib.ListN.{length};
+ghost use Rattle.table.specs.Layout.{«place», endSize};
 
 pub fn set(out: &mut [u8], at: usize, value: u8) {
     if at < out.len() {
@@ -63,12 +70,25 @@ pub fn rows(out: &mut [u8], count: usize, chain: bool) -> usize
     at
 }
 
+fn plain(parent: usize, kind: u8, role: u8) -> Row {
+    Row {
+        parent,
+        kind,
+        role,
+        impossible: 0,
+        wanted: Names::none(),
+        excluded: Names::none(),
+    }
+}
+
 // Three rows: a root, a some-successor, and an all-successor of that.
 pub fn small(out: &mut [u8]) -> usize
+    requires { ⌜ «place» 3 endSize ≤ length (now out) ⌝ }
     ensures { λ r. ⌜ r ≤ length (now (out .exit)) ⌝ }
 {
-    let one = row(out, 0, 0, 0, 0);
-    let two = row(out, one, 0, 1, 8);
-    let three = row(out, two, 1, 2, 9);
-    end(out, three)
+    let none = Builder::new();
+    let one = none.push(out, plain(0, KIND_ROOT, 0));
+    let two = one.push(out, plain(0, KIND_EXISTS, 8));
+    let three = two.push(out, plain(1, KIND_FOR_ALL, 9));
+    three.finish(out)
 }

@@ -1,4 +1,4 @@
-// What a call answers.
+// What reading a picture answers. The refusal is that of every call.
 
 // Which input a refusal concerns. A card book's cards are numbered from 0.
 pub enum Input {

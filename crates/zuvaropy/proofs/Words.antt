@@ -4,21 +4,19 @@
 --   value-outcome, value-value              those of an answer
 --   codes-agree                             the words of a refusal of each input, computed
 --   validate-readable, readable-validate    the plain test answers with a row count exactly when the picture is readable
-use mathlib.Core.Path.{_≡_, refl, sym, _∙_}
+use mathlib.Core.Path.{_≡_, refl}
 use mathlib.Core.List.{List, [], _∷_}
-use Prim.Native.Nat.{ℕ, _+_, _*_, _/_, _%_, _^_, _≤_, _<_}
+use Prim.Native.Nat.{ℕ, _/_, _%_, _^_, _<_}
 use native.Mathlib.Omega.{arith}
 use Rattle.table.specs.Bounds.{benchLimits}
 use Rattle.picture.specs.declared.answer.Input.{Input}
 use Rattle.picture.specs.declared.answer.Input.the-variants.{Buffer, First, Second, Evidence, Book, Card}
 use Rattle.picture.specs.declared.answer.Refusal.{Refusal}
-use Rattle.picture.specs.declared.answer.Answer.{Answer}
 use Rattle.picture.specs.declared.answer.Answer.the-variants as answer
 use Rattle.picture.specs.declared.read.Reading.{Reading}
 use Rattle.picture.specs.declared.read.Reading.the-variants as reading
 use Rattle.picture.specs.Read.{readingOf, answered, answerOf}
 use Rattle.picture.specs.View.{Readable, rowCount}
-use Rattle.picture.proofs.Fields.{Asked}
 use Rattle.picture.proofs.Readables.{reading-answer, reading-number, readable-count}
 use Rattle.zuvaropy.specs.Word.{outcomeYes, inputCode, cardOf, valueWord, refusalWord, readWord}
 use Rattle.zuvaropy.specs.Calls.{validateWord}
