@@ -39,6 +39,7 @@ use Rattle.picture.specs.View.{Readable, Proper, viewOf, rowCount}
 use Rattle.table.specs.Number.{Bytes}
 use Rattle.table.proofs.Rows.{wanted-fits, excluded-fits}
 use Rattle.picture.proofs.Depths.{depth-under}
+use Rattle.picture.proofs.Scans.{rest-same}
 use Rattle.picture.proofs.Questions.{kind-root, kind-later, role-root, role-below, parent-root, parent-below, depth-most, impossible-most}
 use Rattle.picture.proofs.Fields.{RowOk, EndOk, Asked, row-ok, end-ok, ok-row, ok-end, field-number}
 
@@ -113,18 +114,12 @@ module _ (limits : Limits) (s : List ℕ) where
   unfolding readingOf
   reading-number q h = scan-number (suc (limits .rows)) 0 q h
 
-  -- what comes after a field matters only if the field is a row
-  rest-same : (f : Field) (n : ℕ) (a b : Reading) → fieldAt limits s n ≡ f → (RowOk limits s n → a ≡ b) → onField f n a ≡ onField f n b
-  rest-same (Row d) n a b e same = same (row-ok limits s n d e .0)
-  rest-same End n a b e same = refl
-  rest-same (Bad q) n a b e same = refl
-
   pub scan-enough : (more left n : ℕ) → limits .rows ≤ n + left → scanFrom (suc (left + more)) limits s n ≡ scanFrom (suc left) limits s n
   unfolding scanFrom
-  scan-enough more zero n h = rest-same (fieldAt limits s n) n _ _ refl (λ r. absurd (omega (arith, r .few)))
+  scan-enough more zero n h = rest-same limits s (fieldAt limits s n) n _ _ refl (λ r. absurd (omega (arith, r .few)))
   scan-enough more (suc left) n h =
       let e : suc left + more ≡ suc (left + more) = omega arith in
-      rest-same (fieldAt limits s n) n _ _ refl (λ r. rw e (scan-enough more left (n + 1) (omega arith)))
+      rest-same limits s (fieldAt limits s n) n _ _ refl (λ r. rw e (scan-enough more left (n + 1) (omega arith)))
 
   -- ---- the input named
 

@@ -12,7 +12,9 @@ use Rattle.table.specs.declared.layout.Limits.{Limits}
 use Rattle.picture.specs.Depth.{depth, Known}
 use Rattle.picture.specs.Questions.{fieldAt}
 use Rattle.picture.specs.Read.{onField, scanFrom, readingOf}
-use Rattle.picture.specs.declared.field.Field.the-variants.{Row}
+use Rattle.picture.specs.declared.field.Field.{Field}
+use Rattle.picture.specs.declared.field.Field.the-variants.{Row, End, Bad}
+use Rattle.picture.specs.declared.read.Reading.{Reading}
 use Rattle.picture.proofs.Questions.{parent-below}
 use Rattle.picture.proofs.Fields.{RowOk, row-ok}
 use Rattle.picture.proofs.Depths.{depth-root}
@@ -61,3 +63,9 @@ reading-second limits s d h =
     let f = row-ok limits s 0 d h .0 .few in
     let e : limits .rows ≡ suc (limits .rows - 1) = omega arith in
     reading-first limits s ∙ rw h (ap (λ (k : ℕ). scanFrom k limits s 1) e)
+
+-- what comes after a field matters only if the field is a row
+pub rest-same : (limits : Limits) (s : List ℕ) (f : Field) (n : ℕ) (a b : Reading) → fieldAt limits s n ≡ f → (RowOk limits s n → a ≡ b) → onField f n a ≡ onField f n b
+rest-same limits s (Row d) n a b e same = same (row-ok limits s n d e .0)
+rest-same limits s End n a b e same = refl
+rest-same limits s (Bad q) n a b e same = refl

@@ -13,12 +13,23 @@ ghost use Prim.Native.Nat.{_<_};
 ghost use lib.ListN.{length};
 ghost use Rattle.table.specs.Layout.{«place», rowSize};
 ghost use Rattle.table.specs.Bounds.{Bounded};
-ghost use Rattle.picture.specs.Read.{readingOf, answerOf};
+ghost use Rattle.picture.specs.Read.{onField, readingOf, answerOf};
 
 // What reading a picture gives, whichever input it is: its row count, or the number of the question answered no.
 pub enum Reading {
     Rows(usize),
     Failed(u8),
+}
+
+// The reading that a field ends which is no row.
+fn close(field: Field, n: usize) -> Reading
+    ensures { λ r. ⌜ r ≡ onField field n (Reading.Rows n) ⌝ }
+{
+    match field {
+        Field::Row(_) => Reading::Rows(n),
+        Field::End => Reading::Rows(n),
+        Field::Bad(number) => Reading::Failed(number),
+    }
 }
 
 // A file with no room for a second row. It needs no table of depths: clearing one takes longer than reading the file.
@@ -27,14 +38,11 @@ fn scan_one(s: &[u8], limits: Limits) -> Reading
     ensures { λ r. ⌜ r ≡ readingOf limits (now (s .entry)) ⌝ }
 {
     let depths = [0u8; MAX_ROWS];
-    match field_at(s, 0, limits, &depths) {
-        Field::Row(_) => match field_at(s, 1, limits, &depths) {
-            Field::Row(_) => Reading::Failed(6),
-            Field::End => Reading::Rows(1),
-            Field::Bad(number) => Reading::Failed(number),
-        },
-        Field::End => Reading::Rows(0),
-        Field::Bad(number) => Reading::Failed(number),
+    let root = field_at(s, 0, limits, &depths);
+    match root {
+        Field::Row(_) => close(field_at(s, 1, limits, &depths), 1),
+        Field::End => close(root, 0),
+        Field::Bad(_) => close(root, 0),
     }
 }
 
@@ -45,16 +53,17 @@ fn scan_rows(s: &[u8], limits: Limits) -> Reading
     let mut depths = [0u8; MAX_ROWS];
     let mut n = 0;
     loop {
-        match field_at(s, n, limits, &depths) {
+        let field = field_at(s, n, limits, &depths);
+        match field {
             Field::Row(depth) => {
                 depths[n] = depth;
                 n += 1;
             }
             Field::End => {
-                return Reading::Rows(n);
+                return close(field, n);
             }
-            Field::Bad(number) => {
-                return Reading::Failed(number);
+            Field::Bad(_) => {
+                return close(field, n);
             }
         }
     }

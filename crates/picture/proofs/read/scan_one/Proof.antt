@@ -1,9 +1,11 @@
--- The reading is that of the first field, and of the second after a row. The second is no row: there is no room for one.
+-- The reading is that of the first field, and of the second after a row. What would follow the second does not matter:
+-- there is no room for a second row.
 use mathlib.Core.Path.{refl, sym, _∙_}
 use native.Mathlib.Omega.{arith}
 use denote.Ref.{now}
-use Rattle.picture.proofs.Fields.{row-ok}
-use Rattle.picture.proofs.Scans.{known-root, reading-first, reading-second}
+use Rattle.picture.specs.Questions.{fieldAt}
+use Rattle.picture.specs.declared.read.Reading.the-variants.{Rows}
+use Rattle.picture.proofs.Scans.{known-root, reading-first, reading-second, rest-same}
 use borrow.Author.Needs.{needs}
 use Rattle.picture.proofs.read.scan_one.Statement.{statement}
 use Rattle.picture.proofs.read.scan_one.Tie as tie
@@ -17,37 +19,36 @@ enum-told c = search needs
 field-at-requires-2 : tie.Need-field-at-requires-2
 field-at-requires-2 c κs = (c .before .before .before .before .before .before .pre .0, (omega arith, known-root _ _ refl))
 
+close-requires : tie.Need-close-requires
+close-requires c κs = search needs
+
 enum-told-2 : tie.Need-enum-told-2
 enum-told-2 c = search needs
+
+close-requires-2 : tie.Need-close-requires-2
+close-requires-2 c κs = search needs
 
 enum-told-3 : tie.Need-enum-told-3
 enum-told-3 c = search needs
 
-enum-known-number : tie.Need-enum-known-number
-enum-known-number c = search needs
-
-enum-told-4 : tie.Need-enum-told-4
-enum-told-4 c = search needs
-
-enum-known-number-2 : tie.Need-enum-known-number-2
-enum-known-number-2 c = search needs
+close-requires-3 : tie.Need-close-requires-3
+close-requires-3 c κs = search needs
 
 returns : tie.Need-returns
 returns c =
-    let a = c .before .before .before .before .before .before .before .before .before .args in
-    absurd (omega (arith, row-ok (a .limits) (now (a .s)) 1 _ (sym (c .before .before .field-at2 .ensures) ∙ c .enum-told2 .given .1) .0 .whole, c .before .before .before .before .before .before .before .before .before .pre .1))
+    let limits = c .before .before .before .before .before .before .before .before .args .limits in
+    let s = now (c .before .before .before .before .before .before .before .before .args .s) in
+    let short = c .before .before .before .before .before .before .before .before .pre .1 in
+    sym
+    (reading-second limits s _ (sym (c .before .before .before .before .before .field-at .ensures) ∙ c .before .before .before .enum-told .given .1)
+    ∙ rest-same limits s (fieldAt limits s 1) 1 _ (Rows 1) refl (λ r. absurd (omega (arith, r .whole)))
+    ∙ rw (sym (c .before .field-at2 .ensures)) (sym (c .close .ensures)))
 
 returns-2 : tie.Need-returns-2
-returns-2 c = sym (reading-second (c .before .before .before .before .before .before .before .before .before .args .limits) (now (c .before .before .before .before .before .before .before .before .before .args .s)) _ (sym (c .before .before .before .before .before .before .field-at .ensures) ∙ c .before .before .before .before .enum-told .given .1) ∙ rw (sym (c .before .before .field-at2 .ensures), c .enum-told3 .given .1))
+returns-2 c = c .close2 .ensures ∙ rw (c .before .enum-told2 .given .1) (sym (reading-first (c .before .before .before .before .before .before .args .limits) (now (c .before .before .before .before .before .before .args .s)) ∙ rw (sym (c .before .before .before .field-at .ensures), c .before .enum-told2 .given .1)))
 
 returns-3 : tie.Need-returns-3
-returns-3 c = sym (reading-second (c .before .before .before .before .before .before .before .before .before .before .args .limits) (now (c .before .before .before .before .before .before .before .before .before .before .args .s)) _ (sym (c .before .before .before .before .before .before .before .field-at .ensures) ∙ c .before .before .before .before .before .enum-told .given .1) ∙ rw (sym (c .before .before .before .field-at2 .ensures), c .before .number .given .1))
-
-returns-4 : tie.Need-returns-4
-returns-4 c = sym (reading-first (c .before .before .before .before .before .args .limits) (now (c .before .before .before .before .before .args .s)) ∙ rw (sym (c .before .before .field-at .ensures), c .enum-told4 .given .1))
-
-returns-5 : tie.Need-returns-5
-returns-5 c = sym (reading-first (c .before .before .before .before .before .before .args .limits) (now (c .before .before .before .before .before .before .args .s)) ∙ rw (sym (c .before .before .before .field-at .ensures), c .before .number2 .given .1))
+returns-3 c = c .close3 .ensures ∙ rw (c .before .enum-told3 .given .1) (sym (reading-first (c .before .before .before .before .before .before .args .limits) (now (c .before .before .before .before .before .before .args .s)) ∙ rw (sym (c .before .before .before .field-at .ensures), c .before .enum-told3 .given .1)))
 
 pub scan-one-spec : {M : Type 1} → statement M
 scan-one-spec =
@@ -56,13 +57,11 @@ scan-one-spec =
     field-at-requires
     enum-told
     field-at-requires-2
+    close-requires
     enum-told-2
+    close-requires-2
     enum-told-3
-    enum-known-number
-    enum-told-4
-    enum-known-number-2
+    close-requires-3
     returns
     returns-2
-    returns-3
-    returns-4
-    returns-5)
+    returns-3)
