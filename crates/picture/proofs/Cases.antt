@@ -80,11 +80,16 @@ all-pass = refl
 -- ---- a view, with another value in every part of its last row
 
 abbrev labelled : List ℕ
-labelled = root ++ (row 0 1 8 0 ++ ((0x10 ∷ 0 ∷ 0x15 ∷ 0 ∷ 1 ∷ 2 ∷ 9 ∷ 1 ∷ replicate 7 0) ++ ((8 ∷ replicate 7 0) ++ (32 ∷ end))))
+labelled =
+    root
+    ++ (row 0 1 8 0
+    ++ (row 0 1 8 0
+    ++ (row 0 1 8 0
+    ++ ((0x10 ∷ 0 ∷ 0x15 ∷ 0 ∷ 3 ∷ 2 ∷ 9 ∷ 1 ∷ replicate 7 0) ++ ((8 ∷ replicate 7 0) ++ (32 ∷ end))))))
 
 abbrev pub parts : View → ℕ → List ℕ
 parts v k = v .rows ∷ v .parent k ∷ v .kind k ∷ v .role k ∷ v .impossible k ∷ v .wanted k ∷ v .excluded k ∷ []
 
-pub view-parts : parts (viewOf labelled) 2 ≡ 3 ∷ 1 ∷ 2 ∷ 9 ∷ 1 ∷ 8 ∷ 32 ∷ []
+pub view-parts : parts (viewOf labelled) 4 ≡ 5 ∷ 3 ∷ 2 ∷ 9 ∷ 1 ∷ 8 ∷ 32 ∷ []
 unfolding be rowCount viewOf
 view-parts = refl

@@ -209,6 +209,6 @@ readable-view limits s bytes readable =
       parents-below = readable-parent limits s readable;
       shallow = readable-depth limits s readable;
       impossible-most = readable-impossible limits s readable;
-      wanted-fits = λ k. wanted-fits s bytes k;
-      excluded-fits = λ k. excluded-fits s bytes k;
+      wanted-fits = λ k h. wanted-fits s bytes k;
+      excluded-fits = λ k h. excluded-fits s bytes k;
     }

@@ -46,7 +46,7 @@ viewOf s =
       excluded = excludedOf s;
     }
 
--- what questions 5 to 13 leave of a table by row number; every table that stands for a picture is so
+-- what questions 5 to 13 and the width of a set leave of a table by row number; every table that stands for a picture is so
 pub record Proper (limits : Limits) (v : View) : Type 0 where
   pub some : 0 < v .rows
   pub most : v .rows ≤ limits .rows
@@ -58,5 +58,5 @@ pub record Proper (limits : Limits) (v : View) : Type 0 where
   pub parents-below : (k : ℕ) → (k ≡ 0 → ⊥) → k < v .rows → v .parent k < k
   pub shallow : (k : ℕ) → k < v .rows → depth (v .parent) k ≤ limits .depth
   pub impossible-most : (k : ℕ) → k < v .rows → v .impossible k ≤ 1
-  pub wanted-fits : (k : ℕ) → v .wanted k < 2 ^ nameCount
-  pub excluded-fits : (k : ℕ) → v .excluded k < 2 ^ nameCount
+  pub wanted-fits : (k : ℕ) → k < v .rows → v .wanted k < 2 ^ nameCount
+  pub excluded-fits : (k : ℕ) → k < v .rows → v .excluded k < 2 ^ nameCount

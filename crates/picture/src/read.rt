@@ -21,7 +21,8 @@ pub enum Reading {
     Failed(u8),
 }
 
-// The reading that a field ends which is no row.
+// The reading that a field ends which is no row. No caller gives a row: `scan_rows` goes on after one, and in `scan_one` there
+// is no room for a second.
 fn close(field: Field, n: usize) -> Reading
     ensures { λ r. ⌜ r ≡ onField field n (Reading.Rows n) ⌝ }
 {
@@ -32,7 +33,8 @@ fn close(field: Field, n: usize) -> Reading
     }
 }
 
-// A file with no room for a second row. It needs no table of depths: clearing one takes longer than reading the file.
+// A file with no room for a second row. Its table of depths is never written, so the compiler leaves it out; clearing one takes
+// longer than reading the file.
 fn scan_one(s: &[u8], limits: Limits) -> Reading
     requires { ⌜ (Bounded limits) × (length (now s) < «place» 1 rowSize) ⌝ }
     ensures { λ r. ⌜ r ≡ readingOf limits (now (s .entry)) ⌝ }

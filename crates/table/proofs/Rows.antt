@@ -23,7 +23,7 @@ use native.Mathlib.Decide.{decLt}
 use native.Mathlib.Omega.{arith}
 use lib.ListN.{length, take, getD}
 use lib.Seq.{getD-take}
-use Rattle.table.specs.Layout.{numberSize, «place», rowTag, endTag, endLength, endSize, headSize, nameBytes, nameCount, parentAt, kindAt, roleAt, impossibleAt, wantedAt, excludedAt, rowLength, rowSize}
+use Rattle.table.specs.Layout.{numberSize, lengthAt, «place», rowTag, endTag, endLength, endSize, headSize, nameBytes, nameCount, parentAt, kindAt, roleAt, impossibleAt, wantedAt, excludedAt, rowLength, rowSize}
 use Rattle.table.specs.Number.{Bytes, be, beBytes}
 use Rattle.table.specs.NameSet.{setOf}
 use Rattle.table.specs.Put.{put}
@@ -45,7 +45,7 @@ module _ {k : ℕ} {s : List ℕ} {m : ℕ} {t : List ℕ} {n : ℕ} (e : Same k
   tag-same h = e .byte 0 (omega arith)
 
   pub length-same : headSize ≤ k → lengthOf s m ≡ lengthOf t n
-  length-same h = number-same 1 2 h
+  length-same h = number-same lengthAt numberSize h
 
 module _ {s : List ℕ} {m : ℕ} {t : List ℕ} {n : ℕ} (e : Same rowSize s m t n) where
   pub parent-same : parentOf s m ≡ parentOf t n
@@ -115,7 +115,7 @@ module _ (d : List ℕ) (n : ℕ) (r : Row) (h : place n rowSize ≤ length d) w
   unfolding rowOf beBytes be
   row-length = length-same row-same (omega arith)
 
-  pub row-parent : r .parent < 256 ^ 2 → parentOf (pushed d n r) n ≡ r .parent
+  pub row-parent : r .parent < 256 ^ numberSize → parentOf (pushed d n r) n ≡ r .parent
   unfolding rowOf beBytes
   row-parent f = parent-same row-same ∙ be-inside (take parentAt (rowBytes r)) _ numberSize (r .parent) f
 
