@@ -8,6 +8,7 @@ use native.Mathlib.Omega.{arith}
 use lib.ListN.{length, getD, set}
 use lib.Seq.{getD-set-same, getD-set-other}
 use Rattle.table.specs.Fields.{parentOf}
+use Rattle.table.proofs.Ranges.{left-suc}
 use Rattle.table.specs.declared.layout.Limits.{Limits}
 use Rattle.picture.specs.Depth.{depth, Known}
 use Rattle.picture.specs.Questions.{fieldAt}
@@ -22,9 +23,7 @@ use Rattle.picture.proofs.Depths.{depth-root}
 -- one field of the scan
 pub scan-step : (limits : Limits) (s : List ℕ) (n : ℕ) → n ≤ limits .rows → scanFrom (suc (limits .rows) - n) limits s n ≡ onField (fieldAt limits s n) n (scanFrom (suc (limits .rows) - (n + 1)) limits s (n + 1))
 unfolding scanFrom
-scan-step limits s n h =
-    let e : suc (limits .rows) - n ≡ suc (suc (limits .rows) - (n + 1)) = omega arith in
-    rw e
+scan-step limits s n h = rw (left-suc (suc (limits .rows)) n (omega arith))
 
 -- a fact of the numbers below n, and of n
 below-next : (P : ℕ → Type 0) (n : ℕ) → ((k : ℕ) → k < n → P k) → P n → (k : ℕ) → k < n + 1 → P k

@@ -10,7 +10,7 @@
 --   bits-eq             numbers with the same bits are equal
 use mathlib.Core.Path.{_≡_, sym, _∙_}
 use Prim.Native.Nat.{ℕ, zero, suc, _-_, _/_, _%_, _^_, _≤_, _<_, min, max}
-use native.Mathlib.Nat.{mod-eq-of-lt, mul-add-mod-self-right, pow-succ', div-one, zero-div, div-eq-of-lt, div-div-eq-div-mul, lt-of-lt-of-le}
+use native.Mathlib.Nat.{pow-succ', div-one, zero-div, div-eq-of-lt, div-div-eq-div-mul, lt-of-lt-of-le}
 use native.Mathlib.Decide.{ℕ-discrete}
 use native.Mathlib.Omega.{arith}
 use lib.Bits.{bitAnd, bitOr, and-shr, or-shr, and-step, or-step}
@@ -27,16 +27,10 @@ pub bit-bound : (a n : ℕ) → bit a n < 2
 bit-bound a n = omega arith
 
 pub bit-or : (a b n : ℕ) → bit (bitOr a b) n ≡ max (bit a n) (bit b n)
-bit-or a b n = rw or-shr (low (a / 2 ^ n) (b / 2 ^ n))
-  where
-    low : (x y : ℕ) → bitOr x y % 2 ≡ max (x % 2) (y % 2)
-    low x y = rw (or-step x y, mul-add-mod-self-right) (mod-eq-of-lt (omega arith))
+bit-or a b n = rw or-shr (omega (arith, or-step (a / 2 ^ n) (b / 2 ^ n)))
 
 pub bit-and : (a b n : ℕ) → bit (bitAnd a b) n ≡ min (bit a n) (bit b n)
-bit-and a b n = rw and-shr (low (a / 2 ^ n) (b / 2 ^ n))
-  where
-    low : (x y : ℕ) → bitAnd x y % 2 ≡ min (x % 2) (y % 2)
-    low x y = rw (and-step x y, mul-add-mod-self-right) (mod-eq-of-lt (omega arith))
+bit-and a b n = rw and-shr (omega (arith, and-step (a / 2 ^ n) (b / 2 ^ n)))
 
 pub bit-below : (k a n : ℕ) → a < 2 ^ k → k ≤ n → bit a n ≡ 0
 bit-below k a n h l = rw (div-eq-of-lt (lt-of-lt-of-le h (pow-mono l)))

@@ -1,4 +1,5 @@
 -- Laws of tests and lists over the numbers of a range, for any f.
+--   left-suc                         what is left of a range before a turn, and after it
 --   some-on, some-found, some-done   a turn of a search that goes on, finds, has nothing left; the range is n - i from i
 --   each-on, each-fails, each-done   a turn of a test of all that goes on, fails, has nothing left
 --   some-at, at-some                 a search succeeds exactly when f holds of a number of the range
@@ -20,9 +21,15 @@ use Rattle.table.proofs.Bools.{either, both}
 
 -- one turn of a loop
 
+pub left-suc : (n i : ℕ) → i < n → n - i ≡ suc (n - (i + 1))
+left-suc n i h = omega arith
+
+left-none : (n i : ℕ) → n ≤ i → n - i ≡ zero
+left-none n i h = omega arith
+
 some-step : (f : ℕ → Bool) (n i : ℕ) → i < n → some f (n - i) i ≡ (f i || some f (n - (i + 1)) (i + 1))
 unfolding some
-some-step f n i h = let e : n - i ≡ suc (n - (i + 1)) = omega arith in rw e
+some-step f n i h = rw (left-suc n i h)
 
 pub some-on : (f : ℕ → Bool) (n i : ℕ) → i < n → f i ≡ false → some f (n - i) i ≡ some f (n - (i + 1)) (i + 1)
 some-on f n i h e = some-step f n i h ∙ rw e
@@ -32,11 +39,11 @@ some-found f n i h e = some-step f n i h ∙ rw e
 
 pub some-done : (f : ℕ → Bool) (n i : ℕ) → n ≤ i → some f (n - i) i ≡ false
 unfolding some
-some-done f n i h = let e : n - i ≡ zero = omega arith in rw e
+some-done f n i h = rw (left-none n i h)
 
 each-step : (f : ℕ → Bool) (n i : ℕ) → i < n → each f (n - i) i ≡ (f i && each f (n - (i + 1)) (i + 1))
 unfolding each
-each-step f n i h = let e : n - i ≡ suc (n - (i + 1)) = omega arith in rw e
+each-step f n i h = rw (left-suc n i h)
 
 pub each-on : (f : ℕ → Bool) (n i : ℕ) → i < n → f i ≡ true → each f (n - i) i ≡ each f (n - (i + 1)) (i + 1)
 each-on f n i h e = each-step f n i h ∙ rw e
@@ -46,7 +53,7 @@ each-fails f n i h e = each-step f n i h ∙ rw e
 
 pub each-done : (f : ℕ → Bool) (n i : ℕ) → n ≤ i → each f (n - i) i ≡ true
 unfolding each
-each-done f n i h = let e : n - i ≡ zero = omega arith in rw e
+each-done f n i h = rw (left-none n i h)
 
 -- what the tests mean
 

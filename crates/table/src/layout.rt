@@ -2,7 +2,7 @@
 ghost use mathlib.Core.Path.{_≡_};
 ghost use Prim.Native.Nat.{ℕ, _+_, _≤_, _<_};
 ghost use Rattle.table.specs.Layout.{«place», rowSize};
-ghost use Rattle.table.specs.Bounds.{benchLimits, maxRows};
+ghost use Rattle.table.specs.Bounds.{benchLimits, maxRows, Bounded};
 
 // A field: one byte of tag, a number of two bytes for the length, then the value.
 pub const TAG_SIZE: usize = 1;
@@ -16,6 +16,7 @@ pub const HEAD_SIZE: usize = LENGTH_AT + NUMBER_SIZE;
 pub const ROW_TAG: u8 = 0x10;
 
 pub const END_TAG: u8 = 0x2F;
+
 // The end field is a head alone.
 pub const END_LENGTH: usize = 0;
 
@@ -62,7 +63,7 @@ pub struct Limits {
 
 impl Limits {
     pub fn bench() -> Limits
-        ensures { λ r. ⌜ r ≡ benchLimits ⌝ }
+        ensures { λ r. ⌜ (r ≡ benchLimits) × (Bounded r) ⌝ }
     {
         Limits {
             rows: MAX_ROWS,

@@ -15,7 +15,7 @@ bench-requires : tie.Need-bench-requires
 bench-requires c κs = search needs
 
 read-requires : tie.Need-read-requires
-read-requires c κs = rw (c .bench .ensures) (omega arith, omega arith)
+read-requires c κs = c .bench .ensures .1
 
 enum-known-n : tie.Need-enum-known-n
 enum-known-n c = search needs
@@ -25,7 +25,7 @@ value-word-requires c κs =
     let a = c .before .before .before .before .before .before .args in
     let n = c .before .n .given in
     let e = sym (c .before .before .before .read .ensures) ∙ n .1 in
-    let h : n .0 .0 ≤ maxRows = rw (c .before .before .before .before .bench .ensures) at (answer-most (c .before .before .before .before .bench .result) (now (a .picture)) First (n .0 .0) e) in
+    let h : n .0 .0 ≤ maxRows = rw (c .before .before .before .before .bench .ensures .0) at (answer-most (c .before .before .before .before .bench .result) (now (a .picture)) First (n .0 .0) e) in
     (omega arith, omega arith)
 
 enum-known-refusal : tie.Need-enum-known-refusal
@@ -36,11 +36,11 @@ refusal-word-requires c κs = search needs
 
 returns : tie.Need-returns
 unfolding validateWord
-returns c = rw (sym (c .before .before .before .before .before .bench .ensures), sym (c .before .before .before .before .read .ensures), c .before .before .n .given .1) (c .value-word .ensures)
+returns c = rw (sym (c .before .before .before .before .before .bench .ensures .0), sym (c .before .before .before .before .read .ensures), c .before .before .n .given .1) (c .value-word .ensures)
 
 returns-2 : tie.Need-returns-2
 unfolding validateWord
-returns-2 c = rw (sym (c .before .before .before .before .before .bench .ensures), sym (c .before .before .before .before .read .ensures), c .before .before .refusal .given .1) (c .refusal-word .ensures)
+returns-2 c = rw (sym (c .before .before .before .before .before .bench .ensures .0), sym (c .before .before .before .before .read .ensures), c .before .before .refusal .given .1) (c .refusal-word .ensures)
 
 pub zuvaropy-validate-spec : {M : Type 1} → statement M
 zuvaropy-validate-spec =
