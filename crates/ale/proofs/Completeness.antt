@@ -1,0 +1,51 @@
+-- A reduced tree subsumes a saturated one exactly if it maps to it; if not, the numbered countermodel refutes it.
+use Prim.Native.Nat.{_*_, _≤_, suc}
+use lib.Dec.{T}
+use lib.ListN.{length}
+use mathlib.Core.Bool.{not}
+use mathlib.Core.Logic.{_↔_, ⊎-elim}
+use mathlib.Core.Path.{_≡_, subst, sym}
+use native.Mathlib.Omega.{arith}
+use Rattle.ale.specs.Countermodel.{countermodel, encoded-inhabited, numbered}
+use Rattle.ale.specs.Encoding.{encode, encoded}
+use Rattle.ale.specs.Homomorphism.{mapsTo}
+use Rattle.ale.specs.Interpretation.{Subsumed, structureOf}
+use Rattle.ale.specs.NormalForm.{Reduced, Saturated}
+use Rattle.ale.specs.Signature.{Signature}
+use Rattle.ale.specs.Structure.{Fits}
+use Rattle.ale.specs.Table.{treeOf}
+use Rattle.ale.specs.Tree.{Tree, exists, height, size}
+use Rattle.ale.proofs.CountermodelSize.{countermodel-size}
+use Rattle.ale.proofs.Countermodels.{countermodel-complete}
+use Rattle.ale.proofs.Encodings.{encodeTree-length, encoded-parentsFirst, encoded-tree, height-size}
+use Rattle.ale.proofs.Individuals.{fits-numbered-table, numbered-table-fits}
+use Rattle.ale.proofs.Soundness.{mapsTo-sound}
+use Rattle.ale.proofs.Structures.{inAll-subsumed}
+use Rattle.ale.proofs.Tests.{decide}
+use Rattle.ale.proofs.TreeStructure.{treeStructure}
+
+module _ (S : Signature) where
+  grown : (b : Tree S) → treeOf S (encoded S b) (length (encode S b)) 0 ≡ b
+  grown b = encoded-tree S b (length (encode S b)) (omega (arith, encodeTree-length S b 0 exists 0 0, height-size S b))
+
+  pub fits-numbered : (b t : Tree S) → Fits S (treeStructure S) t b → Fits S (structureOf S (numbered S b)) t 0
+  fits-numbered b t f = fits-numbered-table S (encoded S b) (encoded-inhabited S b) (encoded-parentsFirst S b) t (subst (λ z. Fits S (treeStructure S) t z) (sym (grown b)) f)
+
+  pub numbered-fits : (b t : Tree S) → Fits S (structureOf S (numbered S b)) t 0 → Fits S (treeStructure S) t b
+  numbered-fits b t f = subst (λ z. Fits S (treeStructure S) t z) (grown b) (numbered-table-fits S (encoded S b) (encoded-inhabited S b) (encoded-parentsFirst S b) t f)
+
+  -- what does not map is refuted by individual 0 of a table, which is short
+  pub countermodel-refutes : (d v : Tree S) → Reduced S d → Saturated S v → T (not (mapsTo S d v)) → Fits S (structureOf S (numbered S (countermodel S d v))) v 0 × (Fits S (structureOf S (numbered S (countermodel S d v))) d 0 → ⊥)
+  countermodel-refutes d v n w x = let z = countermodel-complete S d v n w x in (fits-numbered (countermodel S d v) v (z .0), λ f. z .1 (numbered-fits (countermodel S d v) d f))
+
+  pub countermodel-count : (d v : Tree S) → length (encode S (countermodel S d v)) ≤ suc (height S d) * size S v
+  countermodel-count d v = omega (arith, encodeTree-length S (countermodel S d v) 0 exists 0 0, countermodel-size S d v)
+
+  pub subsumed-mapsTo : (d v : Tree S) → Reduced S d → Saturated S v → Subsumed S v d → T (mapsTo S d v)
+  subsumed-mapsTo d v n w c = ⊎-elim (λ t. t) (λ x. absurd (wrong x)) (decide (mapsTo S d v))
+    where
+      wrong : T (not (mapsTo S d v)) → ⊥
+      wrong x = let z = countermodel-refutes d v n w x in z .1 (c (numbered S (countermodel S d v)) 0 (encoded-inhabited S (countermodel S d v)) (z .0))
+
+  pub subsumption : (d v : Tree S) → Reduced S d → Saturated S v → Subsumed S v d ↔ T (mapsTo S d v)
+  subsumption d v n w = (subsumed-mapsTo d v n w, λ t. inAll-subsumed S v d (mapsTo-sound S d v t))

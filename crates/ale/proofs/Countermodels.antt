@@ -1,0 +1,212 @@
+-- Completeness: the countermodel's root fits v and not d.
+use Prim.Native.Nat.{ℕ}
+use lib.Dec.{T, eqb}
+use mathlib.Core.Bool.{Bool, _&&_, false, not, true}
+use mathlib.Core.Logic.{inl, inr, ⊎-elim}
+use mathlib.Core.Path.{_≡_, ap, refl, subst}
+use Rattle.ale.specs.Countermodel.{canonical, canonicalAll, countermodel, falsify, falsifyAll, individual, realize}
+use Rattle.ale.specs.Forest.{trivial}
+use Rattle.ale.specs.Homomorphism.{edgeServes, labelWithin, mapsAllTo, mapsTo}
+use Rattle.ale.specs.NormalForm.{IfExists, IfForAll, NodeSaturated, Nontrivial, Propagated, Reduced, ReducedAll, Saturated, SaturatedAll, valueOf}
+use Rattle.ale.specs.RowMap.{rowMapsTo}
+use Rattle.ale.specs.Signature.{Signature}
+use Rattle.ale.specs.Structure.{Fits, FitsAll, Restriction, Satisfies}
+use Rattle.ale.specs.Tree.{All, Forest, Kind, Label, Tree, any, cons, exists, forAll, labelOf, nil, node, top}
+use Rattle.ale.proofs.NameLaws.{complement-in, complement-out}
+use Rattle.ale.proofs.NormalForms.{saturated-top, trivial-mapsTo, valueOf-elim}
+use Rattle.ale.proofs.Tests.{and-fails, clash, or-fails-left, or-fails-right, pick, refute}
+use Rattle.ale.proofs.TreeStructure.{AllChildren, children-at, treeStructure}
+use Rattle.ale.proofs.Trees.{All-map}
+
+module _ (S : Signature) where
+  abbrev FitsTree : Tree S → Tree S → Type 0
+  FitsTree t b = Fits S (treeStructure S) t b
+
+  abbrev FitsAllTree : Forest S → Tree S → Type 0
+  FitsAllTree f b = FitsAll S (treeStructure S) f b
+
+  -- a child reached by `r` fits the all-successors that bind it
+  abbrev Obeys : Forest S → ℕ → Tree S → Type 0
+  Obeys g r y = All S (IfForAll S (λ s b. T (S .subrole r s) → FitsTree b y)) g
+
+  abbrev Realizes : Tree S → Kind → ℕ → Tree S → Type 0
+  Realizes x = IfExists S (λ r c. Restriction S (treeStructure S) exists r (λ y. FitsTree c y) x)
+
+  -- children that answer each some-successor and are bound by each all-successor make the forest fit
+  fits-realized : (g : Forest S) (s : S .Names) (ks : Forest S) → All S (Realizes (individual S s ks)) g → AllChildren S (λ r y. Obeys g r y) ks → FitsAllTree g (individual S s ks)
+  fits-realized nil s ks h b = tt
+  fits-realized (cons exists r c g) s ks h b = (h .0, fits-realized g s ks (h .1) (All-map S (λ j q y. Obeys (cons exists r c g) q y) (λ j q y. Obeys g q y) (λ j q y p. p .1) ks b))
+  fits-realized (cons forAll r c g) s ks h b = (
+    children-at S (λ y. FitsTree c y) r ks (All-map S (λ j q y. Obeys (cons forAll r c g) q y) (λ j q y. T (S .subrole q r) → FitsTree c y) (λ j q y p. p .0) ks b),
+    fits-realized g s ks (h .1) (All-map S (λ j q y. Obeys (cons forAll r c g) q y) (λ j q y. Obeys g q y) (λ j q y p. p .1) ks b),
+  )
+
+  -- one more child does no harm to the some-successors
+  realizes-more : (g : Forest S) (s : S .Names) (ks : Forest S) (q : ℕ) (b : Tree S) → All S (Realizes (individual S s ks)) g → All S (Realizes (individual S s (cons exists q b ks))) g
+  realizes-more nil s ks q b h = tt
+  realizes-more (cons exists r c g) s ks q b h = ((h .0 .0, inr (h .0 .1), h .0 .2), realizes-more g s ks q b (h .1))
+  realizes-more (cons forAll r c g) s ks q b h = (tt, realizes-more g s ks q b (h .1))
+
+  obeys-propagated : (g : Forest S) (r : ℕ) (t : Tree S) (y : Tree S) → Propagated S g r t → FitsTree t y → Obeys g r y
+  obeys-propagated nil r t y a p = tt
+  obeys-propagated (cons exists s b g) r t y a p = (tt, obeys-propagated g r t y (a .1) p)
+  obeys-propagated (cons forAll s b g) r t y a p = (λ i. a .0 i (treeStructure S) y p, obeys-propagated g r t y (a .1) p)
+
+  -- children grown by `h`
+  realize-realizes : (h : ℕ → Tree S → Tree S) (g : Forest S) (s : S .Names) → All S (IfExists S (λ r c. FitsTree c (h r c))) g → All S (Realizes (individual S s (realize S h g))) g
+  realize-realizes h nil s p = tt
+  realize-realizes h (cons exists r c g) s p = ((h r c, inl (S .subrole-refl r, refl), p .0), realizes-more g s (realize S h g) r (h r c) (realize-realizes h g s (p .1)))
+  realize-realizes h (cons forAll r c g) s p = (tt, realize-realizes h g s (p .1))
+
+  realize-obeys : (g₀ : Forest S) (h : ℕ → Tree S → Tree S) (g : Forest S) → All S (IfExists S (λ r c. FitsTree c (h r c))) g → All S (IfExists S (λ r c. Propagated S g₀ r c)) g → AllChildren S (λ r y. Obeys g₀ r y) (realize S h g)
+  realize-obeys g₀ h nil p a = tt
+  realize-obeys g₀ h (cons exists r c g) p a = (obeys-propagated g₀ r c (h r c) (a .0) (p .0), realize-obeys g₀ h g (p .1) (a .1))
+  realize-obeys g₀ h (cons forAll r c g) p a = realize-obeys g₀ h g (p .1) (a .1)
+
+  canonical-realize : (g : Forest S) → realize S (λ r c. canonical S c) g ≡ canonicalAll S g
+  canonical-realize nil = refl
+  canonical-realize (cons exists r c g) = ap (λ ks. cons exists r (canonical S c) ks) (canonical-realize g)
+  canonical-realize (cons forAll r c g) = canonical-realize g
+
+  satisfies-wanted : (l : Label S) (f : Forest S) (ks : Forest S) → NodeSaturated S l f → T (not (l .bottom)) → Satisfies S (treeStructure S) l (individual S (l .wanted) ks)
+  satisfies-wanted l f ks t u = record { held = λ n p. p; free = λ n e p. t .consistent u n p e; possible = u }
+
+  satisfies-complement : (l : Label S) (f : Forest S) (ks : Forest S) → NodeSaturated S l f → T (not (l .bottom)) → Satisfies S (treeStructure S) l (individual S (S .complement (l .excluded)) ks)
+  satisfies-complement l f ks t u = record {
+    held = λ n p. complement-in S (l .excluded) (l .wanted) n p (refute (S .has (l .excluded) n) (t .consistent u n p));
+    free = λ n e p. complement-out S (l .excluded) n p e;
+    possible = u;
+  }
+
+  -- grown children fit, and so do the plain ones
+  fits-realize : (l : Label S) (g : Forest S) → NodeSaturated S l g → (h : ℕ → Tree S → Tree S) → All S (IfExists S (λ r c. FitsTree c (h r c))) g → (s : S .Names) → FitsAllTree g (individual S s (realize S h g))
+  fits-realize l g t h p s = fits-realized g s (realize S h g) (realize-realizes h g s p) (realize-obeys g h g p (t .into-exists))
+
+  fits-canonicalAll : (l : Label S) (g : Forest S) → NodeSaturated S l g → All S (IfExists S (λ r c. FitsTree c (canonical S c))) g → (s : S .Names) → FitsAllTree g (individual S s (canonicalAll S g))
+  fits-canonicalAll l g t p s = subst (λ ks. FitsAllTree g (individual S s ks)) (canonical-realize g) (fits-realize l g t (λ r c. canonical S c) p s)
+
+  mutual
+    pub fits-canonical : (v : Tree S) → Saturated S v → T (not ((labelOf S v) .bottom)) → FitsTree v (canonical S v)
+    fits-canonical (node l g) w u = (satisfies-wanted l g (canonicalAll S g) (w .0) u, fits-canonicalAll l g (w .0) (fits-each-canonical g (w .1)) (l .wanted))
+
+    pub fits-each-canonical : (g : Forest S) → SaturatedAll S g → All S (IfExists S (λ r c. FitsTree c (canonical S c))) g
+    fits-each-canonical nil w = tt
+    fits-each-canonical (cons exists r c g) w = (fits-canonical c (w .1) (w .0), fits-each-canonical g (w .2))
+    fits-each-canonical (cons forAll r c g) w = (tt, fits-each-canonical g (w .2))
+
+  -- it fits the first and not the second
+  abbrev pub Refutes : Tree S → Tree S → Tree S → Type 0
+  Refutes v d b = FitsTree v b × (FitsTree d b → ⊥)
+
+  -- the children fit the first's edges, and not the second's where those do not map
+  abbrev Falsifies : Forest S → Forest S → Forest S → Type 0
+  Falsifies f g ks = ((s : S .Names) → FitsAllTree g (individual S s ks)) × (T (not (mapsAllTo S f g)) → (s : S .Names) → FitsAllTree f (individual S s ks) → ⊥)
+
+  -- what the countermodels of one end of an edge have to do
+  abbrev RefutesBelow : Tree S → (Tree S → Tree S) → Type 1
+  RefutesBelow d h = (c : Tree S) → Saturated S c → T (not (mapsTo S d c)) → Refutes c d (h c)
+
+  -- one edge of the second broken
+
+  module _ (r : ℕ) (d : Tree S) (h : Tree S → Tree S) (below : RefutesBelow d h) where
+    abbrev refuting : ℕ → Tree S → Tree S
+    refuting r′ c = pick (S .subrole r′ r) (h c) (canonical S c)
+
+    fits-refuting : (r′ : ℕ) (c : Tree S) → Saturated S c → T (not ((labelOf S c) .bottom)) → T (not (S .subrole r′ r && mapsTo S d c)) → FitsTree c (refuting r′ c)
+    fits-refuting r′ c w u x = step (S .subrole r′ r) x
+      where
+        step : (b : Bool) → T (not (b && mapsTo S d c)) → FitsTree c (pick b (h c) (canonical S c))
+        step true y = below c w y .0
+        step false y = fits-canonical c w u
+
+    fits-each-refuting : (g : Forest S) → SaturatedAll S g → T (not (any S (edgeServes S exists r (λ c. mapsTo S d c)) g)) → All S (IfExists S (λ r′ c. FitsTree c (refuting r′ c))) g
+    fits-each-refuting nil w x = tt
+    fits-each-refuting (cons exists r′ c g) w x =
+        let p = S .subrole r′ r && mapsTo S d c in
+        let q = any S (edgeServes S exists r (λ c. mapsTo S d c)) g in
+        (fits-refuting r′ c (w .1) (w .0) (or-fails-left p q x), fits-each-refuting g (w .2) (or-fails-right p q x))
+    fits-each-refuting (cons forAll r′ c g) w x = (tt, fits-each-refuting g (w .2) x)
+
+    refuting-refutes : (g : Forest S) → SaturatedAll S g → T (not (any S (edgeServes S exists r (λ c. mapsTo S d c)) g)) → AllChildren S (λ r′ y. T (S .subrole r′ r) → FitsTree d y → ⊥) (realize S refuting g)
+    refuting-refutes nil w x = tt
+    refuting-refutes (cons exists r′ c g) w x =
+        let p = S .subrole r′ r && mapsTo S d c in
+        let q = any S (edgeServes S exists r (λ c. mapsTo S d c)) g in
+        (step (S .subrole r′ r) (or-fails-left p q x), refuting-refutes g (w .2) (or-fails-right p q x))
+      where
+        step : (b : Bool) → T (not (b && mapsTo S d c)) → T b → FitsTree d (pick b (h c) (canonical S c)) → ⊥
+        step true y t = below c (w .1) y .1
+        step false y t = absurd t
+    refuting-refutes (cons forAll r′ c g) w x = refuting-refutes g (w .2) x
+
+    -- one all-edge broken: one more child, the countermodel of the all-successor that binds it
+    valueOf-refutes : T (not (trivial S d)) → (g : Forest S) → SaturatedAll S g → T (not (any S (edgeServes S forAll r (λ c. mapsTo S d c)) g)) → Refutes (valueOf S r g) d (h (valueOf S r g))
+    valueOf-refutes e g w x = valueOf-elim S (λ a. Refutes a d (h a)) r g (below (top S) (saturated-top S) (subst (λ b. T (not b)) (trivial-mapsTo S d) e)) (go g w x)
+      where
+        go : (g : Forest S) → SaturatedAll S g → T (not (any S (edgeServes S forAll r (λ c. mapsTo S d c)) g)) → All S (IfForAll S (λ s b. T (eqb s r) → Refutes b d (h b))) g
+        go nil w x = tt
+        go (cons exists s b g) w x = (tt, go g (w .2) x)
+        go (cons forAll s b g) w x =
+            let p = eqb s r && mapsTo S d b in
+            let q = any S (edgeServes S forAll r (λ c. mapsTo S d c)) g in
+            ((λ e. below b (w .1) (⊎-elim (λ n. absurd (clash (eqb s r) e n)) (λ n. n) (and-fails (eqb s r) (mapsTo S d b) (or-fails-left p q x)))), go g (w .2) (or-fails-right p q x))
+
+    falsify-refutes : (k : Kind) → Nontrivial S k d → (l : Label S) (g : Forest S) → NodeSaturated S l g → SaturatedAll S g → T (not (any S (edgeServes S k r (λ c. mapsTo S d c)) g)) →
+        ((s : S .Names) → FitsAllTree g (individual S s (falsify S k r h g))) × ((s : S .Names) → Restriction S (treeStructure S) k r (λ y. FitsTree d y) (individual S s (falsify S k r h g)) → ⊥)
+    falsify-refutes exists e l g t w x = (
+      fits-realize l g t refuting (fits-each-refuting g w x),
+      λ s (y, m, p). children-at S (λ y. FitsTree d y → ⊥) r (realize S refuting g) (refuting-refutes g w x) y m p,
+    )
+    falsify-refutes forAll e l g t w x =
+        let a = valueOf S r g in
+        let z = valueOf-refutes e g w x in
+        let p = fits-each-canonical g w in (
+          λ s. fits-realized g s (cons exists r (h a) (canonicalAll S g))
+              (realizes-more g s (canonicalAll S g) r (h a) (subst (λ ks. All S (Realizes (individual S s ks)) g) (canonical-realize g) (realize-realizes (λ r c. canonical S c) g s p)))
+              (obeys-propagated g r a (h a) (t .into-forAll r) (z .0), subst (λ ks. AllChildren S (λ r y. Obeys g r y) ks) (canonical-realize g) (realize-obeys g (λ r c. canonical S c) g p (t .into-exists))),
+          λ s f. z .1 (f (h a) (inl (S .subrole-refl r, refl))),
+        )
+
+  -- a node: the labels tell, or the children do
+
+  module _ (l m : Label S) (f g : Forest S) (t : NodeSaturated S m g) (u : T (not (m .bottom))) (fine : (s : S .Names) → FitsAllTree g (individual S s (canonicalAll S g))) (ks : Forest S) (sp : Falsifies f g ks) where
+    label-refutes : T (not (labelWithin S l m && mapsAllTo S f g)) →
+        Refutes (node m g) (node l f) (pick (S .subset (l .wanted) (m .wanted)) (pick (S .subset (l .excluded) (m .excluded)) (individual S (m .wanted) ks) (individual S (S .complement (m .excluded)) (canonicalAll S g))) (individual S (m .wanted) (canonicalAll S g)))
+    label-refutes = go (S .subset (l .wanted) (m .wanted)) (S .subset (l .excluded) (m .excluded)) (S .subset-fails (l .wanted) (m .wanted)) (S .subset-fails (l .excluded) (m .excluded))
+      where
+        Gap : S .Names → S .Names → Type 0
+        Gap s t = (n : ℕ) × T (S .has s n) × T (not (S .has t n))
+
+        go : (a b : Bool) → (T (not a) → Gap (l .wanted) (m .wanted)) → (T (not b) → Gap (l .excluded) (m .excluded)) → T (not ((a && (b && not (l .bottom))) && mapsAllTo S f g)) →
+            Refutes (node m g) (node l f) (pick a (pick b (individual S (m .wanted) ks) (individual S (S .complement (m .excluded)) (canonicalAll S g))) (individual S (m .wanted) (canonicalAll S g)))
+        go true true p q x = (
+          (satisfies-wanted m g ks t u, sp .0 (m .wanted)),
+          λ rowMapsTo. ⊎-elim (clash (not (l .bottom)) (rowMapsTo .0 .possible)) (λ n. sp .1 n (m .wanted) (rowMapsTo .1)) (and-fails (not (l .bottom)) (mapsAllTo S f g) x),
+        )
+        go true false p q x =
+            let (n, i, o) = q tt in
+            ((satisfies-complement m g (canonicalAll S g) t u, fine (S .complement (m .excluded))), λ rowMapsTo. rowMapsTo .0 .free n i (complement-in S (m .excluded) (l .excluded) n i o))
+        go false b p q x =
+            let (n, i, o) = p tt in
+            ((satisfies-wanted m g (canonicalAll S g) t u, fine (m .wanted)), λ rowMapsTo. clash (S .has (m .wanted) n) (rowMapsTo .0 .held n i) o)
+
+  -- the children of a forest: its first edge is broken, or a later one
+  falsifyAll-step : (k : Kind) (r : ℕ) (d : Tree S) (f g : Forest S) (h : Tree S → Tree S) (b : Bool) (ks : Forest S) →
+      ((s : S .Names) → T (not b) → FitsAllTree g (individual S s (falsify S k r h g))) → ((s : S .Names) → T (not b) → Restriction S (treeStructure S) k r (λ y. FitsTree d y) (individual S s (falsify S k r h g)) → ⊥) → Falsifies f g ks →
+      ((s : S .Names) → FitsAllTree g (individual S s (pick b ks (falsify S k r h g)))) × (T (not (b && mapsAllTo S f g)) → (s : S .Names) → FitsAllTree (cons k r d f) (individual S s (pick b ks (falsify S k r h g))) → ⊥)
+  falsifyAll-step k r d f g h true ks p q sp = (sp .0, λ x s rowMapsTo. sp .1 x s (rowMapsTo .1))
+  falsifyAll-step k r d f g h false ks p q sp = (λ s. p s tt, λ x s rowMapsTo. q s tt (rowMapsTo .0))
+
+  mutual
+    pub countermodel-complete : (d v : Tree S) → Reduced S d → Saturated S v → T (not (mapsTo S d v)) → Refutes v d (countermodel S d v)
+    countermodel-complete (node l f) (node m g) n w x =
+        label-refutes l m f g (w .0) (or-fails-left (m .bottom) (labelWithin S l m && mapsAllTo S f g) x) (fits-canonicalAll m g (w .0) (fits-each-canonical g (w .1))) (falsifyAll S f g)
+        (falsifyAll-refutes f g n m (w .0) (w .1)) (or-fails-right (m .bottom) (labelWithin S l m && mapsAllTo S f g) x)
+
+    falsifyAll-refutes : (f g : Forest S) → ReducedAll S f → (m : Label S) → NodeSaturated S m g → SaturatedAll S g → Falsifies f g (falsifyAll S f g)
+    falsifyAll-refutes nil g n m t w = (fits-canonicalAll m g t (fits-each-canonical g w), λ x. absurd x)
+    falsifyAll-refutes (cons k r d f) g n m t w =
+        let below : RefutesBelow d (λ c. countermodel S d c) = λ c wc x. countermodel-complete d c (n .1) wc x in
+        falsifyAll-step k r d f g (λ c. countermodel S d c) (any S (edgeServes S k r (λ c. mapsTo S d c)) g) (falsifyAll S f g)
+        (λ s x. falsify-refutes r d (λ c. countermodel S d c) below k (n .0) m g t w x .0 s) (λ s x. falsify-refutes r d (λ c. countermodel S d c) below k (n .0) m g t w x .1 s)
+        (falsifyAll-refutes f g (n .2) m t w)

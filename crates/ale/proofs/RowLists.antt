@@ -1,0 +1,66 @@
+-- Laws of sets of row numbers.
+use Prim.Native.Nat.{_+_, _<_, _≤_, suc, zero, ℕ}
+use lib.Dec.{T, eqb, eqb-refl, eqb→eq}
+use mathlib.Core.Bool.{Bool, _||_, false, not, true}
+use mathlib.Core.List.{List, [], _++_, _∷_}
+use mathlib.Core.Logic.{⊎-elim}
+use mathlib.Core.Path.{_∙_, _≡_, ap, refl, subst, sym}
+use native.Mathlib.Nat.{eq-or-lt-of-le}
+use native.Mathlib.Omega.{arith}
+use Rattle.ale.specs.Rows.{filterBelow, filterFrom, member, withRow}
+use Rattle.ale.proofs.Tests.{chosen, chosen-first, clash, or-left, or-right, or-split, pick}
+
+pub member-head : (i : ℕ) (s : List ℕ) → T (member i (i ∷ s))
+member-head i s = or-left (eqb i i) (member i s) (eqb-refl i)
+
+pub member-tail : (i j : ℕ) (s : List ℕ) → T (member i s) → T (member i (j ∷ s))
+member-tail i j s h = or-right (eqb i j) (member i s) h
+
+-- a fact of each of a list, where it holds of the first and of the others
+pub member-cons : (P : ℕ → Type 0) (j : ℕ) (s : List ℕ) → P j → ((i : ℕ) → T (member i s) → P i) → (i : ℕ) → T (member i (j ∷ s)) → P i
+member-cons P j s p q i h = ⊎-elim (λ e. subst P (sym (eqb→eq i j e)) p) (λ m. q i m) (or-split (eqb i j) (member i s) h)
+
+filterFrom-out : (q : ℕ → Bool) (o n j : ℕ) → T (member j (filterFrom q o n)) → T (q j) × (o ≤ j) × (j < o + n)
+filterFrom-out q o zero j h = absurd h
+filterFrom-out q o (suc n) j h = step (q o) (λ t. t) h (λ m. filterFrom-out q (suc o) n j m)
+  where
+    step : (b : Bool) → (T b → T (q o)) → T (member j (pick b (o ∷ filterFrom q (suc o) n) (filterFrom q (suc o) n))) → (T (member j (filterFrom q (suc o) n)) → T (q j) × (suc o ≤ j) × (j < suc o + n)) → T (q j) × (o ≤ j) × (j < o + suc n)
+    step true u m f =
+        ⊎-elim (λ e. let w = eqb→eq j o e in (subst (λ i. T (q i)) (sym w) (u tt), omega arith, omega arith)) (λ m′. let (a, b, c) = f m′ in (a, omega arith, omega arith)) (or-split (eqb j o) (member j (filterFrom q (suc o) n)) m)
+    step false u m f = let (a, b, c) = f m in (a, omega arith, omega arith)
+
+filterFrom-in : (q : ℕ → Bool) (o n j : ℕ) → T (q j) → o ≤ j → j < o + n → T (member j (filterFrom q o n))
+filterFrom-in q o zero j t a l = absurd (omega arith)
+filterFrom-in q o (suc n) j t a l =
+    ⊎-elim (λ e. chosen-first (λ s. T (member j s)) (q o) (o ∷ filterFrom q (suc o) n) (filterFrom q (suc o) n) (subst (λ i. T (q i)) (sym e) t) (subst (λ i. T (member i (o ∷ filterFrom q (suc o) n))) e (member-head o (filterFrom q (suc o) n))))
+    (λ b. let m = filterFrom-in q (suc o) n j t b (omega arith) in chosen (λ s. T (member j s)) (q o) (o ∷ filterFrom q (suc o) n) (filterFrom q (suc o) n) (λ _. member-tail j o (filterFrom q (suc o) n) m) (λ _. m))
+    (eq-or-lt-of-le {n = o} {m = j} a)
+
+pub filterBelow-out : (q : ℕ → Bool) (n j : ℕ) → T (member j (filterBelow q n)) → T (q j) × (j < n)
+filterBelow-out q n j m = let (a, b, c) = filterFrom-out q 0 n j m in (a, omega arith)
+
+pub filterBelow-in : (q : ℕ → Bool) (n j : ℕ) → T (q j) → j < n → T (member j (filterBelow q n))
+filterBelow-in q n j t l = filterFrom-in q 0 n j t (omega arith) (omega arith)
+
+pub filterFrom-split : (q : ℕ → Bool) (o m n t e : ℕ) → t ≡ m + n → e ≡ o + m → filterFrom q o t ≡ filterFrom q o m ++ filterFrom q e n
+filterFrom-split q o zero n t e p r = ap (λ z. filterFrom q o z) (let h : t ≡ n = omega arith in h) ∙ ap (λ z. filterFrom q z n) (let h : o ≡ e = omega arith in h)
+filterFrom-split q o (suc m) n t e p r =
+    subst (λ z. filterFrom q o z ≡ filterFrom q o (suc m) ++ filterFrom q e n) (let h : suc (m + n) ≡ t = omega arith in h) (step (q o) (filterFrom-split q (suc o) m n (m + n) e refl (omega arith)))
+  where
+    step : (b : Bool) → filterFrom q (suc o) (m + n) ≡ filterFrom q (suc o) m ++ filterFrom q e n → pick b (o ∷ filterFrom q (suc o) (m + n)) (filterFrom q (suc o) (m + n)) ≡ pick b (o ∷ filterFrom q (suc o) m) (filterFrom q (suc o) m) ++ filterFrom q e n
+    step true h = ap (λ s. o ∷ s) h
+    step false h = h
+
+-- none passes
+pub filterFrom-none : (q : ℕ → Bool) (o n : ℕ) → ((j : ℕ) → o ≤ j → j < o + n → T (not (q j))) → filterFrom q o n ≡ []
+filterFrom-none q o zero h = refl
+filterFrom-none q o (suc n) h = chosen (λ s. s ≡ []) (q o) (o ∷ filterFrom q (suc o) n) (filterFrom q (suc o) n) (λ t. absurd (clash (q o) t (h o (omega arith) (omega arith)))) (λ t. filterFrom-none q (suc o) n (λ j a b. h j (omega arith) (omega arith)))
+
+pub withRow-each : (P : ℕ → Type 0) (n c : ℕ) (s : List ℕ) → P c → ((i : ℕ) → T (member i s) → P i) → (i : ℕ) → T (member i (withRow n c s)) → P i
+withRow-each P n c s p q i m = member-cons P c s p q i (filterBelow-out (λ j. eqb j c || member j s) n i m .0)
+
+pub withRow-self : (n c : ℕ) (s : List ℕ) → c < n → T (member c (withRow n c s))
+withRow-self n c s b = filterBelow-in (λ j. eqb j c || member j s) n c (member-head c s) b
+
+pub withRow-others : (n c i : ℕ) (s : List ℕ) → i < n → T (member i s) → T (member i (withRow n c s))
+withRow-others n c i s b m = filterBelow-in (λ j. eqb j c || member j s) n i (member-tail i c s m) b

@@ -1,0 +1,63 @@
+-- Soundness: if d maps to v, whatever fits v fits d, in every structure.
+use Prim.Native.Nat.{ℕ}
+use lib.Dec.{T, eqb→eq}
+use mathlib.Core.Bool.{Bool, _&&_, not}
+use mathlib.Core.Logic.{⊎-elim}
+use mathlib.Core.Path.{subst, sym}
+use Rattle.ale.specs.Homomorphism.{edgeServes, labelWithin, mapsAllTo, mapsTo, roleServes}
+use Rattle.ale.specs.RowMap.{rowMapsTo}
+use Rattle.ale.specs.Signature.{Signature}
+use Rattle.ale.specs.Structure.{Fits, FitsAll, Restriction, Satisfies, Structure, SubsumedInAll}
+use Rattle.ale.specs.Tree.{Forest, Kind, Label, Tree, any, cons, exists, forAll, nil, node, sameKind}
+use Rattle.ale.proofs.Structures.{FitsEdge, fits-each}
+use Rattle.ale.proofs.Tests.{and-left, and-right, clash, or-split}
+use Rattle.ale.proofs.Trees.{All-Any, any-Any}
+
+module _ (S : Signature) (M : Structure S) where
+  pub satisfies-within : (l m : Label S) → T (labelWithin S l m) → (x : M .Element) → Satisfies S M m x → Satisfies S M l x
+  satisfies-within l m h x c = record {
+    held = λ n p. c .held n (S .subset-has (l .wanted) (m .wanted) (and-left a (b && u) h) n p);
+    free = λ n p. c .free n (S .subset-has (l .excluded) (m .excluded) (and-left b u (and-right a (b && u) h)) n p);
+    possible = and-right b u (and-right a (b && u) h);
+  }
+    where
+      a : Bool
+      a = S .subset (l .wanted) (m .wanted)
+
+      b : Bool
+      b = S .subset (l .excluded) (m .excluded)
+
+      u : Bool
+      u = not (l .bottom)
+
+  -- along an edge that serves
+  pub restriction-along : (k k′ : Kind) (r r′ : ℕ) (P Q : M .Element → Type 0) → T (sameKind k k′) → T (roleServes S k r′ r) → ((y : M .Element) → P y → Q y) → (x : M .Element) → Restriction S M k′ r′ P x → Restriction S M k r Q x
+  restriction-along exists exists r r′ P Q e i h x (y, s, p) = (y, M .respects r′ r x y i s, h y p)
+  restriction-along exists forAll r r′ P Q e i h x p = absurd e
+  restriction-along forAll exists r r′ P Q e i h x p = absurd e
+  restriction-along forAll forAll r r′ P Q e i h x p = λ y s. h y (p y (subst (λ (q : ℕ). M .edge q x y) (sym (eqb→eq r′ r i)) s))
+
+  mutual
+    pub mapsTo-fits : (d v : Tree S) → T (mapsTo S d v) → (x : M .Element) → Fits S M v x → Fits S M d x
+    mapsTo-fits (node l f) (node m g) h x rowMapsTo =
+        ⊎-elim
+        (λ k. absurd (clash (m .bottom) k (rowMapsTo .0 .possible)))
+        (λ k. (satisfies-within l m (and-left (labelWithin S l m) (mapsAllTo S f g) k) x (rowMapsTo .0), mapsAllTo-fits f g (and-right (labelWithin S l m) (mapsAllTo S f g) k) x (rowMapsTo .1)))
+        (or-split (m .bottom) (labelWithin S l m && mapsAllTo S f g) h)
+
+    pub mapsAllTo-fits : (f g : Forest S) → T (mapsAllTo S f g) → (x : M .Element) → FitsAll S M g x → FitsAll S M f x
+    mapsAllTo-fits nil g h x rowMapsTo = tt
+    mapsAllTo-fits (cons k r d f) g h x rowMapsTo =
+        let q : Kind → ℕ → Tree S → Bool = edgeServes S k r (λ c. mapsTo S d c) in (
+          All-Any S (FitsEdge S M x) (λ k′ r′ c. T (q k′ r′ c)) (Restriction S M k r (λ y. Fits S M d y) x)
+              (λ k′ r′ c p t.
+              let u = and-right (sameKind k k′) (roleServes S k r′ r && mapsTo S d c) t in
+              restriction-along k k′ r r′ (λ y. Fits S M c y) (λ y. Fits S M d y) (and-left (sameKind k k′) (roleServes S k r′ r && mapsTo S d c) t) (and-left (roleServes S k r′ r) (mapsTo S d c) u)
+              (λ y w. mapsTo-fits d c (and-right (roleServes S k r′ r) (mapsTo S d c) u) y w) x p)
+              g (fits-each S M g x rowMapsTo) (any-Any S q g (and-left (any S q g) (mapsAllTo S f g) h)),
+          mapsAllTo-fits f g (and-right (any S q g) (mapsAllTo S f g) h) x rowMapsTo,
+        )
+
+module _ (S : Signature) where
+  pub mapsTo-sound : (d v : Tree S) → T (mapsTo S d v) → SubsumedInAll S v d
+  mapsTo-sound d v h M x rowMapsTo = mapsTo-fits S M d v h x rowMapsTo

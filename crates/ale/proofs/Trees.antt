@@ -1,0 +1,43 @@
+-- Laws of kinds, and of facts of every or of some successor.
+use Prim.Native.Nat.{ℕ}
+use lib.Dec.{T}
+use mathlib.Core.Bool.{Bool}
+use mathlib.Core.Logic.{_⊎_, inl, inr}
+use mathlib.Core.Path.{_≡_, refl}
+use Rattle.ale.specs.Signature.{Signature}
+use Rattle.ale.specs.Tree.{All, Any, Forest, Kind, Tree, any, cons, exists, forAll, nil, sameKind}
+use Rattle.ale.proofs.Tests.{or-left, or-right, or-split}
+
+pub sameKind-eq : (k j : Kind) → T (sameKind k j) → k ≡ j
+sameKind-eq exists exists t = refl
+sameKind-eq exists forAll t = absurd t
+sameKind-eq forAll exists t = absurd t
+sameKind-eq forAll forAll t = refl
+
+pub sameKind-refl : (k : Kind) → T (sameKind k k)
+sameKind-refl exists = tt
+sameKind-refl forAll = tt
+
+module _ (S : Signature) where
+  pub All-map {ℓ κ} : (P : Kind → ℕ → Tree S → Type ℓ) (Q : Kind → ℕ → Tree S → Type κ) → ((k : Kind) (r : ℕ) (t : Tree S) → P k r t → Q k r t) → (f : Forest S) → All S P f → All S Q f
+  All-map P Q h nil p = tt
+  All-map P Q h (cons k r t f) p = (h k r t (p .0), All-map P Q h f (p .1))
+
+  -- a fact of every edge, met with a fact of some edge
+  pub All-Any {ℓ} : (P : Kind → ℕ → Tree S → Type ℓ) (Q : Kind → ℕ → Tree S → Type 0) (C : Type 0) → ((k : Kind) (r : ℕ) (t : Tree S) → P k r t → Q k r t → C) → (f : Forest S) → All S P f → Any S Q f → C
+  All-Any P Q C h nil p q = absurd q
+  All-Any P Q C h (cons k r t f) p (inl q) = h k r t (p .0) q
+  All-Any P Q C h (cons k r t f) p (inr q) = All-Any P Q C h f (p .1) q
+
+  pub any-Any : (p : Kind → ℕ → Tree S → Bool) (f : Forest S) → T (any S p f) → Any S (λ k r t. T (p k r t)) f
+  any-Any p nil h = h
+  any-Any p (cons k r t f) h = step (λ (g : T (any S p f)). any-Any p f g) (or-split (p k r t) (any S p f) h)
+    where
+      step : (T (any S p f) → Any S (λ k r t. T (p k r t)) f) → T (p k r t) ⊎ T (any S p f) → T (p k r t) ⊎ Any S (λ k r t. T (p k r t)) f
+      step go (inl q) = inl q
+      step go (inr q) = inr (go q)
+
+  pub Any-any : (p : Kind → ℕ → Tree S → Bool) (f : Forest S) → Any S (λ k r t. T (p k r t)) f → T (any S p f)
+  Any-any p nil h = h
+  Any-any p (cons k r t f) (inl h) = or-left (p k r t) (any S p f) h
+  Any-any p (cons k r t f) (inr h) = or-right (p k r t) (any S p f) (Any-any p f h)

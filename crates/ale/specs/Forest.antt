@@ -1,0 +1,31 @@
+-- Forests put together, as 01 orders successors: by role, all before some.
+--   append         one after the other
+--   byRole         what h gives for each role from 0 up to n, in turn
+--   trivial        no names, no mark and no successors
+--   consReduced    one successor more, unless it is a trivial all-successor (01: dropped)
+use Prim.Native.Nat.{suc, zero, ℕ}
+use mathlib.Core.Bool.{Bool, _&&_, false, true}
+use Rattle.table.specs.Pick.{pick}
+use Rattle.ale.specs.Homomorphism.{labelWithin}
+use Rattle.ale.specs.Signature.{Signature}
+use Rattle.ale.specs.Tree.{Forest, Kind, Tree, cons, emptyLabel, exists, forAll, nil, node}
+
+module _ (S : Signature) where
+  abbrev pub append : Forest S → Forest S → Forest S
+  append nil g = g
+  append (cons k r t f) g = cons k r t (append f g)
+
+  abbrev pub byRole : (ℕ → Forest S) → ℕ → Forest S
+  byRole h zero = nil
+  byRole h (suc n) = append (byRole h n) (h n)
+
+  abbrev pub isNil : Forest S → Bool
+  isNil nil = true
+  isNil (cons k r t f) = false
+
+  abbrev pub trivial : Tree S → Bool
+  trivial (node l f) = labelWithin S l (emptyLabel S) && isNil f
+
+  abbrev pub consReduced : Kind → ℕ → Tree S → Forest S → Forest S
+  consReduced exists r t f = cons exists r t f
+  consReduced forAll r t f = pick (trivial t) f (cons forAll r t f)

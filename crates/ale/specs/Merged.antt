@@ -1,0 +1,48 @@
+-- 01, "A merged row stands for a set of file rows": the merged tree of a set of rows of a table.
+--   successorOfSet   row j hangs from a row of the set
+--   valueRows        A: the all-successors of the set for role r (of every role including r)
+--   existsRows       the some-successors of the set by role r
+--   labelOfSet       the unions of the names; ⊥ if any has it
+--   roleParts        one all-successor standing for A if A is not empty, then for each some-successor c one standing for c with A
+--   merged           the merged tree of a set, down to a depth
+use Prim.Native.Nat.{suc, zero, ℕ}
+use lib.Dec.{eqb}
+use mathlib.Core.Bool.{Bool, _&&_, _||_, not}
+use mathlib.Core.List.{List, [], _∷_}
+use Rattle.ale.specs.Forest.{append, byRole}
+use Rattle.ale.specs.Rows.{filterBelow, member, withRow}
+use Rattle.ale.specs.Signature.{Signature}
+use Rattle.ale.specs.Table.{Table}
+use Rattle.ale.specs.Tree.{Forest, Label, Tree, cons, emptyLabel, exists, forAll, nil, node, sameKind}
+
+module _ (S : Signature) (p : Table S) where
+  abbrev pub successorOfSet : List ℕ → ℕ → Bool
+  successorOfSet s j = not (eqb j 0) && member (p .parent j) s
+
+  abbrev pub valueRows : List ℕ → ℕ → List ℕ
+  valueRows s r = filterBelow (λ j. successorOfSet s j && (sameKind forAll (p .kind j) && S .subrole r (p .role j))) (p .rows)
+
+  abbrev pub existsRows : List ℕ → ℕ → List ℕ
+  existsRows s r = filterBelow (λ j. successorOfSet s j && (sameKind exists (p .kind j) && eqb (p .role j) r)) (p .rows)
+
+  abbrev pub labelUnion : Label S → Label S → Label S
+  labelUnion l m = record { wanted = S .union (l .wanted) (m .wanted); excluded = S .union (l .excluded) (m .excluded); bottom = l .bottom || m .bottom }
+
+  abbrev pub labelOfSet : List ℕ → Label S
+  labelOfSet [] = emptyLabel S
+  labelOfSet (i ∷ s) = labelUnion (p .label i) (labelOfSet s)
+
+  abbrev pub valuePart : ℕ → (List ℕ → Tree S) → List ℕ → Forest S
+  valuePart r h [] = nil
+  valuePart r h (a ∷ s) = cons forAll r (h (a ∷ s)) nil
+
+  abbrev pub existsParts : ℕ → (ℕ → Tree S) → List ℕ → Forest S
+  existsParts r h [] = nil
+  existsParts r h (c ∷ s) = cons exists r (h c) (existsParts r h s)
+
+  abbrev pub roleParts : (List ℕ → Tree S) → List ℕ → ℕ → Forest S
+  roleParts h s r = append S (valuePart r h (valueRows s r)) (existsParts r (λ c. h (withRow (p .rows) c (valueRows s r))) (existsRows s r))
+
+  abbrev pub merged : ℕ → List ℕ → Tree S
+  merged zero s = node (labelOfSet s) nil
+  merged (suc n) s = node (labelOfSet s) (byRole S (λ r. roleParts (λ t. merged n t) s r) (S .roles))
