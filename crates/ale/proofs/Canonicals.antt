@@ -1,6 +1,7 @@
 -- Bottom nodes are canonical.
 use Prim.Native.Nat.{ℕ}
 use mathlib.Core.Path.{refl}
+use Rattle.table.specs.Pick.{pick}
 use Rattle.ale.specs.Forest.{append, consReduced, trivial}
 use Rattle.ale.specs.Normal.{inconsistent, tidy, tidyAll}
 use Rattle.ale.specs.NormalForm.{CanonicalBottom, CanonicalBottomAll}
@@ -9,7 +10,7 @@ use Rattle.ale.specs.Signature.{Signature}
 use Rattle.ale.specs.Tree.{All, Forest, Kind, Tree, bottomTree, cons, exists, forAll, nil, node}
 use Rattle.ale.proofs.Forests.{All-append, All-byRole, All-consReduced}
 use Rattle.ale.proofs.Products.{pairForest, pairRole}
-use Rattle.ale.proofs.Tests.{chosen, clash, or-fails-left, pick}
+use Rattle.ale.proofs.Tests.{chosen, clash, or-fails-left}
 
 module _ (S : Signature) where
   canonical-from : (f : Forest S) → All S (λ k r t. CanonicalBottom S t) f → CanonicalBottomAll S f

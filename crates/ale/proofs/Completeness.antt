@@ -25,14 +25,14 @@ use Rattle.ale.proofs.Tests.{decide}
 use Rattle.ale.proofs.TreeStructure.{treeStructure}
 
 module _ (S : Signature) where
-  grown : (b : Tree S) → treeOf S (encoded S b) (length (encode S b)) 0 ≡ b
-  grown b = encoded-tree S b (length (encode S b)) (omega (arith, encodeTree-length S b 0 exists 0 0, height-size S b))
+  encoded-back : (b : Tree S) → treeOf S (encoded S b) (length (encode S b)) 0 ≡ b
+  encoded-back b = encoded-tree S b (length (encode S b)) (omega (arith, encodeTree-length S b 0 exists 0 0, height-size S b))
 
   pub fits-numbered : (b t : Tree S) → Fits S (treeStructure S) t b → Fits S (structureOf S (numbered S b)) t 0
-  fits-numbered b t f = fits-numbered-table S (encoded S b) (encoded-inhabited S b) (encoded-parentsFirst S b) t (subst (λ z. Fits S (treeStructure S) t z) (sym (grown b)) f)
+  fits-numbered b t f = fits-numbered-table S (encoded S b) (encoded-inhabited S b) (encoded-parentsFirst S b) t (subst (λ z. Fits S (treeStructure S) t z) (sym (encoded-back b)) f)
 
   pub numbered-fits : (b t : Tree S) → Fits S (structureOf S (numbered S b)) t 0 → Fits S (treeStructure S) t b
-  numbered-fits b t f = subst (λ z. Fits S (treeStructure S) t z) (grown b) (numbered-table-fits S (encoded S b) (encoded-inhabited S b) (encoded-parentsFirst S b) t f)
+  numbered-fits b t f = subst (λ z. Fits S (treeStructure S) t z) (encoded-back b) (numbered-table-fits S (encoded S b) (encoded-inhabited S b) (encoded-parentsFirst S b) t f)
 
   -- what does not map is refuted by individual 0 of a table, which is short
   pub countermodel-refutes : (d v : Tree S) → Reduced S d → Saturated S v → T (not (mapsTo S d v)) → Fits S (structureOf S (numbered S (countermodel S d v))) v 0 × (Fits S (structureOf S (numbered S (countermodel S d v))) d 0 → ⊥)

@@ -4,17 +4,17 @@ use lib.Dec.{T, eqb}
 use mathlib.Core.Bool.{Bool, _&&_, false, not, true}
 use mathlib.Core.Logic.{inl, inr, ⊎-elim}
 use mathlib.Core.Path.{_≡_, ap, refl, subst}
+use Rattle.table.specs.Pick.{pick}
 use Rattle.ale.specs.Countermodel.{canonical, canonicalAll, countermodel, falsify, falsifyAll, individual, realize}
 use Rattle.ale.specs.Forest.{trivial}
 use Rattle.ale.specs.Homomorphism.{edgeServes, labelWithin, mapsAllTo, mapsTo}
 use Rattle.ale.specs.NormalForm.{IfExists, IfForAll, NodeSaturated, Nontrivial, Propagated, Reduced, ReducedAll, Saturated, SaturatedAll, valueOf}
-use Rattle.ale.specs.RowMap.{rowMapsTo}
 use Rattle.ale.specs.Signature.{Signature}
 use Rattle.ale.specs.Structure.{Fits, FitsAll, Restriction, Satisfies}
 use Rattle.ale.specs.Tree.{All, Forest, Kind, Label, Tree, any, cons, exists, forAll, labelOf, nil, node, top}
 use Rattle.ale.proofs.NameLaws.{complement-in, complement-out}
 use Rattle.ale.proofs.NormalForms.{saturated-top, trivial-mapsTo, valueOf-elim}
-use Rattle.ale.proofs.Tests.{and-fails, clash, or-fails-left, or-fails-right, pick, refute}
+use Rattle.ale.proofs.Tests.{and-fails, clash, or-fails-left, or-fails-right, refute}
 use Rattle.ale.proofs.TreeStructure.{AllChildren, children-at, treeStructure}
 use Rattle.ale.proofs.Trees.{All-map}
 
@@ -181,21 +181,21 @@ module _ (S : Signature) where
             Refutes (node m g) (node l f) (pick a (pick b (individual S (m .wanted) ks) (individual S (S .complement (m .excluded)) (canonicalAll S g))) (individual S (m .wanted) (canonicalAll S g)))
         go true true p q x = (
           (satisfies-wanted m g ks t u, sp .0 (m .wanted)),
-          λ rowMapsTo. ⊎-elim (clash (not (l .bottom)) (rowMapsTo .0 .possible)) (λ n. sp .1 n (m .wanted) (rowMapsTo .1)) (and-fails (not (l .bottom)) (mapsAllTo S f g) x),
+          λ fit. ⊎-elim (clash (not (l .bottom)) (fit .0 .possible)) (λ n. sp .1 n (m .wanted) (fit .1)) (and-fails (not (l .bottom)) (mapsAllTo S f g) x),
         )
         go true false p q x =
             let (n, i, o) = q tt in
-            ((satisfies-complement m g (canonicalAll S g) t u, fine (S .complement (m .excluded))), λ rowMapsTo. rowMapsTo .0 .free n i (complement-in S (m .excluded) (l .excluded) n i o))
+            ((satisfies-complement m g (canonicalAll S g) t u, fine (S .complement (m .excluded))), λ fit. fit .0 .free n i (complement-in S (m .excluded) (l .excluded) n i o))
         go false b p q x =
             let (n, i, o) = p tt in
-            ((satisfies-wanted m g (canonicalAll S g) t u, fine (m .wanted)), λ rowMapsTo. clash (S .has (m .wanted) n) (rowMapsTo .0 .held n i) o)
+            ((satisfies-wanted m g (canonicalAll S g) t u, fine (m .wanted)), λ fit. clash (S .has (m .wanted) n) (fit .0 .held n i) o)
 
   -- the children of a forest: its first edge is broken, or a later one
   falsifyAll-step : (k : Kind) (r : ℕ) (d : Tree S) (f g : Forest S) (h : Tree S → Tree S) (b : Bool) (ks : Forest S) →
       ((s : S .Names) → T (not b) → FitsAllTree g (individual S s (falsify S k r h g))) → ((s : S .Names) → T (not b) → Restriction S (treeStructure S) k r (λ y. FitsTree d y) (individual S s (falsify S k r h g)) → ⊥) → Falsifies f g ks →
       ((s : S .Names) → FitsAllTree g (individual S s (pick b ks (falsify S k r h g)))) × (T (not (b && mapsAllTo S f g)) → (s : S .Names) → FitsAllTree (cons k r d f) (individual S s (pick b ks (falsify S k r h g))) → ⊥)
-  falsifyAll-step k r d f g h true ks p q sp = (sp .0, λ x s rowMapsTo. sp .1 x s (rowMapsTo .1))
-  falsifyAll-step k r d f g h false ks p q sp = (λ s. p s tt, λ x s rowMapsTo. q s tt (rowMapsTo .0))
+  falsifyAll-step k r d f g h true ks p q sp = (sp .0, λ x s fit. sp .1 x s (fit .1))
+  falsifyAll-step k r d f g h false ks p q sp = (λ s. p s tt, λ x s fit. q s tt (fit .0))
 
   mutual
     pub countermodel-complete : (d v : Tree S) → Reduced S d → Saturated S v → T (not (mapsTo S d v)) → Refutes v d (countermodel S d v)

@@ -7,7 +7,7 @@ use Rattle.ale.specs.Product.{lcs, lcsTable}
 use Rattle.ale.specs.Signature.{Signature}
 use Rattle.ale.specs.Table.{KnownRoles, Table, tree}
 use Rattle.ale.specs.Tree.{RolesKnown, Tree}
-use Rattle.ale.proofs.Shallows.{lcsTable-known, lcsTable-tree, treeOf-rolesKnown}
+use Rattle.ale.proofs.Confined.{lcsTable-known, lcsTable-tree, treeOf-rolesKnown}
 use Rattle.ale.proofs.Subsumption.{lcs-least, lcs-left, lcs-right, subsumed-trans}
 
 pub data Folding : Type 0 where

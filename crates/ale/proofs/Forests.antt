@@ -6,6 +6,7 @@ use mathlib.Core.Logic.{inl, inr, ⊎-elim}
 use mathlib.Core.Path.{subst, sym}
 use native.Mathlib.Nat.{eq-or-lt-of-le}
 use native.Mathlib.Omega.{arith}
+use Rattle.table.specs.Pick.{pick}
 use Rattle.ale.specs.Forest.{append, byRole, consReduced, trivial}
 use Rattle.ale.specs.Homomorphism.{labelWithin}
 use Rattle.ale.specs.NormalForm.{Nontrivial, Reduced, ReducedAll}
@@ -14,7 +15,7 @@ use Rattle.ale.specs.Structure.{Fits, FitsAll, Restriction, Structure}
 use Rattle.ale.specs.Tree.{All, Any, Forest, Kind, Tree, cons, emptyLabel, exists, forAll, nil, node}
 use Rattle.ale.proofs.NameLaws.{none-has}
 use Rattle.ale.proofs.Soundness.{satisfies-within}
-use Rattle.ale.proofs.Tests.{and-left, and-right, pick}
+use Rattle.ale.proofs.Tests.{and-left, and-right}
 
 module _ (S : Signature) where
   pub All-append {ℓ} : (P : Kind → ℕ → Tree S → Type ℓ) (f g : Forest S) → All S P f → All S P g → All S P (append S f g)

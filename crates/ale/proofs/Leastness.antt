@@ -4,6 +4,7 @@ use lib.Dec.{T, eqb-refl}
 use mathlib.Core.Bool.{_&&_, false, not, true}
 use mathlib.Core.Logic.{inl, inr, ⊎-elim}
 use mathlib.Core.Path.{subst, sym}
+use Rattle.table.specs.Pick.{pick}
 use Rattle.ale.specs.Forest.{append, consReduced, trivial}
 use Rattle.ale.specs.Homomorphism.{edgeServes, labelWithin, mapsAllTo, mapsTo, roleServes}
 use Rattle.ale.specs.Normal.{inconsistent, tidy, tidyAll}
@@ -15,7 +16,7 @@ use Rattle.ale.proofs.Forests.{Any-append-left, Any-append-right, Any-b
 use Rattle.ale.proofs.NameLaws.{intersection-intro}
 use Rattle.ale.proofs.NormalForms.{trivial-mapsTo}
 use Rattle.ale.proofs.Products.{pairForest, pairRole}
-use Rattle.ale.proofs.Tests.{and-intro, and-left, and-right, chosen, chosen-first, clash, or-split, pick, refute}
+use Rattle.ale.proofs.Tests.{and-intro, and-left, and-right, chosen, chosen-first, clash, or-split, refute}
 use Rattle.ale.proofs.Trees.{Any-any, any-Any, sameKind-refl}
 
 module _ (S : Signature) where

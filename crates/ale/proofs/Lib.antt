@@ -21,7 +21,7 @@ pub mod Completeness
 pub mod Products
 pub mod Leastness
 pub mod Subsumption
-pub mod Shallows
+pub mod Confined
 pub mod Foldings
 pub mod Sizes
 pub mod Canonicals

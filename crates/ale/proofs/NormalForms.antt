@@ -3,13 +3,13 @@ use Prim.Native.Nat.{ℕ}
 use lib.Dec.{T, eqb}
 use mathlib.Core.Bool.{Bool, false, true}
 use mathlib.Core.Path.{_≡_, refl}
+use Rattle.table.specs.Pick.{pick}
 use Rattle.ale.specs.Forest.{trivial}
 use Rattle.ale.specs.Homomorphism.{mapsTo}
 use Rattle.ale.specs.NormalForm.{IfForAll, Saturated, valueOf}
 use Rattle.ale.specs.Signature.{Signature}
 use Rattle.ale.specs.Tree.{All, Forest, Tree, cons, exists, forAll, nil, node, top}
 use Rattle.ale.proofs.NameLaws.{none-has}
-use Rattle.ale.proofs.Tests.{pick}
 
 module _ (S : Signature) where
   pub trivial-mapsTo : (d : Tree S) → trivial S d ≡ mapsTo S d (top S)

@@ -1,6 +1,7 @@
 -- The product subsumes both.
 use Prim.Native.Nat.{ℕ}
 use lib.Dec.{T}
+use Rattle.table.specs.Pick.{pick}
 use Rattle.ale.specs.Forest.{append, byRole, consReduced}
 use Rattle.ale.specs.Homomorphism.{roleServes}
 use Rattle.ale.specs.Product.{edgeCounts, labelIntersection, pairAll, pairEach, product}
@@ -11,7 +12,7 @@ use Rattle.ale.proofs.Forests.{All-append, All-byRole, All-consReduced}
 use Rattle.ale.proofs.NameLaws.{intersection-left, intersection-right}
 use Rattle.ale.proofs.Soundness.{restriction-along}
 use Rattle.ale.proofs.Structures.{FitsEdge, each-fits}
-use Rattle.ale.proofs.Tests.{and-left, and-right, chosen, clash, pick}
+use Rattle.ale.proofs.Tests.{and-left, and-right, chosen, clash}
 
 module _ (S : Signature) where
   -- the product's successors of one role: all before some

@@ -7,8 +7,9 @@ use mathlib.Core.Logic.{⊎-elim}
 use mathlib.Core.Path.{_∙_, _≡_, ap, refl, subst, sym}
 use native.Mathlib.Nat.{eq-or-lt-of-le}
 use native.Mathlib.Omega.{arith}
+use Rattle.table.specs.Pick.{pick}
 use Rattle.ale.specs.Rows.{filterBelow, filterFrom, member, withRow}
-use Rattle.ale.proofs.Tests.{chosen, chosen-first, clash, or-left, or-right, or-split, pick}
+use Rattle.ale.proofs.Tests.{chosen, chosen-first, clash, or-left, or-right, or-split}
 
 pub member-head : (i : ℕ) (s : List ℕ) → T (member i (i ∷ s))
 member-head i s = or-left (eqb i i) (member i s) (eqb-refl i)

@@ -11,7 +11,7 @@ use Rattle.ale.specs.Signature.{Signature}
 use Rattle.ale.specs.Table.{Table}
 use Rattle.ale.specs.Tree.{Forest, Kind, Tree, bottomTree, cons, exists, forAll, height, nil, node, size, sizes}
 use Rattle.ale.proofs.Completeness.{countermodel-count}
-use Rattle.ale.proofs.Shallows.{normal-shallow, shallow-height}
+use Rattle.ale.proofs.Confined.{confined-height, normal-confined}
 use Rattle.ale.proofs.Tests.{chosen}
 
 module _ (S : Signature) where
@@ -33,6 +33,6 @@ module _ (S : Signature) where
   pub countermodel-bound : (p q : Table S) (n b : ℕ) → size S (normalTree S p n) ≤ b → length (encode S (countermodel S (normalTree S q n) (normalTree S p n))) ≤ suc n * b
   countermodel-bound p q n b h =
       let e = countermodel-count S (normalTree S q n) (normalTree S p n) in
-      let d = shallow-height S (normalTree S q n) n (normal-shallow S q n) in
+      let d = confined-height S (normalTree S q n) n (normal-confined S q n) in
       let m : suc (height S (normalTree S q n)) * size S (normalTree S p n) ≤ suc n * b = mul-le-mul (omega arith) h in
       omega arith

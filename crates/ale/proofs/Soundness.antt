@@ -5,7 +5,6 @@ use mathlib.Core.Bool.{Bool, _&&_, not}
 use mathlib.Core.Logic.{⊎-elim}
 use mathlib.Core.Path.{subst, sym}
 use Rattle.ale.specs.Homomorphism.{edgeServes, labelWithin, mapsAllTo, mapsTo, roleServes}
-use Rattle.ale.specs.RowMap.{rowMapsTo}
 use Rattle.ale.specs.Signature.{Signature}
 use Rattle.ale.specs.Structure.{Fits, FitsAll, Restriction, Satisfies, Structure, SubsumedInAll}
 use Rattle.ale.specs.Tree.{Forest, Kind, Label, Tree, any, cons, exists, forAll, nil, node, sameKind}
@@ -39,25 +38,25 @@ module _ (S : Signature) (M : Structure S) where
 
   mutual
     pub mapsTo-fits : (d v : Tree S) → T (mapsTo S d v) → (x : M .Element) → Fits S M v x → Fits S M d x
-    mapsTo-fits (node l f) (node m g) h x rowMapsTo =
+    mapsTo-fits (node l f) (node m g) h x fit =
         ⊎-elim
-        (λ k. absurd (clash (m .bottom) k (rowMapsTo .0 .possible)))
-        (λ k. (satisfies-within l m (and-left (labelWithin S l m) (mapsAllTo S f g) k) x (rowMapsTo .0), mapsAllTo-fits f g (and-right (labelWithin S l m) (mapsAllTo S f g) k) x (rowMapsTo .1)))
+        (λ k. absurd (clash (m .bottom) k (fit .0 .possible)))
+        (λ k. (satisfies-within l m (and-left (labelWithin S l m) (mapsAllTo S f g) k) x (fit .0), mapsAllTo-fits f g (and-right (labelWithin S l m) (mapsAllTo S f g) k) x (fit .1)))
         (or-split (m .bottom) (labelWithin S l m && mapsAllTo S f g) h)
 
     pub mapsAllTo-fits : (f g : Forest S) → T (mapsAllTo S f g) → (x : M .Element) → FitsAll S M g x → FitsAll S M f x
-    mapsAllTo-fits nil g h x rowMapsTo = tt
-    mapsAllTo-fits (cons k r d f) g h x rowMapsTo =
+    mapsAllTo-fits nil g h x fit = tt
+    mapsAllTo-fits (cons k r d f) g h x fit =
         let q : Kind → ℕ → Tree S → Bool = edgeServes S k r (λ c. mapsTo S d c) in (
           All-Any S (FitsEdge S M x) (λ k′ r′ c. T (q k′ r′ c)) (Restriction S M k r (λ y. Fits S M d y) x)
               (λ k′ r′ c p t.
               let u = and-right (sameKind k k′) (roleServes S k r′ r && mapsTo S d c) t in
               restriction-along k k′ r r′ (λ y. Fits S M c y) (λ y. Fits S M d y) (and-left (sameKind k k′) (roleServes S k r′ r && mapsTo S d c) t) (and-left (roleServes S k r′ r) (mapsTo S d c) u)
               (λ y w. mapsTo-fits d c (and-right (roleServes S k r′ r) (mapsTo S d c) u) y w) x p)
-              g (fits-each S M g x rowMapsTo) (any-Any S q g (and-left (any S q g) (mapsAllTo S f g) h)),
-          mapsAllTo-fits f g (and-right (any S q g) (mapsAllTo S f g) h) x rowMapsTo,
+              g (fits-each S M g x fit) (any-Any S q g (and-left (any S q g) (mapsAllTo S f g) h)),
+          mapsAllTo-fits f g (and-right (any S q g) (mapsAllTo S f g) h) x fit,
         )
 
 module _ (S : Signature) where
   pub mapsTo-sound : (d v : Tree S) → T (mapsTo S d v) → SubsumedInAll S v d
-  mapsTo-sound d v h M x rowMapsTo = mapsTo-fits S M d v h x rowMapsTo
+  mapsTo-sound d v h M x fit = mapsTo-fits S M d v h x fit

@@ -49,10 +49,10 @@ module _ (S : Signature) where
   lcs-least p q kp kq n m u w a b I x l f =
       tidy-fits S (structureOf S I) u x
       (mapsTo-sound S (tidy S u) (lcs S p q n m)
-      (mapsTo-product S (tidy S u) (normalTree S p n) (normalTree S q m) (tidy-reduced S u) (tidy-rolesKnown S u w) (imageFrom p kp n a) (imageFrom q kq m b))
+      (mapsTo-product S (tidy S u) (normalTree S p n) (normalTree S q m) (tidy-reduced S u) (tidy-rolesKnown S u w) (sent p kp n a) (sent q kq m b))
       (structureOf S I) x f)
     where
-      imageFrom : (p : Table S) → KnownRoles S p → (n : ℕ) → Subsumed S (tree S p n) u → T (mapsTo S (tidy S u) (normalTree S p n))
-      imageFrom p k n c =
+      sent : (p : Table S) → KnownRoles S p → (n : ℕ) → Subsumed S (tree S p n) u → T (mapsTo S (tidy S u) (normalTree S p n))
+      sent p k n c =
           subsumed-mapsTo S (tidy S u) (normalTree S p n) (tidy-reduced S u) (normalOf-saturated S p k n (0 ∷ []))
           (λ I x l f. fits-tidy S (structureOf S I) u x (c I x l (normal-tree p k n (structureOf S I) x f)))

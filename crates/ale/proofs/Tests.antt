@@ -3,6 +3,7 @@ use lib.Dec.{T}
 use mathlib.Core.Bool.{Bool, _&&_, _||_, false, not, true}
 use mathlib.Core.Logic.{_⊎_, inl, inr}
 use mathlib.Core.Path.{_≡_, refl}
+use Rattle.table.specs.Pick.{pick}
 
 pub and-intro : (a b : Bool) → T a → T b → T (a && b)
 and-intro true true p q = tt
@@ -55,10 +56,6 @@ or-fails-right false b p = p
 pub refute : (a : Bool) → (T a → ⊥) → T (not a)
 refute true h = h tt
 refute false h = tt
-
-abbrev pub pick {ℓ} : {A : Type ℓ} → Bool → A → A → A
-pick true a b = a
-pick false a b = b
 
 -- a chosen one of two
 pub chosen {ℓ κ} : {A : Type ℓ} (P : A → Type κ) (b : Bool) (x y : A) → (T b → P x) → (T (not b) → P y) → P (pick b x y)

@@ -3,6 +3,7 @@ use Prim.Native.Nat.{ℕ}
 use lib.Dec.{T}
 use mathlib.Core.Bool.{Bool, _||_, false, not, true}
 use mathlib.Core.Logic.{⊎-elim}
+use Rattle.table.specs.Pick.{pick}
 use Rattle.ale.specs.Normal.{bottomExists, inconsistent, tidy, tidyAll, tidyNode}
 use Rattle.ale.specs.NormalForm.{Reduced, ReducedAll}
 use Rattle.ale.specs.Signature.{Signature}
@@ -11,7 +12,7 @@ use Rattle.ale.specs.Tree.{Forest, Kind, Label, Tree, any, bottomTree, c
 use Rattle.ale.proofs.Forests.{consReduced-fits, fits-consReduced, reduced-consReduced}
 use Rattle.ale.proofs.NameLaws.{intersection-left, intersection-right}
 use Rattle.ale.proofs.Structures.{FitsEdge, fits-each}
-use Rattle.ale.proofs.Tests.{clash, or-split, pick}
+use Rattle.ale.proofs.Tests.{clash, or-split}
 use Rattle.ale.proofs.Trees.{All-Any, any-Any}
 
 module _ (S : Signature) where
