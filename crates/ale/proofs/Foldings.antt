@@ -1,49 +1,75 @@
--- Folding.
-use Prim.Native.Nat.{_<_, ℕ}
-use mathlib.Core.Logic.{_⊎_, inl, inr}
-use mathlib.Core.Path.{_≡_, subst, sym}
-use Rattle.ale.specs.Interpretation.{Subsumed}
+-- However pictures are folded two at a time, the result is their least common subsumer; so the least common subsumer is associative,
+-- commutative and idempotent, up to equivalence.
+--   folding-subsumes    the result subsumes each table that is used
+--   folding-least       and is subsumed by every tree of known roles that subsumes all of them
+--   folding-equivalent  two foldings that use the same tables are equivalent
+--   lcs-commutative, lcs-associative, lcs-idempotent
+use Prim.Native.Nat.{_<_, suc, zero, ℕ}
+use mathlib.Core.Logic.{_↔_, inl, inr, ⊎-elim}
+use mathlib.Core.Path.{refl, subst, sym}
+use Rattle.ale.specs.Folding.{Folding, Uses, fold, one, two}
+use Rattle.ale.specs.Interpretation.{Equivalent, Subsumed}
 use Rattle.ale.specs.Product.{lcs, lcsTable}
 use Rattle.ale.specs.Signature.{Signature}
 use Rattle.ale.specs.Table.{KnownRoles, Table, tree}
 use Rattle.ale.specs.Tree.{RolesKnown, Tree}
-use Rattle.ale.proofs.Confined.{lcsTable-known, lcsTable-tree, treeOf-rolesKnown}
-use Rattle.ale.proofs.Subsumption.{lcs-least, lcs-left, lcs-right, subsumed-trans}
+use Rattle.ale.proofs.CommonSubsumers.{lcs-least, lcs-left, lcs-right, lcsTable-known, lcsTable-tree}
+use Rattle.ale.proofs.RoleLaws.{treeOf-rolesKnown}
+use Rattle.ale.proofs.Structures.{subsumed-trans}
 
-pub data Folding : Type 0 where
-  one : ℕ → Folding
-  two : Folding → Folding → Folding
-
-abbrev pub Uses : Folding → ℕ → Type 0
-Uses (one j) i = i ≡ j
-Uses (two a b) i = Uses a i ⊎ Uses b i
-
-module _ (S : Signature) (z : 0 < S .roles) (n : ℕ) (pic : ℕ → Table S) (known : (i : ℕ) → KnownRoles S (pic i)) where
-  abbrev pub fold : Folding → Table S
-  fold (one i) = pic i
-  fold (two a b) = lcsTable S (fold a) (fold b) n
-
-  fold-known : (w : Folding) → KnownRoles S (fold w)
+module _ (S : Signature) (z : 0 < S .roles) (n : ℕ) (tables : ℕ → Table S) (known : (i : ℕ) → KnownRoles S (tables i)) where
+  fold-known : (w : Folding) → KnownRoles S (fold S n tables w)
   fold-known (one i) = known i
-  fold-known (two a b) = lcsTable-known S z n (fold a) (fold b)
+  fold-known (two a b) = lcsTable-known S z (fold S n tables a) (fold S n tables b) n
 
-  -- the result covers each picture used
-  pub folding-subsumes : (w : Folding) (i : ℕ) → Uses w i → Subsumed S (tree S (pic i) n) (tree S (fold w) n)
-  folding-subsumes (one j) i e = subst (λ k. Subsumed S (tree S (pic i) n) (tree S (pic k) n)) e (λ I x l f. f)
-  folding-subsumes (two a b) i (inl u) =
-      subst (λ t. Subsumed S (tree S (pic i) n) t) (sym (lcsTable-tree S n (fold a) (fold b)))
-      (subsumed-trans S (tree S (pic i) n) (tree S (fold a) n) (lcs S (fold a) (fold b) n n) (folding-subsumes a i u) (lcs-left S (fold a) (fold b) (fold-known a) n n))
-  folding-subsumes (two a b) i (inr u) =
-      subst (λ t. Subsumed S (tree S (pic i) n) t) (sym (lcsTable-tree S n (fold a) (fold b)))
-      (subsumed-trans S (tree S (pic i) n) (tree S (fold b) n) (lcs S (fold a) (fold b) n n) (folding-subsumes b i u) (lcs-right S (fold a) (fold b) (fold-known b) n n))
+  pub folding-subsumes : (w : Folding) (i : ℕ) → Uses w i → Subsumed S (tree S (tables i) n) (tree S (fold S n tables w) n)
+  folding-subsumes (one j) i e = subst (λ k. Subsumed S (tree S (tables i) n) (tree S (tables k) n)) e (λ I x l f. f)
+  folding-subsumes (two a b) i u =
+      let p = fold S n tables a in
+      let q = fold S n tables b in
+      subst (λ t. Subsumed S (tree S (tables i) n) t) (sym (lcsTable-tree S p q n))
+      (⊎-elim
+      (λ h. subsumed-trans S (tree S (tables i) n) (tree S p n) (lcs S p q n n) (folding-subsumes a i h) (lcs-left S p q (fold-known a) n n))
+      (λ h. subsumed-trans S (tree S (tables i) n) (tree S q n) (lcs S p q n n) (folding-subsumes b i h) (lcs-right S p q (fold-known b) n n))
+      u)
 
-  -- and is covered by whatever covers all of them
-  pub folding-least : (w : Folding) (u : Tree S) → RolesKnown S u → ((i : ℕ) → Uses w i → Subsumed S (tree S (pic i) n) u) → Subsumed S (tree S (fold w) n) u
-  folding-least (one i) u v h = h i (λ _. i)
+  pub folding-least : (w : Folding) (u : Tree S) → RolesKnown S u → ((i : ℕ) → Uses w i → Subsumed S (tree S (tables i) n) u) → Subsumed S (tree S (fold S n tables w) n) u
+  folding-least (one i) u v h = h i refl
   folding-least (two a b) u v h =
-      subst (λ t. Subsumed S t u) (sym (lcsTable-tree S n (fold a) (fold b)))
-      (lcs-least S (fold a) (fold b) (fold-known a) (fold-known b) n n u v (folding-least a u v (λ i q. h i (inl q))) (folding-least b u v (λ i q. h i (inr q))))
+      let p = fold S n tables a in
+      let q = fold S n tables b in
+      subst (λ t. Subsumed S t u) (sym (lcsTable-tree S p q n))
+      (lcs-least S p q (fold-known a) (fold-known b) n n u v (folding-least a u v (λ i h′. h i (inl h′))) (folding-least b u v (λ i h′. h i (inr h′))))
 
-  -- two ways that use the same pictures give pictures that cover each other
-  pub folding-any : (v w : Folding) → ((i : ℕ) → Uses v i → Uses w i) → Subsumed S (tree S (fold v) n) (tree S (fold w) n)
-  folding-any v w h = folding-least v (tree S (fold w) n) (treeOf-rolesKnown S (fold w) (fold-known w) n 0) (λ i q. folding-subsumes w i (h i q))
+  folding-within : (v w : Folding) → ((i : ℕ) → Uses v i → Uses w i) → Subsumed S (tree S (fold S n tables v) n) (tree S (fold S n tables w) n)
+  folding-within v w h =
+      folding-least v (tree S (fold S n tables w) n) (treeOf-rolesKnown S (fold S n tables w) (fold-known w) n 0) (λ i q. folding-subsumes w i (h i q))
+
+  pub folding-equivalent : (v w : Folding) → ((i : ℕ) → Uses v i ↔ Uses w i) → Equivalent S (tree S (fold S n tables v) n) (tree S (fold S n tables w) n)
+  folding-equivalent v w h = (folding-within v w (λ i. h i .0), folding-within w v (λ i. h i .1))
+
+module _ (S : Signature) (p q r : Table S) where
+  abbrev three : ℕ → Table S
+  three zero = p
+  three (suc zero) = q
+  three (suc (suc i)) = r
+
+  three-known : KnownRoles S p → KnownRoles S q → KnownRoles S r → (i : ℕ) → KnownRoles S (three i)
+  three-known kp kq kr zero = kp
+  three-known kp kq kr (suc zero) = kq
+  three-known kp kq kr (suc (suc i)) = kr
+
+module _ (S : Signature) (z : 0 < S .roles) (n : ℕ) where
+  pub lcs-commutative : (p q : Table S) → KnownRoles S p → KnownRoles S q → Equivalent S (tree S (lcsTable S p q n) n) (tree S (lcsTable S q p n) n)
+  lcs-commutative p q kp kq =
+      folding-equivalent S z n (three S p q q) (three-known S p q q kp kq kq) (two (one 0) (one 1)) (two (one 1) (one 0)) (λ i. (⊎-elim inr inl, ⊎-elim inr inl))
+
+  pub lcs-associative : (p q r : Table S) → KnownRoles S p → KnownRoles S q → KnownRoles S r →
+      Equivalent S (tree S (lcsTable S (lcsTable S p q n) r n) n) (tree S (lcsTable S p (lcsTable S q r n) n) n)
+  lcs-associative p q r kp kq kr =
+      folding-equivalent S z n (three S p q r) (three-known S p q r kp kq kr) (two (two (one 0) (one 1)) (one 2)) (two (one 0) (two (one 1) (one 2)))
+      (λ i. (⊎-elim (⊎-elim inl (λ h. inr (inl h))) (λ h. inr (inr h)), ⊎-elim (λ h. inl (inl h)) (⊎-elim (λ h. inl (inr h)) inr)))
+
+  pub lcs-idempotent : (p : Table S) → KnownRoles S p → Equivalent S (tree S (lcsTable S p p n) n) (tree S p n)
+  lcs-idempotent p kp =
+      folding-equivalent S z n (three S p p p) (three-known S p p p kp kp kp) (two (one 0) (one 0)) (one 0) (λ i. (⊎-elim (λ h. h) (λ h. h), inl))

@@ -3,6 +3,7 @@ pub mod Tests
 pub mod NameLaws
 pub mod Trees
 pub mod Structures
+pub mod Concepts
 pub mod Soundness
 pub mod TreeStructure
 pub mod NormalForms
@@ -11,6 +12,8 @@ pub mod Tidying
 pub mod RowLists
 pub mod Merging
 pub mod Normalizing
+pub mod Canonicals
+pub mod Orderings
 pub mod Countermodels
 pub mod CountermodelSize
 pub mod Bisimulations
@@ -22,8 +25,9 @@ pub mod Products
 pub mod Leastness
 pub mod Subsumption
 pub mod Confined
+pub mod RoleLaws
+pub mod CommonSubsumers
 pub mod Foldings
 pub mod Sizes
-pub mod Canonicals
 pub mod RowMaps
 pub mod LowestMap

@@ -20,3 +20,6 @@ module _ (S : Signature) (M : Structure S) where
 module _ (S : Signature) where
   pub inAll-subsumed : (t u : Tree S) → SubsumedInAll S t u → Subsumed S t u
   inAll-subsumed t u h I x b = h (structureOf S I) x
+
+  pub subsumed-trans : (t u v : Tree S) → Subsumed S t u → Subsumed S u v → Subsumed S t v
+  subsumed-trans t u v a b I x l f = b I x l (a I x l f)

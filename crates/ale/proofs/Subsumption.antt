@@ -1,58 +1,82 @@
--- Pictures: one subsumes another exactly if its normal tree maps to the other's.
+-- Pictures: one is subsumed by another exactly if the other's normal tree maps to its own (003, Theorem 41). Soundness holds of any trees; for
+-- completeness the normal tree is saturated and reduced, so that the countermodel refutes. Both trees mean what their pictures mean.
+--   tree-normal, normal-tree       whatever fits the picture's tree fits the normal tree, and the reverse, in every structure
+--   normal-equivalent              so they are equivalent
+--   normalTree-normal              the normal tree is normal
+--   subsumption-homomorphism       p ⊑ q exactly if the normal tree of q maps to that of p
+--   subsumed-decidable             so it is decidable
+--   subsumed-inAll                 subsumption over finite interpretations is subsumption over all structures
+--   not-subsumed                   if it does not map, individual 0 of the numbered countermodel fits p and not q
 use Prim.Native.Nat.{ℕ}
 use lib.Dec.{T}
+use mathlib.Core.Bool.{not}
 use mathlib.Core.List.{[], _∷_}
-use mathlib.Core.Logic.{_↔_}
+use mathlib.Core.Logic.{_↔_, ⊎-elim}
+use Rattle.ale.specs.Countermodel.{countermodel, numbered}
 use Rattle.ale.specs.Homomorphism.{mapsTo}
-use Rattle.ale.specs.Interpretation.{Subsumed, structureOf}
+use Rattle.ale.specs.Interpretation.{Equivalent, Subsumed, structureOf}
 use Rattle.ale.specs.Merged.{merged}
-use Rattle.ale.specs.Normal.{normalTree, tidy}
-use Rattle.ale.specs.Product.{lcs}
+use Rattle.ale.specs.Normal.{normalTree}
+use Rattle.ale.specs.NormalForm.{Normal}
 use Rattle.ale.specs.Signature.{Signature}
 use Rattle.ale.specs.Structure.{Fits, SubsumedInAll}
 use Rattle.ale.specs.Table.{KnownRoles, Table, tree, treeOf}
-use Rattle.ale.specs.Tree.{RolesKnown, Tree}
-use Rattle.ale.proofs.Completeness.{subsumed-mapsTo}
-use Rattle.ale.proofs.Leastness.{mapsTo-product, tidy-rolesKnown}
+use Rattle.ale.specs.Tree.{Tree}
+use Rattle.ale.proofs.Canonicals.{tidy-canonical}
+use Rattle.ale.proofs.Completeness.{countermodel-refutes, subsumed-mapsTo}
 use Rattle.ale.proofs.Normalizing.{fits-normalOf, normalOf-fits, normalOf-saturated}
-use Rattle.ale.proofs.Products.{fits-product-left, fits-product-right}
+use Rattle.ale.proofs.Orderings.{merged-ordered, tidy-ordered}
 use Rattle.ale.proofs.RowLists.{member-cons, member-head}
 use Rattle.ale.proofs.Soundness.{mapsTo-sound}
-use Rattle.ale.proofs.Tidying.{fits-tidy, tidy-fits, tidy-reduced}
+use Rattle.ale.proofs.Structures.{inAll-subsumed}
+use Rattle.ale.proofs.Tests.{clash, decide}
+use Rattle.ale.proofs.Tidying.{tidy-reduced}
 
 module _ (S : Signature) where
-  pub subsumed-trans : (t u v : Tree S) → Subsumed S t u → Subsumed S u v → Subsumed S t v
-  subsumed-trans t u v a b I x l f = b I x l (a I x l f)
-
-  -- the normal tree means the same
   pub tree-normal : (p : Table S) → KnownRoles S p → (n : ℕ) → SubsumedInAll S (tree S p n) (normalTree S p n)
   tree-normal p k n M x f = fits-normalOf S p k M n (0 ∷ []) x (member-cons (λ i. Fits S M (treeOf S p n i) x) 0 [] f (λ i m. absurd m))
 
   pub normal-tree : (p : Table S) → KnownRoles S p → (n : ℕ) → SubsumedInAll S (normalTree S p n) (tree S p n)
   normal-tree p k n M x f = normalOf-fits S p k M n (0 ∷ []) x f 0 (member-head 0 [])
 
-  -- the second covers the first exactly if its normal tree maps to the first's
-  pub subsumption-homomorphism : (p q : Table S) → KnownRoles S p → KnownRoles S q → (n m : ℕ) → Subsumed S (tree S p n) (tree S q m) ↔ T (mapsTo S (normalTree S q m) (normalTree S p n))
-  subsumption-homomorphism p q kp kq n m = (
-    λ c. subsumed-mapsTo S (normalTree S q m) (normalTree S p n) (tidy-reduced S (merged S q m (0 ∷ []))) (normalOf-saturated S p kp n (0 ∷ []))
-        (λ I x l f. tree-normal q kq m (structureOf S I) x (c I x l (normal-tree p kp n (structureOf S I) x f))),
-    λ t I x l f. normal-tree q kq m (structureOf S I) x (mapsTo-sound S (normalTree S q m) (normalTree S p n) t (structureOf S I) x (tree-normal p kp n (structureOf S I) x f)),
-  )
+  pub normal-equivalent : (p : Table S) → KnownRoles S p → (n : ℕ) → Equivalent S (tree S p n) (normalTree S p n)
+  normal-equivalent p k n = (inAll-subsumed S (tree S p n) (normalTree S p n) (tree-normal p k n), inAll-subsumed S (normalTree S p n) (tree S p n) (normal-tree p k n))
 
-  pub lcs-left : (p q : Table S) → KnownRoles S p → (n m : ℕ) → Subsumed S (tree S p n) (lcs S p q n m)
-  lcs-left p q k n m I x l f = fits-product-left S (structureOf S I) (normalTree S p n) (normalTree S q m) x (tree-normal p k n (structureOf S I) x f)
+  pub normalTree-normal : (p : Table S) → KnownRoles S p → (n : ℕ) → Normal S (normalTree S p n)
+  normalTree-normal p k n = record {
+    saturated = normalOf-saturated S p k n (0 ∷ []);
+    reduced = tidy-reduced S (merged S p n (0 ∷ []));
+    canonical = tidy-canonical S (merged S p n (0 ∷ []));
+    ordered = tidy-ordered S (merged S p n (0 ∷ [])) (merged-ordered S p n (0 ∷ []));
+  }
 
-  pub lcs-right : (p q : Table S) → KnownRoles S q → (n m : ℕ) → Subsumed S (tree S q m) (lcs S p q n m)
-  lcs-right p q k n m I x l f = fits-product-right S (structureOf S I) (normalTree S p n) (normalTree S q m) x (tree-normal q k m (structureOf S I) x f)
+module _ (S : Signature) (p q : Table S) (kp : KnownRoles S p) (kq : KnownRoles S q) (n m : ℕ) where
+  -- the trees of the pictures, and their normal trees
+  abbrev v : Tree S
+  v = normalTree S p n
 
-  pub lcs-least : (p q : Table S) → KnownRoles S p → KnownRoles S q → (n m : ℕ) (u : Tree S) → RolesKnown S u → Subsumed S (tree S p n) u → Subsumed S (tree S q m) u → Subsumed S (lcs S p q n m) u
-  lcs-least p q kp kq n m u w a b I x l f =
-      tidy-fits S (structureOf S I) u x
-      (mapsTo-sound S (tidy S u) (lcs S p q n m)
-      (mapsTo-product S (tidy S u) (normalTree S p n) (normalTree S q m) (tidy-reduced S u) (tidy-rolesKnown S u w) (sent p kp n a) (sent q kq m b))
-      (structureOf S I) x f)
-    where
-      sent : (p : Table S) → KnownRoles S p → (n : ℕ) → Subsumed S (tree S p n) u → T (mapsTo S (tidy S u) (normalTree S p n))
-      sent p k n c =
-          subsumed-mapsTo S (tidy S u) (normalTree S p n) (tidy-reduced S u) (normalOf-saturated S p k n (0 ∷ []))
-          (λ I x l f. fits-tidy S (structureOf S I) u x (c I x l (normal-tree p k n (structureOf S I) x f)))
+  abbrev d : Tree S
+  d = normalTree S q m
+
+  mapsTo-inAll : T (mapsTo S (normalTree S q m) (normalTree S p n)) → SubsumedInAll S (tree S p n) (tree S q m)
+  mapsTo-inAll t M x f = normal-tree S q kq m M x (mapsTo-sound S d v t M x (tree-normal S p kp n M x f))
+
+  subsumed-normal : Subsumed S (tree S p n) (tree S q m) → T (mapsTo S (normalTree S q m) (normalTree S p n))
+  subsumed-normal c =
+      subsumed-mapsTo S d v (normalTree-normal S q kq m .reduced) (normalTree-normal S p kp n .saturated)
+      (λ I x l f. tree-normal S q kq m (structureOf S I) x (c I x l (normal-tree S p kp n (structureOf S I) x f)))
+
+  pub subsumption-homomorphism : Subsumed S (tree S p n) (tree S q m) ↔ T (mapsTo S (normalTree S q m) (normalTree S p n))
+  subsumption-homomorphism = (subsumed-normal, λ t. inAll-subsumed S (tree S p n) (tree S q m) (mapsTo-inAll t))
+
+  pub subsumed-decidable : Dec (Subsumed S (tree S p n) (tree S q m))
+  subsumed-decidable = ⊎-elim (λ t. yes (subsumption-homomorphism .1 t)) (λ t. no (λ c. clash (mapsTo S d v) (subsumed-normal c) t)) (decide (mapsTo S d v))
+
+  pub subsumed-inAll : Subsumed S (tree S p n) (tree S q m) → SubsumedInAll S (tree S p n) (tree S q m)
+  subsumed-inAll c = mapsTo-inAll (subsumed-normal c)
+
+  pub not-subsumed : T (not (mapsTo S (normalTree S q m) (normalTree S p n))) → let I = structureOf S (numbered S (countermodel S (normalTree S q m) (normalTree S p n))) in Fits S I (tree S p n) 0 × (Fits S I (tree S q m) 0 → ⊥)
+  not-subsumed t =
+      let I = structureOf S (numbered S (countermodel S d v)) in
+      let (a, b) = countermodel-refutes S d v (normalTree-normal S q kq m .reduced) (normalTree-normal S p kp n .saturated) t in
+      (normal-tree S p kp n I 0 a, λ f. b (tree-normal S q kq m I 0 f))

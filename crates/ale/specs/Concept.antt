@@ -2,10 +2,12 @@
 --   Concept             the seven lines of Table 1
 --   InExtension         an element is in the extension of a concept: Table 1's third column, line by line
 --   conceptOf           the concept of a tree: the conjunction of its label and of a restriction for each successor
-use Prim.Native.Nat.{ℕ}
+--   ConceptSubsumed     003, Definition 1, over finite interpretations
+use Prim.Native.Nat.{_<_, ℕ}
 use lib.Dec.{T}
 use mathlib.Core.List.{List, [], _∷_}
 use Rattle.table.specs.Pick.{pick}
+use Rattle.ale.specs.Interpretation.{Interpretation, structureOf}
 use Rattle.ale.specs.Rows.{filterBelow}
 use Rattle.ale.specs.Signature.{Signature}
 use Rattle.ale.specs.Structure.{Structure}
@@ -52,3 +54,6 @@ module _ (S : Signature) where
     pub conceptsOf : Forest S → Concept
     conceptsOf nil = topConcept
     conceptsOf (cons k r t f) = conjunction (restrictionConcept k r (conceptOf t)) (conceptsOf f)
+
+  abbrev pub ConceptSubsumed : Concept → Concept → Type 0
+  ConceptSubsumed c d = (I : Interpretation S) (x : ℕ) → x < I .count → InExtension S (structureOf S I) c x → InExtension S (structureOf S I) d x

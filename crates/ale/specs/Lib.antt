@@ -15,3 +15,5 @@ pub mod NormalForm
 pub mod Encoding
 pub mod Countermodel
 pub mod Product
+pub mod Folding
+pub mod PictureSignature

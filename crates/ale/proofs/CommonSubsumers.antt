@@ -1,0 +1,53 @@
+-- The product of two normal trees is the least common subsumer of their pictures (003, Definition 2 and Theorem 43): it subsumes both,
+-- and whatever subsumes both, normal or not, maps to both normal trees, so to their product.
+--   lcs-left, lcs-right     it subsumes both
+--   lcs-least               every tree of known roles that subsumes both subsumes it
+--   lcsTable-tree           its table is a table of it, no deeper than the two
+--   lcsTable-known          and of known roles
+use Prim.Native.Nat.{_<_, ℕ}
+use lib.Dec.{T}
+use mathlib.Core.List.{[], _∷_}
+use mathlib.Core.Path.{_≡_}
+use Rattle.ale.specs.Homomorphism.{mapsTo}
+use Rattle.ale.specs.Interpretation.{Subsumed, structureOf}
+use Rattle.ale.specs.Normal.{normalTree, tidy}
+use Rattle.ale.specs.Product.{lcs, lcsTable}
+use Rattle.ale.specs.Signature.{Signature}
+use Rattle.ale.specs.Table.{KnownRoles, Table, tree}
+use Rattle.ale.specs.Tree.{RolesKnown, Tree}
+use Rattle.ale.proofs.Completeness.{subsumed-mapsTo}
+use Rattle.ale.proofs.Confined.{confined-height, confined-rolesKnown, lcs-confined}
+use Rattle.ale.proofs.Encodings.{encoded-tree}
+use Rattle.ale.proofs.Leastness.{mapsTo-product, tidy-rolesKnown}
+use Rattle.ale.proofs.Normalizing.{normalOf-saturated}
+use Rattle.ale.proofs.Products.{fits-product-left, fits-product-right}
+use Rattle.ale.proofs.RoleLaws.{encoded-known}
+use Rattle.ale.proofs.Soundness.{mapsTo-sound}
+use Rattle.ale.proofs.Subsumption.{normal-tree, tree-normal}
+use Rattle.ale.proofs.Tidying.{fits-tidy, tidy-fits, tidy-reduced}
+
+module _ (S : Signature) where
+  pub lcs-left : (p q : Table S) → KnownRoles S p → (n m : ℕ) → Subsumed S (tree S p n) (lcs S p q n m)
+  lcs-left p q k n m I x l f = fits-product-left S (structureOf S I) (normalTree S p n) (normalTree S q m) x (tree-normal S p k n (structureOf S I) x f)
+
+  pub lcs-right : (p q : Table S) → KnownRoles S q → (n m : ℕ) → Subsumed S (tree S q m) (lcs S p q n m)
+  lcs-right p q k n m I x l f = fits-product-right S (structureOf S I) (normalTree S p n) (normalTree S q m) x (tree-normal S q k m (structureOf S I) x f)
+
+  -- a tree that subsumes a picture maps to its normal tree, once tidied
+  tidy-mapsTo : (p : Table S) → KnownRoles S p → (n : ℕ) (u : Tree S) → Subsumed S (tree S p n) u → T (mapsTo S (tidy S u) (normalTree S p n))
+  tidy-mapsTo p k n u c =
+      subsumed-mapsTo S (tidy S u) (normalTree S p n) (tidy-reduced S u) (normalOf-saturated S p k n (0 ∷ []))
+      (λ I x l f. fits-tidy S (structureOf S I) u x (c I x l (normal-tree S p k n (structureOf S I) x f)))
+
+  pub lcs-least : (p q : Table S) → KnownRoles S p → KnownRoles S q → (n m : ℕ) (u : Tree S) → RolesKnown S u → Subsumed S (tree S p n) u → Subsumed S (tree S q m) u → Subsumed S (lcs S p q n m) u
+  lcs-least p q kp kq n m u w a b I x l f =
+      tidy-fits S (structureOf S I) u x
+      (mapsTo-sound S (tidy S u) (lcs S p q n m)
+      (mapsTo-product S (tidy S u) (normalTree S p n) (normalTree S q m) (tidy-reduced S u) (tidy-rolesKnown S u w) (tidy-mapsTo p kp n u a) (tidy-mapsTo q kq m u b))
+      (structureOf S I) x f)
+
+  pub lcsTable-tree : (p q : Table S) (n : ℕ) → tree S (lcsTable S p q n) n ≡ lcs S p q n n
+  lcsTable-tree p q n = encoded-tree S (lcs S p q n n) n (confined-height S (lcs S p q n n) n (lcs-confined S p q n))
+
+  pub lcsTable-known : 0 < S .roles → (p q : Table S) (n : ℕ) → KnownRoles S (lcsTable S p q n)
+  lcsTable-known z p q n = encoded-known S z (lcs S p q n n) (confined-rolesKnown S (lcs S p q n n) n (lcs-confined S p q n))

@@ -1,0 +1,101 @@
+-- An element fits a tree exactly if it is in the extension of the tree's concept (003, Table 1), in every structure.
+--   fits-extension, extension-fits   the two directions
+--   fits-concept                     both
+--   subsumed-concepts                so subsumption of trees is inclusion of extensions (003, Definition 1)
+use Prim.Native.Nat.{ℕ}
+use lib.Dec.{T}
+use mathlib.Core.Bool.{Bool, false, not, true}
+use mathlib.Core.List.{List, [], _∷_}
+use mathlib.Core.Logic.{_↔_}
+use Rattle.table.specs.Pick.{pick}
+use Rattle.ale.specs.Concept.{Concept, ConceptSubsumed, InExtension, bottomConcept, conceptOf, conceptsOf, conjunctionOf, namesOf, negation, primitive, restrictionConcept, topConcept}
+use Rattle.ale.specs.Interpretation.{Subsumed, structureOf}
+use Rattle.ale.specs.Rows.{member}
+use Rattle.ale.specs.Signature.{Signature}
+use Rattle.ale.specs.Structure.{Fits, FitsAll, Restriction, Structure}
+use Rattle.ale.specs.Tree.{Forest, Kind, Tree, cons, exists, forAll, nil, node}
+use Rattle.ale.proofs.RowLists.{filterBelow-in, filterBelow-out, member-cons, member-head, member-tail}
+use Rattle.ale.proofs.Tidying.{restriction-map}
+
+module _ (S : Signature) (M : Structure S) where
+  conjunction-at : (h : ℕ → Concept) (s : List ℕ) (x : M .Element) → InExtension S M (conjunctionOf h s) x → (n : ℕ) → T (member n s) → InExtension S M (h n) x
+  conjunction-at h [] x p = λ n m. absurd m
+  conjunction-at h (i ∷ s) x p = member-cons (λ n. InExtension S M (h n) x) i s (p .0) (conjunction-at h s x (p .1))
+
+  at-conjunction : (h : ℕ → Concept) (s : List ℕ) (x : M .Element) → ((n : ℕ) → T (member n s) → InExtension S M (h n) x) → InExtension S M (conjunctionOf h s) x
+  at-conjunction h [] x p = tt
+  at-conjunction h (i ∷ s) x p = (p i (member-head i s), at-conjunction h s x (λ n m. p n (member-tail n i s m)))
+
+  -- the names of a set, listed
+  listed : (a : S .Names) (n : ℕ) → T (S .has a n) → T (member n (namesOf S a))
+  listed a n h = filterBelow-in (S .has a) (S .names) n h (S .has-below a n h)
+
+  unlisted : (a : S .Names) (n : ℕ) → T (member n (namesOf S a)) → T (S .has a n)
+  unlisted a n m = filterBelow-out (S .has a) (S .names) n m .0
+
+  bottom-possible : (b : Bool) (x : M .Element) → InExtension S M (pick b bottomConcept topConcept) x → T (not b)
+  bottom-possible true x p = p
+  bottom-possible false x p = tt
+
+  possible-bottom : (b : Bool) (x : M .Element) → T (not b) → InExtension S M (pick b bottomConcept topConcept) x
+  possible-bottom true x p = p
+  possible-bottom false x p = tt
+
+  -- a restriction of either kind, and its concept
+  concept-restriction : (k : Kind) (r : ℕ) (c : Concept) (x : M .Element) → InExtension S M (restrictionConcept k r c) x → Restriction S M k r (λ y. InExtension S M c y) x
+  concept-restriction exists r c x p = p
+  concept-restriction forAll r c x p = p
+
+  restriction-concept : (k : Kind) (r : ℕ) (c : Concept) (x : M .Element) → Restriction S M k r (λ y. InExtension S M c y) x → InExtension S M (restrictionConcept k r c) x
+  restriction-concept exists r c x p = p
+  restriction-concept forAll r c x p = p
+
+  mutual
+    pub extension-fits : (t : Tree S) (x : M .Element) → InExtension S M (conceptOf S t) x → Fits S M t x
+    extension-fits (node l f) x p = (
+      record {
+        held = λ n h. conjunction-at primitive (namesOf S (l .wanted)) x (p .0 .1 .0) n (listed (l .wanted) n h);
+        free = λ n h. conjunction-at negation (namesOf S (l .excluded)) x (p .0 .1 .1) n (listed (l .excluded) n h);
+        possible = bottom-possible (l .bottom) x (p .0 .0);
+      },
+      extension-fits-all f x (p .1),
+    )
+
+    extension-fits-all : (f : Forest S) (x : M .Element) → InExtension S M (conceptsOf S f) x → FitsAll S M f x
+    extension-fits-all nil x p = tt
+    extension-fits-all (cons k r t f) x p = (
+      restriction-map S M k r (λ y. InExtension S M (conceptOf S t) y) (λ y. Fits S M t y) (λ y q. extension-fits t y q) x
+          (concept-restriction k r (conceptOf S t) x (p .0)),
+      extension-fits-all f x (p .1),
+    )
+
+  mutual
+    pub fits-extension : (t : Tree S) (x : M .Element) → Fits S M t x → InExtension S M (conceptOf S t) x
+    fits-extension (node l f) x p = (
+      (
+        possible-bottom (l .bottom) x (p .0 .possible),
+        (
+          at-conjunction primitive (namesOf S (l .wanted)) x (λ n m. p .0 .held n (unlisted (l .wanted) n m)),
+          at-conjunction negation (namesOf S (l .excluded)) x (λ n m. p .0 .free n (unlisted (l .excluded) n m)),
+        ),
+      ),
+      fits-extension-all f x (p .1),
+    )
+
+    fits-extension-all : (f : Forest S) (x : M .Element) → FitsAll S M f x → InExtension S M (conceptsOf S f) x
+    fits-extension-all nil x p = tt
+    fits-extension-all (cons k r t f) x p = (
+      restriction-concept k r (conceptOf S t) x
+          (restriction-map S M k r (λ y. Fits S M t y) (λ y. InExtension S M (conceptOf S t) y) (λ y q. fits-extension t y q) x (p .0)),
+      fits-extension-all f x (p .1),
+    )
+
+  pub fits-concept : (t : Tree S) (x : M .Element) → Fits S M t x ↔ InExtension S M (conceptOf S t) x
+  fits-concept t x = (fits-extension t x, extension-fits t x)
+
+module _ (S : Signature) where
+  pub subsumed-concepts : (v d : Tree S) → Subsumed S v d ↔ ConceptSubsumed S (conceptOf S v) (conceptOf S d)
+  subsumed-concepts v d = (
+    λ h I x l p. fits-extension S (structureOf S I) d x (h I x l (extension-fits S (structureOf S I) v x p)),
+    λ h I x l p. extension-fits S (structureOf S I) d x (h I x l (fits-extension S (structureOf S I) v x p)),
+  )

@@ -1,0 +1,102 @@
+-- The successors of a normal tree's nodes stand by role, all before some, with at most one all-successor to a role. Merging puts
+-- them so: what is made for one role has that role, and roles are taken in turn; tidying only drops some of them.
+--   ordered-append, ordered-byRole   forests put together
+--   merged-ordered, tidy-ordered     what merging makes, and what tidying keeps
+use Prim.Native.Nat.{_<_, suc, zero, ℕ}
+use mathlib.Core.List.{List, [], _∷_}
+use mathlib.Core.Path.{_≡_, refl}
+use native.Mathlib.Omega.{arith}
+use Rattle.ale.specs.Forest.{append, byRole, consReduced, trivial}
+use Rattle.ale.specs.Merged.{existsParts, existsRows, merged, roleParts, valuePart, valueRows}
+use Rattle.ale.specs.Normal.{inconsistent, tidy, tidyAll}
+use Rattle.ale.specs.NormalForm.{Before, Ordered, OrderedAll}
+use Rattle.ale.specs.Rows.{withRow}
+use Rattle.ale.specs.Signature.{Signature}
+use Rattle.ale.specs.Table.{Table}
+use Rattle.ale.specs.Tree.{All, Forest, Kind, Tree, bottomTree, cons, exists, forAll, nil, node}
+use Rattle.ale.proofs.Forests.{All-append, All-byRole-below, All-consReduced}
+use Rattle.ale.proofs.Normalizing.{All-existsParts, All-valuePart}
+use Rattle.ale.proofs.Tests.{chosen}
+use Rattle.ale.proofs.Trees.{All-map}
+
+module _ (S : Signature) where
+  abbrev BeforeAll : Forest S → Kind → ℕ → Tree S → Type 0
+  BeforeAll g k r t = All S (λ k′ r′ _. Before S k r k′ r′) g
+
+  pub ordered-append : (f g : Forest S) → OrderedAll S f → OrderedAll S g → All S (λ k r _. All S (λ k′ r′ _. Before S k r k′ r′) g) f → OrderedAll S (append S f g)
+  ordered-append nil g a b c = b
+  ordered-append (cons k r t f) g a b c = (All-append S (λ k′ r′ _. Before S k r k′ r′) f g (a .0) (c .0), a .1, ordered-append f g (a .2) b (c .1))
+
+  before-lower : (k k′ : Kind) (r r′ : ℕ) → r < r′ → Before S k r k′ r′
+  before-lower exists exists r r′ l = omega arith
+  before-lower exists forAll r r′ l = l
+  before-lower forAll exists r r′ l = omega arith
+  before-lower forAll forAll r r′ l = l
+
+  abbrev RoleIs : ℕ → Kind → ℕ → Tree S → Type 0
+  RoleIs r k r′ t = r′ ≡ r
+
+  abbrev RoleBelow : ℕ → Kind → ℕ → Tree S → Type 0
+  RoleBelow n k r t = r < n
+
+  module _ (h : ℕ → Forest S) (roles-are : (r : ℕ) → All S (RoleIs r) (h r)) where
+    byRole-below : (n : ℕ) → All S (RoleBelow n) (byRole S h n)
+    byRole-below n = All-byRole-below S (RoleBelow n) h n (λ r l. All-map S (RoleIs r) (RoleBelow n) (λ k r′ t e. omega arith) (h r) (roles-are r))
+
+    pub ordered-byRole : ((r : ℕ) → OrderedAll S (h r)) → (n : ℕ) → OrderedAll S (byRole S h n)
+    ordered-byRole o zero = tt
+    ordered-byRole o (suc n) =
+        ordered-append (byRole S h n) (h n) (ordered-byRole o n) (o n)
+        (All-map S (RoleBelow n) (BeforeAll (h n))
+        (λ k r t l. All-map S (RoleIs n) (λ k′ r′ _. Before S k r k′ r′) (λ k′ r′ t′ e. before-lower k k′ r r′ (omega arith)) (h n) (roles-are n))
+        (byRole S h n) (byRole-below n))
+
+module _ (S : Signature) (p : Table S) where
+  -- what is made for one role
+  module _ (h : List ℕ → Tree S) (ordered : (t : List ℕ) → Ordered S (h t)) (s : List ℕ) where
+    parts-role : (r : ℕ) → All S (RoleIs S r) (roleParts S p h s r)
+    parts-role r =
+        All-append S (RoleIs S r) (valuePart S p r h (valueRows S p s r)) (existsParts S p r (λ c. h (withRow (p .rows) c (valueRows S p s r))) (existsRows S p s r))
+        (All-valuePart S p (RoleIs S r) r h (valueRows S p s r) refl)
+        (All-existsParts S p (RoleIs S r) r (λ c. h (withRow (p .rows) c (valueRows S p s r))) (existsRows S p s r) (λ c. refl))
+
+    value-ordered : (r : ℕ) (a : List ℕ) → OrderedAll S (valuePart S p r h a)
+    value-ordered r [] = tt
+    value-ordered r (i ∷ a) = (tt, ordered (i ∷ a), tt)
+
+    exists-ordered : (r : ℕ) (g : ℕ → Tree S) → ((c : ℕ) → Ordered S (g c)) → (e : List ℕ) → OrderedAll S (existsParts S p r g e)
+    exists-ordered r g o [] = tt
+    exists-ordered r g o (c ∷ e) = (All-existsParts S p (λ k′ r′ _. Before S exists r k′ r′) r g e (λ c. omega arith), o c, exists-ordered r g o e)
+
+    parts-ordered : (r : ℕ) → OrderedAll S (roleParts S p h s r)
+    parts-ordered r =
+        let a = valueRows S p s r in
+        let g : ℕ → Tree S = λ c. h (withRow (p .rows) c a) in
+        ordered-append S (valuePart S p r h a) (existsParts S p r g (existsRows S p s r)) (value-ordered r a) (exists-ordered r g (λ c. ordered (withRow (p .rows) c a)) (existsRows S p s r))
+        (All-valuePart S p (BeforeAll S (existsParts S p r g (existsRows S p s r))) r h a
+        (All-existsParts S p (λ k′ r′ _. Before S forAll r k′ r′) r g (existsRows S p s r) (λ c. omega arith)))
+
+  pub merged-ordered : (n : ℕ) (s : List ℕ) → Ordered S (merged S p n s)
+  merged-ordered zero s = tt
+  merged-ordered (suc n) s =
+      ordered-byRole S (roleParts S p (λ t. merged S p n t) s) (parts-role (λ t. merged S p n t) (λ t. merged-ordered n t) s)
+      (parts-ordered (λ t. merged S p n t) (λ t. merged-ordered n t) s) (S .roles)
+
+module _ (S : Signature) where
+  before-kept : (k : Kind) (r : ℕ) (f : Forest S) → All S (λ k′ r′ _. Before S k r k′ r′) f → All S (λ k′ r′ _. Before S k r k′ r′) (tidyAll S f)
+  before-kept k r nil h = tt
+  before-kept k r (cons k′ r′ t f) h = All-consReduced S (λ k′ r′ _. Before S k r k′ r′) k′ r′ (tidy S t) (tidyAll S f) (h .0) (before-kept k r f (h .1))
+
+  ordered-consReduced : (k : Kind) (r : ℕ) (t : Tree S) (f : Forest S) → All S (λ k′ r′ _. Before S k r k′ r′) f → Ordered S t → OrderedAll S f → OrderedAll S (consReduced S k r t f)
+  ordered-consReduced exists r t f b o q = (b, o, q)
+  ordered-consReduced forAll r t f b o q = chosen (λ g. OrderedAll S g) (trivial S t) f (cons forAll r t f) (λ _. q) (λ _. (b, o, q))
+
+  mutual
+    pub tidy-ordered : (t : Tree S) → Ordered S t → Ordered S (tidy S t)
+    tidy-ordered (node l f) o =
+        let h = tidyAll-ordered f o in
+        chosen (λ t. Ordered S t) (inconsistent S l (tidyAll S f)) (bottomTree S) (node l (tidyAll S f)) (λ _. tt) (λ _. h)
+
+    tidyAll-ordered : (f : Forest S) → OrderedAll S f → OrderedAll S (tidyAll S f)
+    tidyAll-ordered nil o = tt
+    tidyAll-ordered (cons k r t f) o = ordered-consReduced k r (tidy S t) (tidyAll S f) (before-kept k r f (o .0)) (tidy-ordered t (o .1)) (tidyAll-ordered f (o .2))

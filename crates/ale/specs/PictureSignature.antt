@@ -1,0 +1,70 @@
+-- The signature of paper 01: 64 names, a set of them being a number below 2 ^ 64 with bit n for name n; 32 roles, each a subrole of itself only.
+--   NameSet            a number below 2 ^ nameCount
+--   pictureSignature   its sets are the numbers of the format (crate table), with the laws that are proved there
+use mathlib.Core.Path.{_≡_, refl, sym, subst}
+use mathlib.Core.Bool.{Bool, true, false, not, _&&_}
+use Prim.Native.Nat.{ℕ, _^_, _<_}
+use native.Mathlib.Omega.{arith}
+use lib.Dec.{T, eqb, eqb→eq, eqb-refl, ltb, ltb→lt, lt→ltb}
+use Rattle.table.specs.Layout as Layout
+use Rattle.table.specs.Layout.{nameCount}
+use Rattle.table.specs.NameSet as Set
+use Rattle.table.proofs.NameSets as Laws
+use Rattle.ale.specs.Signature.{Signature}
+
+pub record NameSet : Type 0 where
+  pub set : ℕ
+  pub fits : T (ltb set (2 ^ nameCount))
+
+pub below : (a : NameSet) → a .set < 2 ^ nameCount
+below a = ltb→lt (a .set) (2 ^ nameCount) (a .fits)
+
+abbrev pub nameSet : (n : ℕ) → n < 2 ^ nameCount → NameSet
+nameSet n l = record { set = n; fits = lt→ltb n (2 ^ nameCount) l }
+
+pub is-true : (b : Bool) → T b → b ≡ true
+is-true true t = refl
+is-true false t = absurd t
+
+pub is-false : (b : Bool) → T (not b) → b ≡ false
+is-false true t = absurd t
+is-false false t = refl
+
+pub true-is : (b : Bool) → b ≡ true → T b
+true-is b e = subst T (sym e) tt
+
+pub false-is : (b : Bool) → b ≡ false → T (not b)
+false-is b e = subst (λ c. T (not c)) (sym e) tt
+
+pub complement-has : (a : NameSet) (n : ℕ) → n < nameCount → Set.has (Set.complement (a .set)) n ≡ not (Set.has (a .set) n)
+complement-has a n l = subst (λ b. Set.has (Set.complement (a .set)) n ≡ (b && not (Set.has (a .set) n))) (is-true (ltb n nameCount) (lt→ltb n nameCount l)) (Laws.has-complement (a .set) n (below a))
+
+pub subset-lacks : (a b : NameSet) → T (not (Set.subset (a .set) (b .set))) → (n : ℕ) × T (Set.has (a .set) n) × T (not (Set.has (b .set) n))
+subset-lacks a b t =
+    let (n, x, y) = Laws.subset-not (a .set) (b .set) (is-false (Set.subset (a .set) (b .set)) t) in
+    (n, true-is (Set.has (a .set) n) x, false-is (Set.has (b .set) n) y)
+
+abbrev pub pictureSignature : Signature
+pictureSignature = record {
+  Names = NameSet;
+  names = nameCount;
+  has = λ a n. Set.has (a .set) n;
+  none = record { set = Set.none; fits = tt };
+  union = λ a b. nameSet (Set.union (a .set) (b .set)) (Laws.union-below (a .set) (b .set) (below a) (below b));
+  intersection = λ a b. nameSet (Set.intersection (a .set) (b .set)) (Laws.intersection-below (a .set) (b .set) (below a));
+  complement = λ a. nameSet (Set.complement (a .set)) (Laws.complement-below (a .set));
+  subset = λ a b. Set.subset (a .set) (b .set);
+  has-below = λ a n h. Laws.has-below (a .set) n (below a) (is-true (Set.has (a .set) n) h);
+  has-none = Laws.has-none;
+  has-union = λ a b. Laws.has-union (a .set) (b .set);
+  has-intersection = λ a b. Laws.has-intersection (a .set) (b .set);
+  has-complement = complement-has;
+  subset-has = λ a b t n h. true-is (Set.has (b .set) n) (Laws.subset-has (a .set) (b .set) (is-true (Set.subset (a .set) (b .set)) t) n (is-true (Set.has (a .set) n) h));
+  subset-intro = λ a b h. true-is (Set.subset (a .set) (b .set)) (Laws.has-subset (a .set) (b .set) (λ n e. is-true (Set.has (b .set) n) (h n (true-is (Set.has (a .set) n) e))));
+  subset-fails = subset-lacks;
+  roles = Layout.roles;
+  subrole = eqb;
+  subrole-refl = eqb-refl;
+  subrole-trans = λ r s t p q. subst (λ z. T (eqb r z)) (eqb→eq s t q) p;
+  subrole-below = λ r s p l. subst (λ z. z < Layout.roles) (sym (eqb→eq r s p)) l;
+}
