@@ -19,6 +19,7 @@ pub mod CountermodelSize
 pub mod Bisimulations
 pub mod Individuals
 pub mod Encodings
+pub mod ModelChecks
 pub mod Depths
 pub mod Completeness
 pub mod Products
@@ -31,3 +32,4 @@ pub mod Foldings
 pub mod Sizes
 pub mod RowMaps
 pub mod LowestMap
+pub mod Examples

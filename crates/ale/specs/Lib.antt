@@ -14,6 +14,7 @@ pub mod Normal
 pub mod NormalForm
 pub mod Encoding
 pub mod Countermodel
+pub mod ModelCheck
 pub mod Product
 pub mod Folding
 pub mod PictureSignature

@@ -1,14 +1,14 @@
 -- The signature of paper 01: 64 names, a set of them being a number below 2 ^ 64 with bit n for name n; 32 roles, each a subrole of itself only.
 --   NameSet            a number below 2 ^ nameCount
 --   pictureSignature   its sets are the numbers of the format (crate table), with the laws that are proved there
-use mathlib.Core.Path.{_≡_, refl, sym, subst}
-use mathlib.Core.Bool.{Bool, true, false, not, _&&_}
+use mathlib.Core.Path.{_≡_, sym, subst}
+use mathlib.Core.Bool.{not, _&&_}
 use Prim.Native.Nat.{ℕ, _^_, _<_}
-use native.Mathlib.Omega.{arith}
 use lib.Dec.{T, eqb, eqb→eq, eqb-refl, ltb, ltb→lt, lt→ltb}
 use Rattle.table.specs.Layout as Layout
 use Rattle.table.specs.Layout.{nameCount}
 use Rattle.table.specs.NameSet as Set
+use Rattle.table.proofs.Bools.{is-true, is-false, true-is, false-is}
 use Rattle.table.proofs.NameSets as Laws
 use Rattle.ale.specs.Signature.{Signature}
 
@@ -21,20 +21,6 @@ below a = ltb→lt (a .set) (2 ^ nameCount) (a .fits)
 
 abbrev pub nameSet : (n : ℕ) → n < 2 ^ nameCount → NameSet
 nameSet n l = record { set = n; fits = lt→ltb n (2 ^ nameCount) l }
-
-pub is-true : (b : Bool) → T b → b ≡ true
-is-true true t = refl
-is-true false t = absurd t
-
-pub is-false : (b : Bool) → T (not b) → b ≡ false
-is-false true t = absurd t
-is-false false t = refl
-
-pub true-is : (b : Bool) → b ≡ true → T b
-true-is b e = subst T (sym e) tt
-
-pub false-is : (b : Bool) → b ≡ false → T (not b)
-false-is b e = subst (λ c. T (not c)) (sym e) tt
 
 pub complement-has : (a : NameSet) (n : ℕ) → n < nameCount → Set.has (Set.complement (a .set)) n ≡ not (Set.has (a .set) n)
 complement-has a n l = subst (λ b. Set.has (Set.complement (a .set)) n ≡ (b && not (Set.has (a .set) n))) (is-true (ltb n nameCount) (lt→ltb n nameCount l)) (Laws.has-complement (a .set) n (below a))

@@ -1,7 +1,11 @@
--- What it says that a test made of two is true.
+-- What it says that a test is true, as an equation and as a type.
+--   either, both          a test made of two
+--   is-true, is-false     from the type to the equation
+--   true-is, false-is     and back
 use mathlib.Core.Logic.{_⊎_, inl, inr}
-use mathlib.Core.Path.{_≡_, refl}
-use mathlib.Core.Bool.{Bool, true, false, _&&_, _||_, false≢true}
+use mathlib.Core.Path.{_≡_, refl, sym, subst}
+use mathlib.Core.Bool.{Bool, true, false, not, _&&_, _||_, false≢true}
+use lib.Dec.{T}
 
 pub either : (a b : Bool) → (a || b) ≡ true → (a ≡ true) ⊎ (b ≡ true)
 either true b e = inl refl
@@ -10,3 +14,17 @@ either false b e = inr e
 pub both : (a b : Bool) → (a && b) ≡ true → (a ≡ true) × (b ≡ true)
 both true b e = (refl, e)
 both false b e = absurd (false≢true e)
+
+pub is-true : (b : Bool) → T b → b ≡ true
+is-true true t = refl
+is-true false t = absurd t
+
+pub is-false : (b : Bool) → T (not b) → b ≡ false
+is-false true t = absurd t
+is-false false t = refl
+
+pub true-is : (b : Bool) → b ≡ true → T b
+true-is b e = subst T (sym e) tt
+
+pub false-is : (b : Bool) → b ≡ false → T (not b)
+false-is b e = subst (λ c. T (not c)) (sym e) tt

@@ -1,0 +1,26 @@
+-- 01, questions 22 and 23: whether a tree of individuals fits a tree, as a test.
+--   satisfiesTest     the names that hold of an individual, against a label
+--   restrictionTest   some individual reached by the role passes, or every one does
+--   fitsTest          whether the root fits
+use Prim.Native.Nat.{ℕ}
+use mathlib.Core.Bool.{Bool, _&&_, _||_, false, not, true}
+use Rattle.ale.specs.Signature.{Signature}
+use Rattle.ale.specs.Tree.{Forest, Kind, Label, Tree, cons, exists, forAll, nil, node}
+
+module _ (S : Signature) where
+  abbrev pub satisfiesTest : Label S → S .Names → Bool
+  satisfiesTest l s = S .subset (l .wanted) s && (S .subset (S .intersection (l .excluded) s) (S .none) && not (l .bottom))
+
+  abbrev pub restrictionTest : Kind → ℕ → (Tree S → Bool) → Forest S → Bool
+  restrictionTest exists r q nil = false
+  restrictionTest exists r q (cons k s b g) = (S .subrole s r && q b) || restrictionTest exists r q g
+  restrictionTest forAll r q nil = true
+  restrictionTest forAll r q (cons k s b g) = (not (S .subrole s r) || q b) && restrictionTest forAll r q g
+
+  abbrev mutual
+    pub fitsTest : Tree S → Tree S → Bool
+    fitsTest (node l f) (node m g) = satisfiesTest l (m .wanted) && fitsAllTest f g
+
+    pub fitsAllTest : Forest S → Forest S → Bool
+    fitsAllTest nil g = true
+    fitsAllTest (cons k r d f) g = restrictionTest k r (λ b. fitsTest d b) g && fitsAllTest f g
