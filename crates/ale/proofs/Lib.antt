@@ -1,4 +1,5 @@
 -- The theorems and their laws, by subject.
+pub mod Cases
 pub mod Tests
 pub mod NameLaws
 pub mod Trees
