@@ -8,7 +8,6 @@ use mathlib.Core.Bool.{_&&_, _||_, not}
 use mathlib.Core.List.{List, [], _∷_}
 use mathlib.Core.Logic.{inl, inr, ⊎-elim}
 use mathlib.Core.Path.{subst}
-use Rattle.table.proofs.Bools.{both}
 use Rattle.ale.specs.Forest.{trivial}
 use Rattle.ale.specs.Merged.{existsParts, existsRows, labelOfSet, merged, roleParts, valuePart, valueRows}
 use Rattle.ale.specs.Normal.{bottomExists, inconsistent, normalOf, tidy, tidyAll, tidyNode}
@@ -70,15 +69,15 @@ module _ (S : Signature) where
   tidyNode-saturated : (l : Label S) (f : Forest S) → All S (IfExists S (λ r c. Propagated S f r c)) f → ((r : ℕ) → Propagated S f r (valueOf S r f)) →
       All S (λ k r t. Saturated S t) f → Saturated S (tidyNode S l f)
   tidyNode-saturated l f s a w =
-      let both = S .intersection (l .wanted) (l .excluded) in
-      let z = S .subset both (S .none) in
+      let overlapping = S .intersection (l .wanted) (l .excluded) in
+      let z = S .subset overlapping (S .none) in
       let d = any S (bottomExists S) f in
       chosen (λ t. Saturated S t) (inconsistent S l f) (bottomTree S) (node l f) (λ b. saturated-bottom) (λ b.
       let c = or-fails-right (l .bottom) (not z || d) b in (
         record {
           consistent = λ u n i o.
               ⊎-elim
-              (λ t. none-has S n (S .subset-has both (S .none) t n (intersection-intro S (l .wanted) (l .excluded) n i o)))
+              (λ t. none-has S n (S .subset-has overlapping (S .none) t n (intersection-intro S (l .wanted) (l .excluded) n i o)))
               (λ t. clash (not z) t (or-fails-left (not z) d c))
               (decide z);
           into-exists = s;
@@ -188,7 +187,8 @@ module _ (S : Signature) (p : Table S) where
           by-rows (a ∷ z) u v =
               let t = normalOf S p n (valueRows S p s r) in
               ⊎-elim
-              (λ b. valueOf-elim S (λ t. ImpliesValues r t) r tidied (λ M x f. normalOf-fits M n (valueRows S p s r) x (trivial-fits S M t b x)) (values-imply r))
+              (λ b. valueOf-elim S (λ t. ImpliesValues r t) r tidied
+              (λ M x f. normalOf-fits M n (valueRows S p s r) x (trivial-fits S M t b x)) (values-imply r))
               (λ b. valueOf-present S (λ t. ImpliesValues r t) r tidied (value-present r a (v a (member-head a z)) b) (values-imply r))
               (decide (trivial S t))
 

@@ -62,7 +62,8 @@ filterFrom-split q o (suc m) n t e p r =
     (step (q o) (filterFrom-split q (suc o) m n (m + n) e refl (omega arith)))
   where
     step : (b : Bool) → filterFrom q (suc o) (m + n) ≡ filterFrom q (suc o) m ++ filterFrom q e n →
-        pick b (o ∷ filterFrom q (suc o) (m + n)) (filterFrom q (suc o) (m + n)) ≡ pick b (o ∷ filterFrom q (suc o) m) (filterFrom q (suc o) m) ++ filterFrom q e n
+        pick b (o ∷ filterFrom q (suc o) (m + n)) (filterFrom q (suc o) (m + n)) ≡
+        pick b (o ∷ filterFrom q (suc o) m) (filterFrom q (suc o) m) ++ filterFrom q e n
     step true h = ap (λ s. o ∷ s) h
     step false h = h
 

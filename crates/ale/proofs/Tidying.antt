@@ -11,7 +11,6 @@ use Prim.Native.Nat.{ℕ}
 use lib.Dec.{T}
 use mathlib.Core.Bool.{_||_, not}
 use mathlib.Core.Logic.{⊎-elim}
-use Rattle.table.proofs.Bools.{both}
 use Rattle.ale.specs.Normal.{bottomExists, inconsistent, tidy, tidyAll, tidyNode}
 use Rattle.ale.specs.NormalForm.{Reduced, ReducedAll}
 use Rattle.ale.specs.Signature.{Signature}
@@ -39,12 +38,12 @@ module _ (S : Signature) (M : Structure S) where
 
   pub inconsistent-fits : (l : Label S) (f : Forest S) (x : M .Element) → T (inconsistent S l f) → Satisfies S M l x → FitsAll S M f x → ⊥
   inconsistent-fits l f x b c p =
-      let both = S .intersection (l .wanted) (l .excluded) in
-      let s = S .subset both (S .none) in
+      let overlapping = S .intersection (l .wanted) (l .excluded) in
+      let s = S .subset overlapping (S .none) in
       let d = any S (bottomExists S) f in
       ⊎-elim (λ m. clash (l .bottom) m (c .possible))
       (λ q. ⊎-elim
-      (λ n. let (i, h, o) = S .subset-fails both (S .none) n in
+      (λ n. let (i, h, o) = S .subset-fails overlapping (S .none) n in
       c .free i (intersection-right S (l .wanted) (l .excluded) i h) (c .held i (intersection-left S (l .wanted) (l .excluded) i h)))
       (λ n. All-Any S (FitsEdge S M x) (λ k r t. T (bottomExists S k r t)) ⊥ bottomExists-fits f (fits-each S M f x p) (any-Any S (bottomExists S) f n))
       (or-split (not s) d q))
