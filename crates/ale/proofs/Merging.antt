@@ -186,13 +186,14 @@ module _ (S : Signature) (p : Table S) (M : Structure S) where
         (S .roles)),
   )
     where
+      value-fits : (r a : ℕ) → T (member a (valueRows S p s r)) → FitsEdge S M x forAll (p .role a) (treeOf S p n a)
+      value-fits r a m =
+          let w = valueRows-out S p s r a m in
+          subst (λ k. FitsEdge S M x k (p .role a) (treeOf S p n a)) (sym (w .of-kind)) (successor-fits n s x e a (w .inside) (w .hanging))
+
       -- what x reaches by r fits the all-successors that bind r
       values-fit : (r : ℕ) (y : M .Element) → M .edge r x y → FitsEach n (valueRows S p s r) y
-      values-fit r y st a m =
-          let w = valueRows-out S p s r a m in
-          let f : FitsEdge S M x forAll (p .role a) (treeOf S p n a) =
-            subst (λ k. FitsEdge S M x k (p .role a) (treeOf S p n a)) (sym (w .of-kind)) (successor-fits n s x e a (w .inside) (w .hanging)) in
-          f y (M .respects r (p .role a) x y (w .of-role) st)
+      values-fit r y st a m = value-fits r a m y (M .respects r (p .role a) x y (valueRows-out S p s r a m .of-role) st)
 
       exists-fit : (r c : ℕ) → T (member c (existsRows S p s r)) → FitsEdge S M x exists r (treeOf S p n c)
       exists-fit r c m =

@@ -31,8 +31,7 @@ filterFrom-out : (q : ℕ → Bool) (o n j : ℕ) → T (member j (filterFrom q 
 filterFrom-out q o zero j h = absurd h
 filterFrom-out q o (suc n) j h =
     let s = filterFrom q (suc o) n in
-    let later : T (member j s) → T (q j) × (o ≤ j) × (j < o + suc n) =
-      λ m. let (a, b, c) = filterFrom-out q (suc o) n j m in (a, omega arith, omega arith) in
+    let later : T (member j s) → T (q j) × (o ≤ j) × (j < o + suc n) = λ m. let (a, b, c) = filterFrom-out q (suc o) n j m in (a, omega arith, omega arith) in
     chosen (λ z. T (member j z) → T (q j) × (o ≤ j) × (j < o + suc n)) (q o) (o ∷ s) s
     (λ t m. ⊎-elim (λ e. first t (eqb→eq j o e)) later (or-split (eqb j o) (member j s) m)) (λ t. later) h
   where
