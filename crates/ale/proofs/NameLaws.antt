@@ -1,4 +1,8 @@
 -- Laws of sets of names, by membership.
+--   none-has                                                     the empty set has no name
+--   union-left, union-right, union-elim                          a union has the names of either
+--   intersection-intro, intersection-left, intersection-right    an intersection has the names of both
+--   complement-in, complement-out                                a complement has the names that the set lacks
 use Prim.Native.Nat.{ℕ}
 use lib.Dec.{T}
 use mathlib.Core.Bool.{not}
@@ -29,7 +33,7 @@ module _ (S : Signature) where
   pub intersection-right : (a b : S .Names) (n : ℕ) → T (S .has (S .intersection a b) n) → T (S .has b n)
   intersection-right a b n h = and-right (S .has a n) (S .has b n) (subst T (S .has-intersection a b n) h)
 
-  -- a name that some set has, and this one has not
+  -- set b shows that n is a name of the signature
   pub complement-in : (a b : S .Names) (n : ℕ) → T (S .has b n) → T (not (S .has a n)) → T (S .has (S .complement a) n)
   complement-in a b n h g = subst T (sym (S .has-complement a n (S .has-below b n h))) g
 

@@ -1,4 +1,11 @@
 -- Laws of sets of row numbers.
+--   member-head, member-tail            the members of a list: its first, and those of the rest
+--   member-cons                         what is true of the first and of each of the rest is true of each
+--   filterBelow-out, filterBelow-in     the members of a filtered range are the numbers below n that pass
+--   filterFrom-split                    a range filtered in two parts
+--   filterFrom-none                     a range in which no number passes
+--   withRow-each                        what is true of the added row and of each row of the set is true of each
+--   withRow-self, withRow-others        the added row is a member, and so is every row of the set
 use Prim.Native.Nat.{_+_, _<_, _≤_, suc, zero, ℕ}
 use lib.Dec.{T, eqb, eqb-refl, eqb→eq}
 use mathlib.Core.Bool.{Bool, _||_, false, not, true}
@@ -17,24 +24,27 @@ member-head i s = or-left (eqb i i) (member i s) (eqb-refl i)
 pub member-tail : (i j : ℕ) (s : List ℕ) → T (member i s) → T (member i (j ∷ s))
 member-tail i j s h = or-right (eqb i j) (member i s) h
 
--- a fact of each of a list, where it holds of the first and of the others
 pub member-cons : (P : ℕ → Type 0) (j : ℕ) (s : List ℕ) → P j → ((i : ℕ) → T (member i s) → P i) → (i : ℕ) → T (member i (j ∷ s)) → P i
 member-cons P j s p q i h = ⊎-elim (λ e. subst P (sym (eqb→eq i j e)) p) (λ m. q i m) (or-split (eqb i j) (member i s) h)
 
 filterFrom-out : (q : ℕ → Bool) (o n j : ℕ) → T (member j (filterFrom q o n)) → T (q j) × (o ≤ j) × (j < o + n)
 filterFrom-out q o zero j h = absurd h
-filterFrom-out q o (suc n) j h = step (q o) (λ t. t) h (λ m. filterFrom-out q (suc o) n j m)
+filterFrom-out q o (suc n) j h =
+    let s = filterFrom q (suc o) n in
+    let later : T (member j s) → T (q j) × (o ≤ j) × (j < o + suc n) = λ m. let (a, b, c) = filterFrom-out q (suc o) n j m in (a, omega arith, omega arith) in
+    chosen (λ z. T (member j z) → T (q j) × (o ≤ j) × (j < o + suc n)) (q o) (o ∷ s) s
+    (λ t m. ⊎-elim (λ e. first t (eqb→eq j o e)) later (or-split (eqb j o) (member j s) m)) (λ t. later) h
   where
-    step : (b : Bool) → (T b → T (q o)) → T (member j (pick b (o ∷ filterFrom q (suc o) n) (filterFrom q (suc o) n))) → (T (member j (filterFrom q (suc o) n)) → T (q j) × (suc o ≤ j) × (j < suc o + n)) → T (q j) × (o ≤ j) × (j < o + suc n)
-    step true u m f =
-        ⊎-elim (λ e. let w = eqb→eq j o e in (subst (λ i. T (q i)) (sym w) (u tt), omega arith, omega arith)) (λ m′. let (a, b, c) = f m′ in (a, omega arith, omega arith)) (or-split (eqb j o) (member j (filterFrom q (suc o) n)) m)
-    step false u m f = let (a, b, c) = f m in (a, omega arith, omega arith)
+    first : T (q o) → j ≡ o → T (q j) × (o ≤ j) × (j < o + suc n)
+    first t e = (subst (λ i. T (q i)) (sym e) t, omega arith, omega arith)
 
 filterFrom-in : (q : ℕ → Bool) (o n j : ℕ) → T (q j) → o ≤ j → j < o + n → T (member j (filterFrom q o n))
 filterFrom-in q o zero j t a l = absurd (omega arith)
 filterFrom-in q o (suc n) j t a l =
-    ⊎-elim (λ e. chosen-first (λ s. T (member j s)) (q o) (o ∷ filterFrom q (suc o) n) (filterFrom q (suc o) n) (subst (λ i. T (q i)) (sym e) t) (subst (λ i. T (member i (o ∷ filterFrom q (suc o) n))) e (member-head o (filterFrom q (suc o) n))))
-    (λ b. let m = filterFrom-in q (suc o) n j t b (omega arith) in chosen (λ s. T (member j s)) (q o) (o ∷ filterFrom q (suc o) n) (filterFrom q (suc o) n) (λ _. member-tail j o (filterFrom q (suc o) n) m) (λ _. m))
+    let s = filterFrom q (suc o) n in
+    ⊎-elim
+    (λ e. chosen-first (λ z. T (member j z)) (q o) (o ∷ s) s (subst (λ i. T (q i)) (sym e) t) (subst (λ i. T (member i (o ∷ s))) e (member-head o s)))
+    (λ b. let m = filterFrom-in q (suc o) n j t b (omega arith) in chosen (λ z. T (member j z)) (q o) (o ∷ s) s (λ _. member-tail j o s m) (λ _. m))
     (eq-or-lt-of-le {n = o} {m = j} a)
 
 pub filterBelow-out : (q : ℕ → Bool) (n j : ℕ) → T (member j (filterBelow q n)) → T (q j) × (j < n)
@@ -44,18 +54,25 @@ pub filterBelow-in : (q : ℕ → Bool) (n j : ℕ) → T (q j) → j < n → T 
 filterBelow-in q n j t l = filterFrom-in q 0 n j t (omega arith) (omega arith)
 
 pub filterFrom-split : (q : ℕ → Bool) (o m n t e : ℕ) → t ≡ m + n → e ≡ o + m → filterFrom q o t ≡ filterFrom q o m ++ filterFrom q e n
-filterFrom-split q o zero n t e p r = ap (λ z. filterFrom q o z) (let h : t ≡ n = omega arith in h) ∙ ap (λ z. filterFrom q z n) (let h : o ≡ e = omega arith in h)
+filterFrom-split q o zero n t e p r =
+    ap (λ z. filterFrom q o z) (let h : t ≡ n = omega arith in h) ∙ ap (λ z. filterFrom q z n) (let h : o ≡ e = omega arith in h)
 filterFrom-split q o (suc m) n t e p r =
-    subst (λ z. filterFrom q o z ≡ filterFrom q o (suc m) ++ filterFrom q e n) (let h : suc (m + n) ≡ t = omega arith in h) (step (q o) (filterFrom-split q (suc o) m n (m + n) e refl (omega arith)))
+    subst (λ z. filterFrom q o z ≡ filterFrom q o (suc m) ++ filterFrom q e n) (let h : suc (m + n) ≡ t = omega arith in h)
+    (step (q o) (filterFrom-split q (suc o) m n (m + n) e refl (omega arith)))
   where
-    step : (b : Bool) → filterFrom q (suc o) (m + n) ≡ filterFrom q (suc o) m ++ filterFrom q e n → pick b (o ∷ filterFrom q (suc o) (m + n)) (filterFrom q (suc o) (m + n)) ≡ pick b (o ∷ filterFrom q (suc o) m) (filterFrom q (suc o) m) ++ filterFrom q e n
+    step : (b : Bool) → filterFrom q (suc o) (m + n) ≡ filterFrom q (suc o) m ++ filterFrom q e n →
+        pick b (o ∷ filterFrom q (suc o) (m + n)) (filterFrom q (suc o) (m + n)) ≡
+        pick b (o ∷ filterFrom q (suc o) m) (filterFrom q (suc o) m) ++ filterFrom q e n
     step true h = ap (λ s. o ∷ s) h
     step false h = h
 
--- none passes
 pub filterFrom-none : (q : ℕ → Bool) (o n : ℕ) → ((j : ℕ) → o ≤ j → j < o + n → T (not (q j))) → filterFrom q o n ≡ []
 filterFrom-none q o zero h = refl
-filterFrom-none q o (suc n) h = chosen (λ s. s ≡ []) (q o) (o ∷ filterFrom q (suc o) n) (filterFrom q (suc o) n) (λ t. absurd (clash (q o) t (h o (omega arith) (omega arith)))) (λ t. filterFrom-none q (suc o) n (λ j a b. h j (omega arith) (omega arith)))
+filterFrom-none q o (suc n) h =
+    let s = filterFrom q (suc o) n in
+    chosen (λ z. z ≡ []) (q o) (o ∷ s) s
+    (λ t. absurd (clash (q o) t (h o (omega arith) (omega arith))))
+    (λ t. filterFrom-none q (suc o) n (λ j a b. h j (omega arith) (omega arith)))
 
 pub withRow-each : (P : ℕ → Type 0) (n c : ℕ) (s : List ℕ) → P c → ((i : ℕ) → T (member i s) → P i) → (i : ℕ) → T (member i (withRow n c s)) → P i
 withRow-each P n c s p q i m = member-cons P c s p q i (filterBelow-out (λ j. eqb j c || member j s) n i m .0)

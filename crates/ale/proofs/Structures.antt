@@ -1,9 +1,14 @@
 -- Fitting, successor by successor.
+--   FitsEdge               an element fits the restriction of one edge
+--   fits-each, each-fits   it fits a forest exactly if it fits the restriction of each edge
+--   satisfies-emptyLabel   every element satisfies the empty label
+--   inAll-subsumed         subsumption in all structures implies subsumption in the finite interpretations
 use Prim.Native.Nat.{ℕ}
 use Rattle.ale.specs.Interpretation.{Subsumed, structureOf}
 use Rattle.ale.specs.Signature.{Signature}
-use Rattle.ale.specs.Structure.{Fits, FitsAll, Restriction, Structure, SubsumedInAll}
-use Rattle.ale.specs.Tree.{All, Forest, Kind, Tree, cons, nil}
+use Rattle.ale.specs.Structure.{Fits, FitsAll, Restriction, Satisfies, Structure, SubsumedInAll}
+use Rattle.ale.specs.Tree.{All, Forest, Kind, Tree, cons, emptyLabel, nil}
+use Rattle.ale.proofs.NameLaws.{none-has}
 
 module _ (S : Signature) (M : Structure S) where
   abbrev pub FitsEdge : M .Element → Kind → ℕ → Tree S → Type 0
@@ -16,6 +21,9 @@ module _ (S : Signature) (M : Structure S) where
   pub each-fits : (f : Forest S) (x : M .Element) → All S (FitsEdge x) f → FitsAll S M f x
   each-fits nil x h = tt
   each-fits (cons k r t f) x h = (h .0, each-fits f x (h .1))
+
+  pub satisfies-emptyLabel : (x : M .Element) → Satisfies S M (emptyLabel S) x
+  satisfies-emptyLabel x = record { held = λ n h. absurd (none-has S n h); free = λ n h t. none-has S n h; possible = tt }
 
 module _ (S : Signature) where
   pub inAll-subsumed : (t u : Tree S) → SubsumedInAll S t u → Subsumed S t u

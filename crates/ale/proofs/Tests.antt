@@ -1,4 +1,10 @@
--- Boolean tests read as types: the few laws that the other modules use.
+-- Boolean tests read as propositions: `T a` says that test a passes, `T (not a)` that it fails.
+--   and-intro, and-left, and-right             a conjunction passes exactly if both tests do
+--   or-left, or-right, or-split                a disjunction passes exactly if one of them does
+--   and-fails, or-fails-left, or-fails-right   a conjunction fails: one does; a disjunction fails: both do
+--   decide, clash, refute                      a test passes or fails; not both; it fails if it cannot pass
+--   chosen, chosen-first                       a property of what `pick` picks: by cases; where the test passes
+--   iff-eq                                     two tests that pass together are equal
 use lib.Dec.{T}
 use mathlib.Core.Bool.{Bool, _&&_, _||_, false, not, true}
 use mathlib.Core.Logic.{_⊎_, inl, inr}
@@ -39,12 +45,10 @@ pub clash : (a : Bool) → T a → T (not a) → ⊥
 clash true p q = q
 clash false p q = p
 
--- a failed conjunction
 pub and-fails : (a b : Bool) → T (not (a && b)) → T (not a) ⊎ T (not b)
 and-fails true b p = inr p
 and-fails false b p = inl tt
 
--- a failed disjunction
 pub or-fails-left : (a b : Bool) → T (not (a || b)) → T (not a)
 or-fails-left true b p = p
 or-fails-left false b p = tt
@@ -57,17 +61,14 @@ pub refute : (a : Bool) → (T a → ⊥) → T (not a)
 refute true h = h tt
 refute false h = tt
 
--- a chosen one of two
 pub chosen {ℓ κ} : {A : Type ℓ} (P : A → Type κ) (b : Bool) (x y : A) → (T b → P x) → (T (not b) → P y) → P (pick b x y)
 chosen P true x y p q = p tt
 chosen P false x y p q = q tt
 
--- the same where the test has passed
 pub chosen-first {ℓ κ} : {A : Type ℓ} (P : A → Type κ) (b : Bool) (x y : A) → T b → P x → P (pick b x y)
 chosen-first P true x y t p = p
 chosen-first P false x y t p = absurd t
 
--- two tests that pass together are equal
 pub iff-eq : (a b : Bool) → (T a → T b) → (T b → T a) → a ≡ b
 iff-eq true true f g = refl
 iff-eq true false f g = absurd (f tt)
