@@ -2,7 +2,7 @@
 -- By induction on d. Where a label does not carry d's, the canonical successors fit v and the root's names break d's label. Else some edge of
 -- d has no image: for a some-edge, each successor that could serve it is the countermodel of its end; for an all-edge, one successor more is
 -- the countermodel of v's value restriction. As v is saturated, what realizes a some-successor also fits the value restrictions that bind it.
---   fits-canonical          003, Definition 36: a saturated tree that is not ⊥ is fitted by its canonical model
+--   fits-canonical          003, Definition 36: the canonical model of a saturated tree that is not ⊥ fits it
 --   fits-each-canonical     the same for each some-successor
 --   Refutes                 an individual fits v and not d
 --   countermodel-complete   the countermodel refutes
@@ -212,7 +212,9 @@ module _ (S : Signature) where
       (fits : SuccessorsFit g (canonicalAll S g)) (cs : Forest S) (fs : Falsifies f g cs) where
     abbrev nodeModel : Bool → Bool → Tree S
     nodeModel a b =
-        pick a (pick b (individual S (m .wanted) cs) (individual S (S .complement (m .excluded)) (canonicalAll S g))) (individual S (m .wanted) (canonicalAll S g))
+        pick a
+        (pick b (individual S (m .wanted) cs) (individual S (S .complement (m .excluded)) (canonicalAll S g)))
+        (individual S (m .wanted) (canonicalAll S g))
 
     -- a name of the first set that is not in the second
     abbrev Missing : S .Names → S .Names → Type 0
