@@ -1,4 +1,4 @@
--- Completeness, and with it the characterization of subsumption: a reduced tree d subsumes a saturated tree v exactly if d maps to v.
+-- Completeness, and with it 003, Theorem 41: a reduced tree d subsumes a saturated tree v exactly if d maps to v.
 -- If d maps to v, whatever fits v fits d (Soundness). If not, the countermodel of d and v is a tree of individuals whose root fits v and not
 -- d (Countermodels); its rows are a finite interpretation that is bisimilar to it (Individuals), so individual 0 refutes v ⊑ d.
 --   fits-numbered, numbered-fits   individual 0 of a numbered tree of individuals fits what the tree fits, and no more

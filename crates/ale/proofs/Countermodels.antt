@@ -2,7 +2,7 @@
 -- By induction on d. Where a label does not carry d's, the canonical successors fit v and the root's names break d's label. Else some edge of
 -- d has no image: for a some-edge, each successor that could serve it is the countermodel of its end; for an all-edge, one successor more is
 -- the countermodel of v's value restriction. As v is saturated, what realizes a some-successor also fits the value restrictions that bind it.
---   fits-canonical          003, Definition 36: the canonical model of a saturated tree that is not ⊥ fits it
+--   fits-canonical          003, Lemma 37: the canonical model of a saturated tree that is not ⊥ fits it
 --   fits-each-canonical     the same for each some-successor
 --   Refutes                 an individual fits v and not d
 --   countermodel-complete   the countermodel refutes

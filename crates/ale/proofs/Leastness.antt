@@ -1,4 +1,4 @@
--- The product is least: a reduced tree d that maps to two trees maps to their product (003, Theorem 43).
+-- The product is least: a reduced tree d that maps to two trees maps to their product (003, Theorem 43, part 3).
 -- By induction on d. A label within two labels is within their intersection. An edge of d with an image in both trees has the pair of the two
 -- images as its image in the product: by induction its end maps to the product of their ends, and as d is reduced the pair is not dropped.
 -- Also: tidying keeps roles known.
@@ -38,7 +38,8 @@ module _ (S : Signature) where
 
   module _ (l m : Label S) (h : T (labelWithin S l m)) where
     within-wanted : (n : ℕ) → T (S .has (l .wanted) n) → T (S .has (m .wanted) n)
-    within-wanted = S .subset-has (l .wanted) (m .wanted) (and-left (S .subset (l .wanted) (m .wanted)) (S .subset (l .excluded) (m .excluded) && not (l .bottom)) h)
+    within-wanted =
+        S .subset-has (l .wanted) (m .wanted) (and-left (S .subset (l .wanted) (m .wanted)) (S .subset (l .excluded) (m .excluded) && not (l .bottom)) h)
 
     within-rest : T (S .subset (l .excluded) (m .excluded) && not (l .bottom))
     within-rest = and-right (S .subset (l .wanted) (m .wanted)) (S .subset (l .excluded) (m .excluded) && not (l .bottom)) h
