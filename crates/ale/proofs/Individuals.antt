@@ -2,6 +2,7 @@
 -- The same names hold of both, and the individuals that x reaches are the rows that hang from it, whose trees are the successors of its tree.
 --   successor-parent, successor-nonzero, successor-intro   row y hangs from row x exactly if it is not row 0 and x is its parent
 --   successor-above                                        where parents come first, a row stands before its successors
+--   successorRows                                          the rows that hang from a row, rising
 --   fits-numbered-table, numbered-table-fits               individual 0 fits exactly what the tree of row 0 fits
 use Prim.Native.Nat.{_+_, _<_, _≤_, suc, zero, ℕ}
 use lib.Dec.{T, T-not, eqb, eqb-refl, eqb→eq}
@@ -36,7 +37,7 @@ module _ (S : Signature) (p : Table S) where
   pub successor-above : ParentsFirst S p → (x y : ℕ) → y < p .rows → T (successorOf S p x y) → x < y
   successor-above up x y b h = omega (arith, successor-parent x y h, up y b (successor-nonzero x y h))
 
-  abbrev successorRows : ℕ → List ℕ
+  abbrev pub successorRows : ℕ → List ℕ
   successorRows x = filterBelow (successorOf S p x) (p .rows)
 
   -- a listed row is a successor in the tree
