@@ -1,5 +1,6 @@
 -- The individuals of a table fit what the trees of their rows fit: individual x and the tree of row x, read deep enough, are bisimilar.
 -- The same names hold of both, and the individuals that x reaches are the rows that hang from it, whose trees are the successors of its tree.
+--   not-zero                                               a number that is tested not to be 0 is not
 --   successor-parent, successor-nonzero, successor-intro   row y hangs from row x exactly if it is not row 0 and x is its parent
 --   successor-above                                        where parents come first, a row stands before its successors
 --   successorRows                                          the rows that hang from a row, rising
@@ -23,12 +24,15 @@ use Rattle.ale.proofs.RowLists.{filterBelow-in, filterBelow-out, member
 use Rattle.ale.proofs.Tests.{and-intro, and-left, and-right, or-split, refute}
 use Rattle.ale.proofs.TreeStructure.{Child, treeStructure}
 
+pub not-zero : (y : ℕ) → T (not (eqb y 0)) → ¬ (y ≡ 0)
+not-zero y h e = T-not (eqb y 0) h (subst (λ z. T (eqb z 0)) (sym e) (eqb-refl 0))
+
 module _ (S : Signature) (p : Table S) where
   pub successor-parent : (x y : ℕ) → T (successorOf S p x y) → p .parent y ≡ x
   successor-parent x y h = eqb→eq (p .parent y) x (and-right (not (eqb y 0)) (eqb (p .parent y) x) h)
 
   pub successor-nonzero : (x y : ℕ) → T (successorOf S p x y) → ¬ (y ≡ 0)
-  successor-nonzero x y h e = T-not (eqb y 0) (and-left (not (eqb y 0)) (eqb (p .parent y) x) h) (subst (λ z. T (eqb z 0)) (sym e) (eqb-refl 0))
+  successor-nonzero x y h = not-zero y (and-left (not (eqb y 0)) (eqb (p .parent y) x) h)
 
   pub successor-intro : (x y : ℕ) → ¬ (y ≡ 0) → p .parent y ≡ x → T (successorOf S p x y)
   successor-intro x y z e =

@@ -1,6 +1,6 @@
 -- The product is least: a reduced tree d that maps to two trees maps to their product (003, Theorem 43, part 3).
--- By induction on d. A label within two labels is within their intersection. An edge of d with an image in both trees has the pair of the two
--- images as its image in the product: by induction its end maps to the product of their ends, and as d is reduced the pair is not dropped.
+-- By induction on d. A label within two labels is within their intersection. An edge of d, of a known role, with an image in both trees has the
+-- pair of the two images as its image in the product: its end maps to the product of their ends, and as d is reduced the pair is not dropped.
 -- Also: tidying keeps roles known.
 use Prim.Native.Nat.{_<_, ℕ}
 use lib.Dec.{T, eqb-refl}

@@ -2,7 +2,7 @@
 -- The invariant, by induction on the row: every row's tree maps to the tree of its image. So if a row's image u is not ⊥, each edge of the row
 -- has an image among the edges of u; a row that can be taken exists, and the search returns the lowest. If u is ⊥, u itself takes everything.
 use Prim.Native.Nat.{_+_, _-_, _<_, _≤_, suc, zero, ℕ}
-use lib.Dec.{T, T-not, eqb, eqb-refl, eqb→eq}
+use lib.Dec.{T, eqb, eqb-refl, eqb→eq}
 use lib.ListN.{List·getD-append, getD, length, length-append}
 use lib.Seq.{getD-at}
 use mathlib.Core.Bool.{Bool, _&&_, _||_, false, not, true}
@@ -18,7 +18,7 @@ use Rattle.ale.specs.Signature.{Signature}
 use Rattle.ale.specs.Table.{ParentsFirst, Table, successorOf, successors, treeOf}
 use Rattle.ale.specs.Tree.{Forest, Kind, Tree, any, sameKind}
 use Rattle.ale.proofs.Depths.{Ranked, treeOf-settled}
-use Rattle.ale.proofs.Individuals.{successor-above, successor-intro, successor-nonzero, successorRows}
+use Rattle.ale.proofs.Individuals.{not-zero, successor-above, successor-intro, successor-nonzero, successorRows}
 use Rattle.ale.proofs.RowLists.{filterBelow-in, filterBelow-out, member-cons, member-head, member-tail}
 use Rattle.ale.proofs.Tests.{and-intro, and-left, and-right, chosen, clash, decide, or-left, or-right, or-split}
 
@@ -173,7 +173,7 @@ module _ (S : Signature) (p q : Table S) where
           step ih (inl t) =
               subst (λ z. Mapped z (image S p q z)) (sym (eqb→eq i 0 t)) (subst (λ v. Mapped 0 v) (sym (image-root (omega arith))) (pp, root))
           step ih (inr t) =
-              let z : ¬ (i ≡ 0) = λ e. T-not (eqb i 0) t (subst (λ m. T (eqb m 0)) (sym e) (eqb-refl 0)) in
+              let z = not-zero i t in
               let v = uq i b z in
               let h = nextImage-mapped i (image S p q (q .parent i)) b z (ih (q .parent i) (omega arith) (omega arith)) in
               subst (λ v. Mapped i v) (sym (image-next i b z)) (h .0)
