@@ -1,6 +1,6 @@
 -- The countermodel of d and v has at most (height of d + 1) * (size of v) individuals.
 -- By induction on d. For a some-edge to e, each some-successor of v becomes its canonical model, which is no larger, or its countermodel with e,
--- one level less high. For an all-edge to e, one such countermodel is added to the canonical model: v is counted once more than for e.
+-- which is less high than d. For an all-edge to e, one such countermodel is added to the canonical model, so v is counted once more than for e.
 use Prim.Native.Nat.{_*_, _+_, _≤_, max, suc, ℕ}
 use lib.Dec.{eqb}
 use mathlib.Core.Bool.{Bool, false, true}

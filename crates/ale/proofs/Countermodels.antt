@@ -1,7 +1,7 @@
 -- The countermodel refutes: if a reduced tree d does not map to a saturated tree v, the root of `countermodel d v` fits v and not d.
--- By induction on d. Where a label does not carry d's, the canonical successors fit v and the root's names break d's label. Else some edge of
--- d has no image: for a some-edge, each successor that could serve it is the countermodel of its end; for an all-edge, one successor more is
--- the countermodel of v's value restriction. As v is saturated, what realizes a some-successor also fits the value restrictions that bind it.
+-- By induction on d. If v's label does not carry d's, the canonical successors fit v's edges, and the root's names fit v's label and not d's. Else
+-- an edge of d to some e has no image. For a some-edge, each some-successor of v whose role serves becomes its countermodel with e; for an all-edge,
+-- one successor is added, the countermodel of v's value restriction with e. As v is saturated, each fits the value restrictions that bind it.
 --   fits-canonical          003, Lemma 37: the canonical model of a saturated tree that is not ⊥ fits it
 --   fits-each-canonical     the same for each some-successor
 --   Refutes                 an individual fits v and not d

@@ -1,15 +1,15 @@
 -- The table of a tree reads back as that tree.
 -- The rows of a tree are one interval: its root, then the intervals of its successors. Inside an interval every row but the first has its parent
 -- inside, and no row after it has its parent there; so the rows that hang from a row are exactly the starts of its successors' intervals.
---   Placed, PlacedAll        the rows of a tree, or of the successors of row q, stand from place o on
---   inside                   a row of the tree, not the root, has its parent in the tree, before itself
---   Stands                   the rows of a tree stand in the table, and no later row hangs from them
---   places                   where the successors stand
---   placed-tree              a tree that stands at row o is the tree of row o
---   encodeTree-length, encodeForest-length    a row for each node
---   encoded-parentsFirst     in the table of a tree, parents come first
---   encoded-tree             the table of a tree has that tree
---   height-size              a tree is less high than it has nodes
+--   Placed, PlacedAll                        the rows of a tree, or of the successors of row q, stand from place o on
+--   inside                                   a row of the tree, not the root, has its parent in the tree, before itself
+--   Stands                                   the rows of a tree stand in the table, and no later row hangs from them
+--   places                                   where the successors of a node stand
+--   placed-tree                              a tree that stands at row o is the tree of row o
+--   encodeTree-length, encodeForest-length   a row for each node
+--   encoded-parentsFirst                     in the table of a tree, parents come first
+--   encoded-tree                             the tree of the table of t is t
+--   height-size                              the height of a tree is less than its size
 use Prim.Native.Nat.{_+_, _-_, _<_, _≤_, suc, zero, ℕ}
 use lib.Dec.{T}
 use lib.ListN.{List·getD-append, getD, length, length-append}

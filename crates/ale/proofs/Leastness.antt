@@ -62,7 +62,7 @@ module _ (S : Signature) where
       within-intro a m (λ n h. within-wanted l m q n (within-wanted a l p n h)) (λ n h. within-excluded l m q n (within-excluded a l p n h))
       (within-possible a l p)
 
-  -- where a node that is not ⊥ is mapped to, its label and its edges are
+  -- a node that maps to a node other than ⊥ has its label within that node's, and its edges map
   mapsTo-parts : (a l : Label S) (h f : Forest S) → T (not (l .bottom)) → T (mapsTo S (node a h) (node l f)) →
       T (labelWithin S a l) × T (mapsAllTo S h f)
   mapsTo-parts a l h f u p =

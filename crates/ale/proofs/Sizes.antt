@@ -33,7 +33,7 @@ module _ (S : Signature) where
     tidyAll-size nil = omega arith
     tidyAll-size (cons k r t f) = omega (arith, consReduced-size k r (tidy S t) (tidyAll S f), tidy-size t, tidyAll-size f)
 
-  -- depth n and b rows: at most (n + 1) * b individuals; 13 * 256 is 3,328
+  -- depth n and b rows: at most (n + 1) * b individuals; in paper 01, 13 * 256 = 3,328
   pub countermodel-bound : (p q : Table S) (n b : ℕ) → size S (normalTree S p n) ≤ b →
       length (encode S (countermodel S (normalTree S q n) (normalTree S p n))) ≤ suc n * b
   countermodel-bound p q n b h =
