@@ -1,4 +1,10 @@
--- The individuals of a table fit what their trees fit.
+-- The individuals of a table fit what the trees of their rows fit: individual x and the tree of row x, read deep enough, are bisimilar.
+-- The same names hold of both, and the individuals that x reaches are the rows that hang from it, whose trees are the successors of its tree.
+--   not-zero                                               a number that is tested not to be 0 is not
+--   successor-parent, successor-nonzero, successor-intro   row y hangs from row x exactly if it is not row 0 and x is its parent
+--   successor-above                                        where parents come first, a row stands before its successors
+--   successorRows                                          the rows that hang from a row, rising
+--   fits-numbered-table, numbered-table-fits               individual 0 fits exactly what the tree of row 0 fits
 use Prim.Native.Nat.{_+_, _<_, _≤_, suc, zero, ℕ}
 use lib.Dec.{T, T-not, eqb, eqb-refl, eqb→eq}
 use mathlib.Core.Bool.{not}
@@ -10,65 +16,87 @@ use Rattle.ale.specs.Countermodel.{interpretationOf, reached}
 use Rattle.ale.specs.Interpretation.{structureOf}
 use Rattle.ale.specs.Rows.{filterBelow, member}
 use Rattle.ale.specs.Signature.{Signature}
-use Rattle.ale.specs.Structure.{Fits}
+use Rattle.ale.specs.Structure.{Fits, Structure}
 use Rattle.ale.specs.Table.{ParentsFirst, Table, successorOf, successors, treeOf}
 use Rattle.ale.specs.Tree.{Tree, labelOf, successorsOf}
 use Rattle.ale.proofs.Bisimulations.{Bisimulation, bisimilar-fits, converse}
 use Rattle.ale.proofs.RowLists.{filterBelow-in, filterBelow-out, member-head, member-tail}
-use Rattle.ale.proofs.Tests.{and-intro, and-left, and-right, or-split}
+use Rattle.ale.proofs.Tests.{and-intro, and-left, and-right, or-split, refute}
 use Rattle.ale.proofs.TreeStructure.{Child, treeStructure}
 
+pub not-zero : (y : ℕ) → T (not (eqb y 0)) → ¬ (y ≡ 0)
+not-zero y h e = T-not (eqb y 0) h (subst (λ z. T (eqb z 0)) (sym e) (eqb-refl 0))
+
 module _ (S : Signature) (p : Table S) where
+  pub successor-parent : (x y : ℕ) → T (successorOf S p x y) → p .parent y ≡ x
+  successor-parent x y h = eqb→eq (p .parent y) x (and-right (not (eqb y 0)) (eqb (p .parent y) x) h)
+
+  pub successor-nonzero : (x y : ℕ) → T (successorOf S p x y) → ¬ (y ≡ 0)
+  successor-nonzero x y h = not-zero y (and-left (not (eqb y 0)) (eqb (p .parent y) x) h)
+
+  pub successor-intro : (x y : ℕ) → ¬ (y ≡ 0) → p .parent y ≡ x → T (successorOf S p x y)
+  successor-intro x y z e =
+      and-intro (not (eqb y 0)) (eqb (p .parent y) x) (refute (eqb y 0) (λ t. z (eqb→eq y 0 t))) (subst (λ w. T (eqb w x)) (sym e) (eqb-refl x))
+
   pub successor-above : ParentsFirst S p → (x y : ℕ) → y < p .rows → T (successorOf S p x y) → x < y
-  successor-above up x y b h =
-      let a = not (eqb y 0) in
-      let e = eqb→eq (p .parent y) x (and-right a (eqb (p .parent y) x) h) in
-      let v : p .parent y < y = up y b (λ n. T-not (eqb y 0) (and-left a (eqb (p .parent y) x) h) (subst (λ m. T (eqb m 0)) (sym n) (eqb-refl 0))) in
-      omega arith
+  successor-above up x y b h = omega (arith, successor-parent x y h, up y b (successor-nonzero x y h))
 
-  child-in : (h : ℕ → Tree S) (r y : ℕ) (s : List ℕ) → T (S .subrole (p .role y) r) → T (member y s) → Child S r (h y) (successors S p h s)
-  child-in h r y [] i m = absurd m
-  child-in h r y (j ∷ s) i m =
-      ⊎-elim (λ e. let w = eqb→eq y j e in inl (subst (λ z. T (S .subrole (p .role z) r)) w i, sym (ap h w))) (λ m′. inr (child-in h r y s i m′)) (or-split (eqb y j) (member y s) m)
+  abbrev pub successorRows : ℕ → List ℕ
+  successorRows x = filterBelow (successorOf S p x) (p .rows)
 
-  child-out : (h : ℕ → Tree S) (r : ℕ) (t : Tree S) (s : List ℕ) → Child S r t (successors S p h s) → (y : ℕ) × T (member y s) × T (S .subrole (p .role y) r) × (h y ≡ t)
-  child-out h r t [] k = absurd k
-  child-out h r t (j ∷ s) (inl k) = (j, member-head j s, k .0, k .1)
-  child-out h r t (j ∷ s) (inr k) = let (y, m, i, e) = child-out h r t s k in (y, member-tail y j s m, i, e)
+  -- a listed row is a successor in the tree
+  member-child : (h : ℕ → Tree S) (r y : ℕ) (s : List ℕ) → T (S .subrole (p .role y) r) → T (member y s) → Child S r (h y) (successors S p h s)
+  member-child h r y [] i m = absurd m
+  member-child h r y (j ∷ s) i m =
+      ⊎-elim (λ e. let w = eqb→eq y j e in inl (subst (λ z. T (S .subrole (p .role z) r)) w i, sym (ap h w)))
+      (λ m′. inr (member-child h r y s i m′)) (or-split (eqb y j) (member y s) m)
 
-  -- an individual and its tree, deep enough
+  -- and every successor in the tree is that of a listed row
+  child-member : (h : ℕ → Tree S) (r : ℕ) (t : Tree S) (s : List ℕ) → Child S r t (successors S p h s) →
+      (y : ℕ) × T (member y s) × T (S .subrole (p .role y) r) × (h y ≡ t)
+  child-member h r t [] k = absurd k
+  child-member h r t (j ∷ s) (inl k) = (j, member-head j s, k .0, k .1)
+  child-member h r t (j ∷ s) (inr k) = let (y, m, i, e) = child-member h r t s k in (y, member-tail y j s m, i, e)
+
+  -- the bisimulation: t is the tree of row x, read down to the last row at least
   abbrev TreeOfRow : ℕ → Tree S → Type 0
   TreeOfRow x t = (n : ℕ) × (p .rows ≤ x + n) × (x < p .rows) × (treeOf S p n x ≡ t)
 
   module _ (pos : 0 < p .rows) (up : ParentsFirst S p) where
-    forth : (x : ℕ) (t : Tree S) → TreeOfRow x t → (r y : ℕ) → (y < p .rows) × T (reached S p r x y) → (u : Tree S) × Child S r u (successorsOf S t) × TreeOfRow y u
-    forth x t (zero, d, b, e) r y (l, h) = absurd (omega (arith, successor-above up x y l (and-left (successorOf S p x y) (S .subrole (p .role y) r) h)))
-    forth x t (suc n, d, b, e) r y (l, h) =
-        let c = and-left (successorOf S p x y) (S .subrole (p .role y) r) h in
-        let v = successor-above up x y l c in (
-          treeOf S p n y,
-          subst (λ z. Child S r (treeOf S p n y) (successorsOf S z)) e (child-in (λ j. treeOf S p n j) r y (filterBelow (successorOf S p x) (p .rows)) (and-right (successorOf S p x y) (S .subrole (p .role y) r) h) (filterBelow-in (successorOf S p x) (p .rows) y c l)),
-          (n, omega arith, l, refl),
-        )
+    abbrev model : Structure S
+    model = structureOf S (interpretationOf S p pos)
 
-    back : (x : ℕ) (t : Tree S) → TreeOfRow x t → (r : ℕ) (u : Tree S) → Child S r u (successorsOf S t) → (y : ℕ) × ((y < p .rows) × T (reached S p r x y)) × TreeOfRow y u
-    back x t (zero, d, b, e) r u k = absurd (omega arith)
-    back x t (suc n, d, b, e) r u k =
-        let (y, m, i, g) = child-out (λ j. treeOf S p n j) r u (filterBelow (successorOf S p x) (p .rows)) (subst (λ z. Child S r u (successorsOf S z)) (sym e) k) in
+    row-forth : (x : ℕ) (t : Tree S) → TreeOfRow x t → (r y : ℕ) → (y < p .rows) × T (reached S p r x y) →
+        (u : Tree S) × Child S r u (successorsOf S t) × TreeOfRow y u
+    row-forth x t (zero, d, b, e) r y (l, h) =
+        absurd (omega (arith, successor-above up x y l (and-left (successorOf S p x y) (S .subrole (p .role y) r) h)))
+    row-forth x t (suc n, d, b, e) r y (l, h) =
+        let c = and-left (successorOf S p x y) (S .subrole (p .role y) r) h in
+        let i = and-right (successorOf S p x y) (S .subrole (p .role y) r) h in
+        let k = member-child (λ j. treeOf S p n j) r y (successorRows x) i (filterBelow-in (successorOf S p x) (p .rows) y c l) in
+        let v = successor-above up x y l c in
+        (treeOf S p n y, subst (λ z. Child S r (treeOf S p n y) (successorsOf S z)) e k, (n, omega arith, l, refl))
+
+    row-back : (x : ℕ) (t : Tree S) → TreeOfRow x t → (r : ℕ) (u : Tree S) → Child S r u (successorsOf S t) →
+        (y : ℕ) × ((y < p .rows) × T (reached S p r x y)) × TreeOfRow y u
+    row-back x t (zero, d, b, e) r u k = absurd (omega arith)
+    row-back x t (suc n, d, b, e) r u k =
+        let (y, m, i, g) = child-member (λ j. treeOf S p n j) r u (successorRows x) (subst (λ z. Child S r u (successorsOf S z)) (sym e) k) in
         let (c, l) = filterBelow-out (successorOf S p x) (p .rows) y m in
         let v = successor-above up x y l c in
         (y, (l, and-intro (successorOf S p x y) (S .subrole (p .role y) r) c i), (n, omega arith, l, g))
 
-    atom : (x : ℕ) (t : Tree S) → TreeOfRow x t → (n : ℕ) → S .has ((p .label x) .wanted) n ≡ S .has ((labelOf S t) .wanted) n
-    atom x t (zero, d, b, e) n = ap (λ z. S .has ((labelOf S z) .wanted) n) e
-    atom x t (suc m, d, b, e) n = ap (λ z. S .has ((labelOf S z) .wanted) n) e
+    row-atoms : (x : ℕ) (t : Tree S) → TreeOfRow x t → (n : ℕ) → S .has ((p .label x) .wanted) n ≡ S .has ((labelOf S t) .wanted) n
+    row-atoms x t (zero, d, b, e) n = ap (λ z. S .has ((labelOf S z) .wanted) n) e
+    row-atoms x t (suc m, d, b, e) n = ap (λ z. S .has ((labelOf S z) .wanted) n) e
 
-    abbrev related : Bisimulation S (structureOf S (interpretationOf S p pos)) (treeStructure S)
-    related = record { Related = TreeOfRow; atoms = atom; forth = forth; back = back }
+    abbrev row-bisimulation : Bisimulation S model (treeStructure S)
+    row-bisimulation = record { Related = TreeOfRow; atoms = row-atoms; forth = row-forth; back = row-back }
 
-    -- individual 0 fits what its tree fits
     pub fits-numbered-table : (t : Tree S) → Fits S (treeStructure S) t (treeOf S p (p .rows) 0) → Fits S (structureOf S (interpretationOf S p pos)) t 0
-    fits-numbered-table t = bisimilar-fits S (treeStructure S) (structureOf S (interpretationOf S p pos)) (converse S (structureOf S (interpretationOf S p pos)) (treeStructure S) related) t (treeOf S p (p .rows) 0) 0 (p .rows, omega arith, pos, refl)
+    fits-numbered-table t =
+        bisimilar-fits S (treeStructure S) model (converse S model (treeStructure S) row-bisimulation) t (treeOf S p (p .rows) 0) 0
+        (p .rows, omega arith, pos, refl)
 
     pub numbered-table-fits : (t : Tree S) → Fits S (structureOf S (interpretationOf S p pos)) t 0 → Fits S (treeStructure S) t (treeOf S p (p .rows) 0)
-    numbered-table-fits t = bisimilar-fits S (structureOf S (interpretationOf S p pos)) (treeStructure S) related t 0 (treeOf S p (p .rows) 0) (p .rows, omega arith, pos, refl)
+    numbered-table-fits t = bisimilar-fits S model (treeStructure S) row-bisimulation t 0 (treeOf S p (p .rows) 0) (p .rows, omega arith, pos, refl)

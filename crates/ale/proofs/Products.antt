@@ -1,6 +1,12 @@
--- The product subsumes both.
+-- The product subsumes both trees (003, Theorem 43, parts 1 and 2): whatever fits one of them fits the product.
+-- By induction on the pair: the intersected label asks for no more than either label, and each edge of the product is a pair of edges that
+-- serve for it, whose end by induction is fitted by whatever fits the end of either.
+--   pairRole, pairForest                     the edges of a product node, for one role and for all
+--   fits-product-left, fits-product-right    what fits the first tree, or the second, fits the product
+--   fits-pairAll-left, fits-pairAll-right    the same for the pairs of one kind and role
 use Prim.Native.Nat.{ℕ}
 use lib.Dec.{T}
+use Rattle.table.proofs.Bools.{both}
 use Rattle.table.specs.Pick.{pick}
 use Rattle.ale.specs.Forest.{append, byRole, consReduced}
 use Rattle.ale.specs.Homomorphism.{roleServes}
@@ -15,7 +21,6 @@ use Rattle.ale.proofs.Structures.{FitsEdge, each-fits}
 use Rattle.ale.proofs.Tests.{and-left, and-right, chosen, clash}
 
 module _ (S : Signature) where
-  -- the product's successors of one role: all before some
   abbrev pub pairRole : Forest S → Forest S → ℕ → Forest S
   pairRole f g r = append S (pairAll S f forAll r g) (pairAll S f exists r g)
 
@@ -40,57 +45,76 @@ module _ (S : Signature) (M : Structure S) where
     possible = tt;
   }
 
-  -- a row fits where each edge that counts does
-  fits-pairEach : (k : Kind) (r : ℕ) (h : Tree S → Tree S) (x : M .Element) (g : Forest S) →
-      All S (λ k′ r′ e. T (edgeCounts S k r k′ r′) → FitsAt x k r (h e)) g → All S (FitsAt x) (pairEach S k r h g)
+  -- each end of an edge of g that counts for (k, r), put through h, is fitted along (k, r)
+  abbrev FitsCounted : Kind → ℕ → (Tree S → Tree S) → M .Element → Forest S → Type 0
+  FitsCounted k r h x g = All S (λ k′ r′ e. T (edgeCounts S k r k′ r′) → FitsAt x k r (h e)) g
+
+  fits-pairEach : (k : Kind) (r : ℕ) (h : Tree S → Tree S) (x : M .Element) (g : Forest S) → FitsCounted k r h x g → All S (FitsAt x) (pairEach S k r h g)
   fits-pairEach k r h x nil p = tt
   fits-pairEach k r h x (cons k′ r′ e g) p =
-      chosen (All S (FitsAt x)) (edgeCounts S k r k′ r′) (consReduced S k r (h e) (pairEach S k r h g)) (pairEach S k r h g)
-      (λ t. All-consReduced S (FitsAt x) k r (h e) (pairEach S k r h g) (p .0 t) (fits-pairEach k r h x g (p .1))) (λ t. fits-pairEach k r h x g (p .1))
+      let later = pairEach S k r h g in
+      let q = fits-pairEach k r h x g (p .1) in
+      chosen (All S (FitsAt x)) (edgeCounts S k r k′ r′) (consReduced S k r (h e) later) later
+      (λ t. All-consReduced S (FitsAt x) k r (h e) later (p .0 t) q) (λ t. q)
 
-  -- the product fits where its rows do
+  -- a product node is fitted where its label is satisfied and its pairs are fitted, or where one side is ⊥ and the other is fitted
   fits-product : (l m : Label S) (f g : Forest S) (x : M .Element) → (T (l .bottom) → Fits S M (node m g) x) → (T (m .bottom) → Fits S M (node l f) x) →
-      Satisfies S M (labelIntersection S l m) x → ((k : Kind) (r : ℕ) → All S (FitsAt x) (pairAll S f k r g)) → Fits S M (product S (node l f) (node m g)) x
+      Satisfies S M (labelIntersection S l m) x → ((k : Kind) (r : ℕ) → All S (FitsAt x) (pairAll S f k r g)) →
+      Fits S M (product S (node l f) (node m g)) x
   fits-product l m f g x p q c h =
-      chosen (λ t. Fits S M t x) (l .bottom) (node m g) (pick (m .bottom) (node l f) (node (labelIntersection S l m) (pairForest S f g))) p (λ a.
-      chosen (λ t. Fits S M t x) (m .bottom) (node l f) (node (labelIntersection S l m) (pairForest S f g)) q (λ b.
-      (c, each-fits S M (pairForest S f g) x (All-byRole S (FitsAt x) (λ r. pairRole S f g r) (λ r. All-append S (FitsAt x) (pairAll S f forAll r g) (pairAll S f exists r g) (h forAll r) (h exists r)) (S .roles)))))
+      let both = node (labelIntersection S l m) (pairForest S f g) in
+      chosen (λ t. Fits S M t x) (l .bottom) (node m g) (pick (m .bottom) (node l f) both) p (λ a.
+      chosen (λ t. Fits S M t x) (m .bottom) (node l f) both q (λ b.
+      (c, each-fits S M (pairForest S f g) x (All-byRole S (FitsAt x) (λ r. pairRole S f g r) role (S .roles)))))
+    where
+      role : (r : ℕ) → All S (FitsAt x) (pairRole S f g r)
+      role r = All-append S (FitsAt x) (pairAll S f forAll r g) (pairAll S f exists r g) (h forAll r) (h exists r)
 
-  fits-pairAll : (k : Kind) (r : ℕ) (k′ : Kind) (r′ : ℕ) (x : M .Element) (f g : Forest S) → (T (edgeCounts S k r k′ r′) → All S (FitsAt x) f) → All S (FitsAt x) g → All S (FitsAt x) (pick (edgeCounts S k r k′ r′) (append S f g) g)
-  fits-pairAll k r k′ r′ x f g p q = chosen (All S (FitsAt x)) (edgeCounts S k r k′ r′) (append S f g) g (λ t. All-append S (FitsAt x) f g (p t) q) (λ t. q)
+  fits-pairAll : (k : Kind) (r : ℕ) (k′ : Kind) (r′ : ℕ) (x : M .Element) (f g : Forest S) → (T (edgeCounts S k r k′ r′) → All S (FitsAt x) f) →
+      All S (FitsAt x) g → All S (FitsAt x) (pick (edgeCounts S k r k′ r′) (append S f g) g)
+  fits-pairAll k r k′ r′ x f g p q =
+      chosen (All S (FitsAt x)) (edgeCounts S k r k′ r′) (append S f g) g (λ t. All-append S (FitsAt x) f g (p t) q) (λ t. q)
 
-  -- an edge that counts, carried to what its end entails
-  carried : (k : Kind) (r : ℕ) (k′ : Kind) (r′ : ℕ) (t u : Tree S) → T (edgeCounts S k r k′ r′) → ((y : M .Element) → Fits S M t y → Fits S M u y) → (x : M .Element) → FitsAt x k′ r′ t → FitsAt x k r u
-  carried k r k′ r′ t u c h x p = restriction-along S M k k′ r r′ (λ y. Fits S M t y) (λ y. Fits S M u y) (and-left (sameKind k k′) (roleServes S k r′ r) c) (and-right (sameKind k k′) (roleServes S k r′ r) c) h x p
+  -- what fits along an edge that counts for (k, r) fits along (k, r), with whatever the end of the edge entails
+  fits-counted : (k : Kind) (r : ℕ) (k′ : Kind) (r′ : ℕ) (t u : Tree S) → T (edgeCounts S k r k′ r′) →
+      ((y : M .Element) → Fits S M t y → Fits S M u y) → (x : M .Element) → FitsAt x k′ r′ t → FitsAt x k r u
+  fits-counted k r k′ r′ t u c h x p =
+      let a = sameKind k k′ in
+      let b = roleServes S k r′ r in
+      restriction-along S M k k′ r r′ (λ y. Fits S M t y) (λ y. Fits S M u y) (and-left a b c) (and-right a b c) h x p
 
-  every : (k : Kind) (r : ℕ) (x : M .Element) (h : Tree S → Tree S) → ((e : Tree S) → FitsAt x k r (h e)) → (g : Forest S) → All S (λ k′ r′ e. T (edgeCounts S k r k′ r′) → FitsAt x k r (h e)) g
-  every k r x h p nil = tt
-  every k r x h p (cons k′ r′ e g) = (λ t. p e, every k r x h p g)
+  counted-always : (k : Kind) (r : ℕ) (x : M .Element) (h : Tree S → Tree S) → ((e : Tree S) → FitsAt x k r (h e)) → (g : Forest S) → FitsCounted k r h x g
+  counted-always k r x h p nil = tt
+  counted-always k r x h p (cons k′ r′ e g) = (λ t. p e, counted-always k r x h p g)
 
-  spread : (k : Kind) (r : ℕ) (x : M .Element) (h : Tree S → Tree S) → ((e : Tree S) (y : M .Element) → Fits S M e y → Fits S M (h e) y) →
-      (g : Forest S) → FitsAll S M g x → All S (λ k′ r′ e. T (edgeCounts S k r k′ r′) → FitsAt x k r (h e)) g
-  spread k r x h u nil p = tt
-  spread k r x h u (cons k′ r′ e g) p = (λ t. carried k r k′ r′ e (h e) t (u e) x (p .0), spread k r x h u g (p .1))
+  counted-entailed : (k : Kind) (r : ℕ) (x : M .Element) (h : Tree S → Tree S) → ((e : Tree S) (y : M .Element) → Fits S M e y → Fits S M (h e) y) →
+      (g : Forest S) → FitsAll S M g x → FitsCounted k r h x g
+  counted-entailed k r x h u nil p = tt
+  counted-entailed k r x h u (cons k′ r′ e g) p = (λ t. fits-counted k r k′ r′ e (h e) t (u e) x (p .0), counted-entailed k r x h u g (p .1))
 
-  -- the first is covered
   mutual
     pub fits-product-left : (v w : Tree S) (x : M .Element) → Fits S M v x → Fits S M (product S v w) x
-    fits-product-left (node l f) (node m g) x p = fits-product l m f g x (λ t. absurd (clash (l .bottom) t (p .0 .possible))) (λ t. p) (satisfies-intersection-left l m x (p .0)) (λ k r. fits-pairAll-left f k r g x (p .1))
+    fits-product-left (node l f) (node m g) x p =
+        fits-product l m f g x (λ t. absurd (clash (l .bottom) t (p .0 .possible))) (λ t. p)
+        (satisfies-intersection-left l m x (p .0)) (λ k r. fits-pairAll-left f k r g x (p .1))
 
     pub fits-pairAll-left : (f : Forest S) (k : Kind) (r : ℕ) (g : Forest S) (x : M .Element) → FitsAll S M f x → All S (FitsAt x) (pairAll S f k r g)
     fits-pairAll-left nil k r g x p = tt
     fits-pairAll-left (cons k′ r′ c f) k r g x p =
-        fits-pairAll k r k′ r′ x (pairEach S k r (λ e. product S c e) g) (pairAll S f k r g)
-        (λ t. fits-pairEach k r (λ e. product S c e) x g (every k r x (λ e. product S c e) (λ e. carried k r k′ r′ c (product S c e) t (λ y q. fits-product-left c e y q) x (p .0)) g))
+        let h : Tree S → Tree S = λ e. product S c e in
+        fits-pairAll k r k′ r′ x (pairEach S k r h g) (pairAll S f k r g)
+        (λ t. fits-pairEach k r h x g (counted-always k r x h (λ e. fits-counted k r k′ r′ c (h e) t (λ y q. fits-product-left c e y q) x (p .0)) g))
         (fits-pairAll-left f k r g x (p .1))
 
-  -- and so is the second
   mutual
     pub fits-product-right : (v w : Tree S) (x : M .Element) → Fits S M w x → Fits S M (product S v w) x
-    fits-product-right (node l f) (node m g) x p = fits-product l m f g x (λ t. p) (λ t. absurd (clash (m .bottom) t (p .0 .possible))) (satisfies-intersection-right l m x (p .0)) (λ k r. fits-pairAll-right f k r g x (p .1))
+    fits-product-right (node l f) (node m g) x p =
+        fits-product l m f g x (λ t. p) (λ t. absurd (clash (m .bottom) t (p .0 .possible)))
+        (satisfies-intersection-right l m x (p .0)) (λ k r. fits-pairAll-right f k r g x (p .1))
 
     pub fits-pairAll-right : (f : Forest S) (k : Kind) (r : ℕ) (g : Forest S) (x : M .Element) → FitsAll S M g x → All S (FitsAt x) (pairAll S f k r g)
     fits-pairAll-right nil k r g x p = tt
     fits-pairAll-right (cons k′ r′ c f) k r g x p =
-        fits-pairAll k r k′ r′ x (pairEach S k r (λ e. product S c e) g) (pairAll S f k r g)
-        (λ t. fits-pairEach k r (λ e. product S c e) x g (spread k r x (λ e. product S c e) (λ e y q. fits-product-right c e y q) g p)) (fits-pairAll-right f k r g x p)
+        let h : Tree S → Tree S = λ e. product S c e in
+        fits-pairAll k r k′ r′ x (pairEach S k r h g) (pairAll S f k r g)
+        (λ t. fits-pairEach k r h x g (counted-entailed k r x h (λ e y q. fits-product-right c e y q) g p)) (fits-pairAll-right f k r g x p)
