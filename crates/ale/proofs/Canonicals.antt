@@ -2,9 +2,8 @@
 -- Tidying writes ⊥ only as the canonical ⊥; a product node is a node of one side, or is not ⊥.
 use Prim.Native.Nat.{ℕ}
 use mathlib.Core.Path.{refl}
-use Rattle.table.proofs.Bools.{both}
 use Rattle.table.specs.Pick.{pick}
-use Rattle.ale.specs.Forest.{append, consReduced, trivial}
+use Rattle.ale.specs.Forest.{append, consReduced, dropped}
 use Rattle.ale.specs.Normal.{inconsistent, tidy, tidyAll}
 use Rattle.ale.specs.NormalForm.{CanonicalBottom, CanonicalBottomAll}
 use Rattle.ale.specs.Product.{edgeCounts, labelIntersection, pairAll, pairEach, product}
@@ -24,8 +23,7 @@ module _ (S : Signature) where
 
   consReduced-canonical : (k : Kind) (r : ℕ) (t : Tree S) (f : Forest S) → CanonicalBottom S t → CanonicalBottomAll S f →
       CanonicalBottomAll S (consReduced S k r t f)
-  consReduced-canonical exists r t f a b = (a, b)
-  consReduced-canonical forAll r t f a b = chosen (λ g. CanonicalBottomAll S g) (trivial S t) f (cons forAll r t f) (λ _. b) (λ _. (a, b))
+  consReduced-canonical k r t f a b = chosen (λ g. CanonicalBottomAll S g) (dropped S k t) f (cons k r t f) (λ _. b) (λ _. (a, b))
 
   mutual
     pub tidy-canonical : (t : Tree S) → CanonicalBottom S (tidy S t)

@@ -15,7 +15,7 @@ use Rattle.ale.specs.Signature.{Signature}
 use Rattle.ale.specs.Structure.{Fits, FitsAll, Restriction, Structure}
 use Rattle.ale.specs.Tree.{Forest, Kind, Tree, cons, exists, forAll, nil, node}
 use Rattle.ale.proofs.RowLists.{filterBelow-in, filterBelow-out, member-cons, member-head, member-tail}
-use Rattle.ale.proofs.Tidying.{restriction-map}
+use Rattle.ale.proofs.Structures.{restriction-map}
 
 module _ (S : Signature) (M : Structure S) where
   conjunction-at : (h : ℕ → Concept) (s : List ℕ) (x : M .Element) → InExtension S M (conjunctionOf h s) x → (n : ℕ) → T (member n s) → InExtension S M (h n) x

@@ -7,7 +7,7 @@ use Prim.Native.Nat.{_<_, _≤_, suc, zero, ℕ}
 use mathlib.Core.List.{List, [], _∷_}
 use native.Mathlib.Omega.{arith}
 use Rattle.table.specs.Pick.{pick}
-use Rattle.ale.specs.Forest.{append, byRole, consReduced, trivial}
+use Rattle.ale.specs.Forest.{append, byRole, consReduced, dropped}
 use Rattle.ale.specs.Merged.{existsParts, existsRows, merged, roleParts, valuePart, valueRows}
 use Rattle.ale.specs.Normal.{inconsistent, normalTree, tidy, tidyAll}
 use Rattle.ale.specs.Product.{edgeCounts, labelIntersection, lcs, pairAll, pairEach, product}
@@ -63,11 +63,10 @@ module _ (S : Signature) where
     tidyAll-confined : (f : Forest S) (n : ℕ) → ConfinedAll f n → ConfinedAll (tidyAll S f) n
     tidyAll-confined nil n h = tt
     tidyAll-confined (cons k r t f) zero h = absurd h
-    tidyAll-confined (cons k r t f) (suc n) h = kept k (tidy-confined t n (h .1)) (tidyAll-confined f (suc n) (h .2))
-      where
-        kept : (k : Kind) → Confined (tidy S t) n → ConfinedAll (tidyAll S f) (suc n) → ConfinedAll (consReduced S k r (tidy S t) (tidyAll S f)) (suc n)
-        kept exists a b = (h .0, a, b)
-        kept forAll a b = chosen (λ g. ConfinedAll g (suc n)) (trivial S (tidy S t)) (tidyAll S f) (cons forAll r (tidy S t) (tidyAll S f)) (λ _. b) (λ _. (h .0, a, b))
+    tidyAll-confined (cons k r t f) (suc n) h =
+        let a = tidy-confined t n (h .1) in
+        let b = tidyAll-confined f (suc n) (h .2) in
+        chosen (λ g. ConfinedAll g (suc n)) (dropped S k (tidy S t)) (tidyAll S f) (cons k r (tidy S t) (tidyAll S f)) (λ _. b) (λ _. (h .0, a, b))
 
   module _ (p : Table S) where
     pub merged-confined : (n : ℕ) (s : List ℕ) → Confined (merged S p n s) n
@@ -75,9 +74,9 @@ module _ (S : Signature) where
     merged-confined (suc n) s =
         confined-from (byRole S (roleParts S p (λ t. merged S p n t) s) (S .roles)) n
         (All-byRole-below S (ConfinedEdge n) (roleParts S p (λ t. merged S p n t) s) (S .roles) (λ r b.
-        All-append S (ConfinedEdge n) (valuePart S p r (λ t. merged S p n t) (valueRows S p s r)) (existsParts S p r (λ c. merged S p n (withRow (p .rows) c (valueRows S p s r))) (existsRows S p s r))
-        (All-valuePart S p (ConfinedEdge n) r (λ t. merged S p n t) (valueRows S p s r) (b, merged-confined n (valueRows S p s r)))
-        (All-existsParts S p (ConfinedEdge n) r (λ c. merged S p n (withRow (p .rows) c (valueRows S p s r))) (existsRows S p s r) (λ c. (b, merged-confined n (withRow (p .rows) c (valueRows S p s r)))))))
+        All-append S (ConfinedEdge n) (valuePart S r (λ t. merged S p n t) (valueRows S p s r)) (existsParts S r (λ c. merged S p n (withRow (p .rows) c (valueRows S p s r))) (existsRows S p s r))
+        (All-valuePart S (ConfinedEdge n) r (λ t. merged S p n t) (valueRows S p s r) (b, merged-confined n (valueRows S p s r)))
+        (All-existsParts S (ConfinedEdge n) r (λ c. merged S p n (withRow (p .rows) c (valueRows S p s r))) (existsRows S p s r) (λ c. (b, merged-confined n (withRow (p .rows) c (valueRows S p s r)))))))
 
     pub normal-confined : (n : ℕ) → Confined (normalTree S p n) n
     normal-confined n = tidy-confined (merged S p n (0 ∷ [])) n (merged-confined n (0 ∷ []))

@@ -13,9 +13,10 @@ use mathlib.Core.Logic.{inl, inr, ⊎-elim}
 use mathlib.Core.Path.{_≡_, ap, refl, subst}
 use Rattle.table.specs.Pick.{pick}
 use Rattle.ale.specs.Countermodel.{canonical, canonicalAll, countermodel, falsify, falsifyAll, individual, realize}
-use Rattle.ale.specs.Forest.{trivial}
+use Rattle.ale.specs.Forest.{dropped, trivial}
 use Rattle.ale.specs.Homomorphism.{edgeServes, labelWithin, mapsAllTo, mapsTo}
-use Rattle.ale.specs.NormalForm.{IfExists, IfForAll, NodeSaturated, Nontrivial, Propagated, Reduced, ReducedAll, Saturated, SaturatedAll, valueOf}
+use Rattle.ale.specs.NormalForm.{IfExists, IfForAll, NodeSaturated, Propagated, Reduced, ReducedAll, Saturated, SaturatedAll, valueOf}
+use Rattle.ale.specs.PictureSignature.{below}
 use Rattle.ale.specs.Signature.{Signature}
 use Rattle.ale.specs.Structure.{Fits, FitsAll, Restriction, Satisfies}
 use Rattle.ale.specs.Tree.{All, Forest, Kind, Label, Tree, any, cons, exists, forAll, labelOf, nil, node, top}
@@ -188,7 +189,7 @@ module _ (S : Signature) where
             let z = and-fails (eqb s r) (mapsTo S d b) (or-fails-left p q x) in
             ((λ e. below b (w .1) (⊎-elim (λ n. absurd (clash (eqb s r) e n)) (λ n. n) z)), go g (w .2) (or-fails-right p q x))
 
-    falsify-refutes : (k : Kind) → Nontrivial S k d → (l : Label S) (g : Forest S) → NodeSaturated S l g → SaturatedAll S g → Unserved k r d g →
+    falsify-refutes : (k : Kind) → T (not (dropped S k d)) → (l : Label S) (g : Forest S) → NodeSaturated S l g → SaturatedAll S g → Unserved k r d g →
         FalsifiesEdge k r d g (falsify S k r h g)
     falsify-refutes exists e l g t w x = (
       fits-realize l g t refuting (fits-each-refuting g w x),

@@ -10,14 +10,14 @@
 --   fits-consReduced, consReduced-fits                so dropping a trivial all-successor keeps the meaning
 use Prim.Native.Nat.{_<_, suc, zero, ℕ}
 use lib.Dec.{T}
-use mathlib.Core.Bool.{false, true}
+use mathlib.Core.Bool.{false, not, true}
 use mathlib.Core.Logic.{inl, inr, ⊎-elim}
 use mathlib.Core.Path.{subst, sym}
 use native.Mathlib.Nat.{eq-or-lt-of-le}
 use native.Mathlib.Omega.{arith}
-use Rattle.ale.specs.Forest.{append, byRole, consReduced, trivial}
+use Rattle.ale.specs.Forest.{append, byRole, consReduced, dropped, trivial}
 use Rattle.ale.specs.Homomorphism.{labelWithin}
-use Rattle.ale.specs.NormalForm.{Nontrivial, Reduced, ReducedAll}
+use Rattle.ale.specs.NormalForm.{Reduced, ReducedAll}
 use Rattle.ale.specs.Signature.{Signature}
 use Rattle.ale.specs.Structure.{Fits, FitsAll, Restriction, Structure}
 use Rattle.ale.specs.Tree.{All, Any, Forest, Kind, Tree, cons, emptyLabel, exists, forAll, nil, node}
@@ -74,23 +74,19 @@ module _ (S : Signature) where
 
   pub All-consReduced {ℓ} : (P : Kind → ℕ → Tree S → Type ℓ) (k : Kind) (r : ℕ) (t : Tree S) (f : Forest S) → P k r t → All S P f →
       All S P (consReduced S k r t f)
-  All-consReduced P exists r t f p q = (p, q)
-  All-consReduced P forAll r t f p q = chosen (λ g. All S P g) (trivial S t) f (cons forAll r t f) (λ b. q) (λ b. (p, q))
+  All-consReduced P k r t f p q = chosen (λ g. All S P g) (dropped S k t) f (cons k r t f) (λ b. q) (λ b. (p, q))
 
-  pub Any-consReduced : (P : Kind → ℕ → Tree S → Type 0) (k : Kind) (r : ℕ) (t : Tree S) (f : Forest S) → Nontrivial S k t → P k r t →
+  pub Any-consReduced : (P : Kind → ℕ → Tree S → Type 0) (k : Kind) (r : ℕ) (t : Tree S) (f : Forest S) → T (not (dropped S k t)) → P k r t →
       Any S P (consReduced S k r t f)
-  Any-consReduced P exists r t f u p = inl p
-  Any-consReduced P forAll r t f u p =
-      chosen (λ g. Any S P g) (trivial S t) f (cons forAll r t f) (λ b. absurd (clash (trivial S t) b u)) (λ b. inl p)
+  Any-consReduced P k r t f u p =
+      chosen (λ g. Any S P g) (dropped S k t) f (cons k r t f) (λ b. absurd (clash (dropped S k t) b u)) (λ b. inl p)
 
   pub Any-consReduced-later : (P : Kind → ℕ → Tree S → Type 0) (k : Kind) (r : ℕ) (t : Tree S) (f : Forest S) → Any S P f →
       Any S P (consReduced S k r t f)
-  Any-consReduced-later P exists r t f p = inr p
-  Any-consReduced-later P forAll r t f p = chosen (λ g. Any S P g) (trivial S t) f (cons forAll r t f) (λ b. p) (λ b. inr p)
+  Any-consReduced-later P k r t f p = chosen (λ g. Any S P g) (dropped S k t) f (cons k r t f) (λ b. p) (λ b. inr p)
 
   pub reduced-consReduced : (k : Kind) (r : ℕ) (t : Tree S) (f : Forest S) → Reduced S t → ReducedAll S f → ReducedAll S (consReduced S k r t f)
-  reduced-consReduced exists r t f p q = (tt, p, q)
-  reduced-consReduced forAll r t f p q = chosen (λ g. ReducedAll S g) (trivial S t) f (cons forAll r t f) (λ b. q) (λ b. (b, p, q))
+  reduced-consReduced k r t f p q = chosen (λ g. ReducedAll S g) (dropped S k t) f (cons k r t f) (λ b. q) (λ b. (b, p, q))
 
 module _ (S : Signature) (M : Structure S) where
   pub trivial-fits : (t : Tree S) → T (trivial S t) → (x : M .Element) → Fits S M t x
@@ -100,12 +96,15 @@ module _ (S : Signature) (M : Structure S) where
 
   pub fits-consReduced : (k : Kind) (r : ℕ) (t : Tree S) (f : Forest S) (x : M .Element) → Restriction S M k r (λ y. Fits S M t y) x → FitsAll S M f x →
       FitsAll S M (consReduced S k r t f) x
-  fits-consReduced exists r t f x p q = (p, q)
-  fits-consReduced forAll r t f x p q = chosen (λ g. FitsAll S M g x) (trivial S t) f (cons forAll r t f) (λ b. q) (λ b. (p, q))
+  fits-consReduced k r t f x p q = chosen (λ g. FitsAll S M g x) (dropped S k t) f (cons k r t f) (λ b. q) (λ b. (p, q))
+
+  -- what is dropped says nothing
+  dropped-restriction : (k : Kind) (r : ℕ) (t : Tree S) → T (dropped S k t) → (x : M .Element) → Restriction S M k r (λ y. Fits S M t y) x
+  dropped-restriction exists r t b x = absurd b
+  dropped-restriction forAll r t b x = λ y e. trivial-fits t b y
 
   pub consReduced-fits : (k : Kind) (r : ℕ) (t : Tree S) (f : Forest S) (x : M .Element) → FitsAll S M (consReduced S k r t f) x →
       Restriction S M k r (λ y. Fits S M t y) x × FitsAll S M f x
-  consReduced-fits exists r t f x p = p
-  consReduced-fits forAll r t f x p =
-      chosen (λ g. FitsAll S M g x → Restriction S M forAll r (λ y. Fits S M t y) x × FitsAll S M f x) (trivial S t) f (cons forAll r t f)
-      (λ b q. (λ y s. trivial-fits t b y, q)) (λ b q. q) p
+  consReduced-fits k r t f x p =
+      chosen (λ g. FitsAll S M g x → Restriction S M k r (λ y. Fits S M t y) x × FitsAll S M f x) (dropped S k t) f (cons k r t f)
+      (λ b q. (dropped-restriction k r t b x, q)) (λ b q. q) p

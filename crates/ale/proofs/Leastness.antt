@@ -7,12 +7,12 @@ use lib.Dec.{T, eqb-refl}
 use mathlib.Core.Bool.{Bool, _&&_, false, not, true}
 use mathlib.Core.Logic.{inl, inr, ⊎-elim}
 use mathlib.Core.Path.{subst, sym}
-use Rattle.table.proofs.Bools.{both}
 use Rattle.table.specs.Pick.{pick}
-use Rattle.ale.specs.Forest.{append, consReduced, trivial}
+use Rattle.ale.specs.Forest.{append, consReduced, dropped, trivial}
 use Rattle.ale.specs.Homomorphism.{edgeServes, labelWithin, mapsAllTo, mapsTo, roleServes}
 use Rattle.ale.specs.Normal.{inconsistent, tidy, tidyAll}
-use Rattle.ale.specs.NormalForm.{Nontrivial, Reduced, ReducedAll}
+use Rattle.ale.specs.NormalForm.{Reduced, ReducedAll}
+use Rattle.ale.specs.PictureSignature.{below}
 use Rattle.ale.specs.Product.{edgeCounts, labelIntersection, pairAll, pairEach, product}
 use Rattle.ale.specs.Signature.{Signature}
 use Rattle.ale.specs.Tree.{Any, Forest, Kind, Label, RolesKnown, RolesKnownAll, Tree, any, bottomTree, cons, emptyLabel, exists, forAll, nil, node, sameKind}
@@ -80,12 +80,12 @@ module _ (S : Signature) where
       let (x, y) = mapsTo-parts a l h nil (within-possible l e v) p in
       subst T (sym (trivial-mapsTo S (node a h))) (and-intro (labelWithin S a e) (mapsAllTo S h nil) (within-trans a l e x v) y)
 
-  mapsTo-nontrivial : (k : Kind) (d t : Tree S) → Nontrivial S k d → T (mapsTo S d t) → Nontrivial S k t
-  mapsTo-nontrivial exists d t n p = tt
-  mapsTo-nontrivial forAll d t n p = refute (trivial S t) (λ b. clash (trivial S d) (mapsTo-trivial d t p b) n)
+  mapsTo-kept : (k : Kind) (d t : Tree S) → T (not (dropped S k d)) → T (mapsTo S d t) → T (not (dropped S k t))
+  mapsTo-kept exists d t n p = tt
+  mapsTo-kept forAll d t n p = refute (trivial S t) (λ b. clash (trivial S d) (mapsTo-trivial d t p b) n)
 
   -- the edge (k, r) to d: with an image in both forests, it has one in the forest of pairs
-  module _ (k : Kind) (r : ℕ) (d : Tree S) (full : Nontrivial S k d)
+  module _ (k : Kind) (r : ℕ) (d : Tree S) (kept : T (not (dropped S k d)))
       (below : (c e : Tree S) → T (mapsTo S d c) → T (mapsTo S d e) → T (mapsTo S d (product S c e))) where
     abbrev serves : Kind → ℕ → Tree S → Bool
     serves k′ r′ c = edgeServes S k r (λ t. mapsTo S d t) k′ r′ c
@@ -117,7 +117,7 @@ module _ (S : Signature) where
         let u = product S c e in
         let t = below c e p (served-mapsTo k′ r′ e h) in
         chosen-first (Any S Served) (edgeCounts S k r k′ r′) (consReduced S k r u (pairs c g)) (pairs c g) (served-counts k′ r′ e h)
-        (Any-consReduced S Served k r u (pairs c g) (mapsTo-nontrivial k d u full t) (served-self u t))
+        (Any-consReduced S Served k r u (pairs c g) (mapsTo-kept k d u kept t) (served-self u t))
     pairEach-served c p (cons k′ r′ e g) (inr h) =
         let q = pairEach-served c p g h in
         chosen (Any S Served) (edgeCounts S k r k′ r′) (consReduced S k r (product S c e) (pairs c g)) (pairs c g)
@@ -172,8 +172,7 @@ module _ (S : Signature) where
 
   consReduced-rolesKnown : (k : Kind) (r : ℕ) (t : Tree S) (f : Forest S) → r < S .roles → RolesKnown S t → RolesKnownAll S f →
       RolesKnownAll S (consReduced S k r t f)
-  consReduced-rolesKnown exists r t f b p q = (b, p, q)
-  consReduced-rolesKnown forAll r t f b p q = chosen (λ g. RolesKnownAll S g) (trivial S t) f (cons forAll r t f) (λ _. q) (λ _. (b, p, q))
+  consReduced-rolesKnown k r t f b p q = chosen (λ g. RolesKnownAll S g) (dropped S k t) f (cons k r t f) (λ _. q) (λ _. (b, p, q))
 
   mutual
     pub tidy-rolesKnown : (t : Tree S) → RolesKnown S t → RolesKnown S (tidy S t)

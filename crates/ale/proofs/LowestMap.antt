@@ -17,6 +17,7 @@ use Rattle.ale.specs.Rows.{course, firstFrom, member}
 use Rattle.ale.specs.Signature.{Signature}
 use Rattle.ale.specs.Table.{ParentsFirst, Table, successorOf, successors, treeOf}
 use Rattle.ale.specs.Tree.{Forest, Kind, Tree, any, sameKind}
+use Rattle.ale.proofs.Cases.{root}
 use Rattle.ale.proofs.Depths.{Ranked, treeOf-settled}
 use Rattle.ale.proofs.Individuals.{not-zero, successor-above, successor-intro, successor-nonzero, successorRows}
 use Rattle.ale.proofs.RowLists.{filterBelow-in, filterBelow-out, member-cons, member-head, member-tail}
@@ -67,14 +68,14 @@ module _ (S : Signature) (p q : Table S) where
 
   -- if row i's parent maps to row u, not ⊥, then i maps to a row that hangs from u; by depth
   image-exists-at : (n m i u : ℕ) → i < q .rows → ¬ (i ≡ 0) → T (mapsTo S (treeOf S q (suc n) (q .parent i)) (treeOf S p (suc m) u)) →
-      T (not (bottomAt S p q u)) → (v : ℕ) × (v < p .rows) × T (edgeJoins S p q i u v) × T (mapsTo S (treeOf S q n i) (treeOf S p m v))
+      T (not (bottomAt S p u)) → (v : ℕ) × (v < p .rows) × T (edgeJoins S p q i u v) × T (mapsTo S (treeOf S q n i) (treeOf S p m v))
   image-exists-at n m i u b z w k =
       let j = q .parent i in
       let f = successors S q (λ x. treeOf S q n x) (successorRows S q j) in
       let g = successors S p (λ x. treeOf S p m x) (successorRows S p u) in
       let a = labelWithin S (q .label j) (p .label u) in
       let e : T (a && mapsAllTo S f g) =
-          ⊎-elim (λ t. absurd (clash (bottomAt S p q u) t k)) (λ t. t) (or-split (bottomAt S p q u) (a && mapsAllTo S f g) w) in
+          ⊎-elim (λ t. absurd (clash (bottomAt S p u) t k)) (λ t. t) (or-split (bottomAt S p u) (a && mapsAllTo S f g) w) in
       let d = filterBelow-in (successorOf S q j) (q .rows) i (successor-intro S q j i z refl) b in
       let h = mapsAllTo-at (λ x. treeOf S q n x) (successorRows S q j) g (and-right a (mapsAllTo S f g) e) i d in
       let (v, y, t) = any-row (edgeServes S (q .kind i) (q .role i) (λ c. mapsTo S (treeOf S q n i) c)) (λ x. treeOf S p m x) (successorRows S p u) h in
@@ -93,11 +94,11 @@ module _ (S : Signature) (p q : Table S) where
   treeOf-below s u i z n e = treeOf-settled S s (λ i. i) (s .rows) (ranked-by-number s u) n i (omega arith) ∙ ap (λ k. treeOf S s k i) (sym e)
 
   -- ⊥ takes everything
-  bottom-mapsTo : (n m i v : ℕ) → T (bottomAt S p q v) → T (mapsTo S (treeOf S q n i) (treeOf S p m v))
-  bottom-mapsTo zero zero i v t = or-left (bottomAt S p q v) _ t
-  bottom-mapsTo zero (suc m) i v t = or-left (bottomAt S p q v) _ t
-  bottom-mapsTo (suc n) zero i v t = or-left (bottomAt S p q v) _ t
-  bottom-mapsTo (suc n) (suc m) i v t = or-left (bottomAt S p q v) _ t
+  bottom-mapsTo : (n m i v : ℕ) → T (bottomAt S p v) → T (mapsTo S (treeOf S q n i) (treeOf S p m v))
+  bottom-mapsTo zero zero i v t = or-left (bottomAt S p v) _ t
+  bottom-mapsTo zero (suc m) i v t = or-left (bottomAt S p v) _ t
+  bottom-mapsTo (suc n) zero i v t = or-left (bottomAt S p v) _ t
+  bottom-mapsTo (suc n) (suc m) i v t = or-left (bottomAt S p v) _ t
 
   -- where a row's tree maps, its label agrees
   mapsTo-label : (n m i v : ℕ) → T (mapsTo S (treeOf S q n i) (treeOf S p m v)) → T (labelAgrees S p q i v)
@@ -108,17 +109,17 @@ module _ (S : Signature) (p q : Table S) where
       label-only false a b t = and-left a b t
 
       go : (n m : ℕ) → T (mapsTo S (treeOf S q n i) (treeOf S p m v)) → T (labelAgrees S p q i v)
-      go zero zero t = label-only (bottomAt S p q v) (labelWithin S (q .label i) (p .label v)) _ t
-      go zero (suc m) t = label-only (bottomAt S p q v) (labelWithin S (q .label i) (p .label v)) _ t
-      go (suc n) zero t = label-only (bottomAt S p q v) (labelWithin S (q .label i) (p .label v)) _ t
-      go (suc n) (suc m) t = label-only (bottomAt S p q v) (labelWithin S (q .label i) (p .label v)) _ t
+      go zero zero t = label-only (bottomAt S p v) (labelWithin S (q .label i) (p .label v)) _ t
+      go zero (suc m) t = label-only (bottomAt S p v) (labelWithin S (q .label i) (p .label v)) _ t
+      go (suc n) zero t = label-only (bottomAt S p v) (labelWithin S (q .label i) (p .label v)) _ t
+      go (suc n) (suc m) t = label-only (bottomAt S p v) (labelWithin S (q .label i) (p .label v)) _ t
 
   module _ (up : ParentsFirst S p) (uq : ParentsFirst S q) where
     -- row v can be taken for row i below u
     abbrev possible : ℕ → ℕ → ℕ → Bool
     possible i u v = edgeJoins S p q i u v && rowMapsTo S p q i v
 
-    image-exists : (i u : ℕ) → i < q .rows → u < p .rows → ¬ (i ≡ 0) → T (rowMapsTo S p q (q .parent i) u) → T (not (bottomAt S p q u)) →
+    image-exists : (i u : ℕ) → i < q .rows → u < p .rows → ¬ (i ≡ 0) → T (rowMapsTo S p q (q .parent i) u) → T (not (bottomAt S p u)) →
         (v : ℕ) × (v < p .rows) × T (possible i u v)
     image-exists i u b l z w k = go (q .rows - 1) (p .rows - 1) (omega arith) (omega arith)
       where
@@ -153,7 +154,7 @@ module _ (S : Signature) (p q : Table S) where
     nextImage-mapped : (i u : ℕ) → i < q .rows → ¬ (i ≡ 0) → Mapped (q .parent i) u →
         Mapped i (nextImage S p q i u) × T (edgeAgrees S p q i u (nextImage S p q i u))
     nextImage-mapped i u b z (l, w) =
-        let h = bottomAt S p q u in
+        let h = bottomAt S p u in
         let v′ = firstFrom (possible i u) 0 (p .rows) in
         chosen (λ v. Mapped i v × T (edgeAgrees S p q i u v)) h u v′
         (λ t. ((l, bottom-mapsTo (q .rows) (p .rows) i u t), or-left (h && eqb u u) (edgeJoins S p q i u u) (and-intro h (eqb u u) t (eqb-refl u))))

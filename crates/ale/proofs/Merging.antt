@@ -35,10 +35,10 @@ module _ (S : Signature) (p : Table S) where
   existsSet s r c = withRow (p .rows) c (valueRows S p s r)
 
   abbrev pub mergedValue : ℕ → List ℕ → ℕ → Forest S
-  mergedValue n s r = valuePart S p r (λ t. merged S p n t) (valueRows S p s r)
+  mergedValue n s r = valuePart S r (λ t. merged S p n t) (valueRows S p s r)
 
   abbrev pub mergedExists : ℕ → List ℕ → ℕ → Forest S
-  mergedExists n s r = existsParts S p r (λ c. merged S p n (existsSet s r c)) (existsRows S p s r)
+  mergedExists n s r = existsParts S r (λ c. merged S p n (existsSet s r c)) (existsRows S p s r)
 
   abbrev pub mergedSuccessors : ℕ → List ℕ → Forest S
   mergedSuccessors n s = byRole S (roleParts S p (λ t. merged S p n t) s) (S .roles)
@@ -91,7 +91,7 @@ module _ (S : Signature) (p : Table S) where
 
 module _ (S : Signature) (p : Table S) (M : Structure S) where
   -- the union of two labels is satisfied exactly if both are
-  satisfies-union : (l m : Label S) (x : M .Element) → Satisfies S M l x → Satisfies S M m x → Satisfies S M (labelUnion S p l m) x
+  satisfies-union : (l m : Label S) (x : M .Element) → Satisfies S M l x → Satisfies S M m x → Satisfies S M (labelUnion S l m) x
   satisfies-union l m x c d = record {
     held = λ n h. union-elim S (l .wanted) (m .wanted) (T (M .holds n x)) n h (c .held n) (d .held n);
     free = λ n h t. union-elim S (l .excluded) (m .excluded) ⊥ n h (λ a. c .free n a t) (λ a. d .free n a t);
@@ -99,14 +99,14 @@ module _ (S : Signature) (p : Table S) (M : Structure S) where
         ⊎-elim (λ a. clash (l .bottom) a (c .possible)) (λ a. clash (m .bottom) a (d .possible)) (or-split (l .bottom) (m .bottom) t));
   }
 
-  satisfies-left : (l m : Label S) (x : M .Element) → Satisfies S M (labelUnion S p l m) x → Satisfies S M l x
+  satisfies-left : (l m : Label S) (x : M .Element) → Satisfies S M (labelUnion S l m) x → Satisfies S M l x
   satisfies-left l m x c = record {
     held = λ n h. c .held n (union-left S (l .wanted) (m .wanted) n h);
     free = λ n h. c .free n (union-left S (l .excluded) (m .excluded) n h);
     possible = refute (l .bottom) (λ t. clash (l .bottom || m .bottom) (or-left (l .bottom) (m .bottom) t) (c .possible));
   }
 
-  satisfies-right : (l m : Label S) (x : M .Element) → Satisfies S M (labelUnion S p l m) x → Satisfies S M m x
+  satisfies-right : (l m : Label S) (x : M .Element) → Satisfies S M (labelUnion S l m) x → Satisfies S M m x
   satisfies-right l m x c = record {
     held = λ n h. c .held n (union-right S (l .wanted) (m .wanted) n h);
     free = λ n h. c .free n (union-right S (l .excluded) (m .excluded) n h);
@@ -139,23 +139,23 @@ module _ (S : Signature) (p : Table S) (M : Structure S) where
   fit-successors h (i ∷ s) x f = (f i (member-head i s), fit-successors h s x (λ j m. f j (member-tail j i s m)))
 
   -- the parts of a merged node are fitted exactly if the edges that they stand for are
-  valuePart-fits : (r : ℕ) (h : List ℕ → Tree S) (s : List ℕ) (x : M .Element) → All S (FitsEdge S M x) (valuePart S p r h s) →
+  valuePart-fits : (r : ℕ) (h : List ℕ → Tree S) (s : List ℕ) (x : M .Element) → All S (FitsEdge S M x) (valuePart S r h s) →
       (j : ℕ) → T (member j s) → FitsEdge S M x forAll r (h s)
   valuePart-fits r h [] x f j m = absurd m
   valuePart-fits r h (a ∷ s) x f j m = f .0
 
   fits-valuePart : (r : ℕ) (h : List ℕ → Tree S) (s : List ℕ) (x : M .Element) → FitsEdge S M x forAll r (h s) →
-      All S (FitsEdge S M x) (valuePart S p r h s)
+      All S (FitsEdge S M x) (valuePart S r h s)
   fits-valuePart r h [] x f = tt
   fits-valuePart r h (a ∷ s) x f = (f, tt)
 
-  existsParts-fit : (r : ℕ) (h : ℕ → Tree S) (s : List ℕ) (x : M .Element) → All S (FitsEdge S M x) (existsParts S p r h s) →
+  existsParts-fit : (r : ℕ) (h : ℕ → Tree S) (s : List ℕ) (x : M .Element) → All S (FitsEdge S M x) (existsParts S r h s) →
       (j : ℕ) → T (member j s) → FitsEdge S M x exists r (h j)
   existsParts-fit r h [] x f = λ j m. absurd m
   existsParts-fit r h (c ∷ s) x f = member-cons (λ j. FitsEdge S M x exists r (h j)) c s (f .0) (existsParts-fit r h s x (f .1))
 
   fit-existsParts : (r : ℕ) (h : ℕ → Tree S) (s : List ℕ) (x : M .Element) → ((j : ℕ) → T (member j s) → FitsEdge S M x exists r (h j)) →
-      All S (FitsEdge S M x) (existsParts S p r h s)
+      All S (FitsEdge S M x) (existsParts S r h s)
   fit-existsParts r h [] x f = tt
   fit-existsParts r h (c ∷ s) x f = (f c (member-head c s), fit-existsParts r h s x (λ j m. f j (member-tail j c s m)))
 

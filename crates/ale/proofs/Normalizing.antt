@@ -8,15 +8,15 @@ use mathlib.Core.Bool.{_&&_, _||_, not}
 use mathlib.Core.List.{List, [], _∷_}
 use mathlib.Core.Logic.{inl, inr, ⊎-elim}
 use mathlib.Core.Path.{subst}
-use Rattle.ale.specs.Forest.{trivial}
+use Rattle.ale.specs.Forest.{dropped, trivial}
 use Rattle.ale.specs.Merged.{existsParts, existsRows, labelOfSet, merged, roleParts, valuePart, valueRows}
 use Rattle.ale.specs.Normal.{bottomExists, inconsistent, normalOf, tidy, tidyAll, tidyNode}
-use Rattle.ale.specs.NormalForm.{IfExists, IfForAll, Nontrivial, Propagated, Saturated, SaturatedAll, valueOf}
+use Rattle.ale.specs.NormalForm.{IfExists, IfForAll, Propagated, Saturated, SaturatedAll, valueOf}
 use Rattle.ale.specs.Rows.{member}
 use Rattle.ale.specs.Signature.{Signature}
 use Rattle.ale.specs.Structure.{Fits, Structure, SubsumedInAll}
 use Rattle.ale.specs.Table.{KnownRoles, Table}
-use Rattle.ale.specs.Tree.{All, Any, Forest, Kind, Label, Tree, any, bottomTree, cons, exists, forAll, labelOf, nil, node, sameKind}
+use Rattle.ale.specs.Tree.{All, Any, Forest, Kind, Label, Tree, any, bottomTree, cons, exists, forAll, nil, node, sameKind}
 use Rattle.ale.proofs.Forests.{All-append, All-byRole, All-consReduced, Any-append-left, Any-byRole, Any-consReduced, Any-consReduced-later, trivial-fits}
 use Rattle.ale.proofs.Merging.{FitsEach, existsSet, fits-merged, merged-fits, mergedExists, mergedSuccessors, mergedValue, valueRows-out, valueRows-subrole}
 use Rattle.ale.proofs.NameLaws.{intersection-intro, none-has}
@@ -32,7 +32,7 @@ module _ (S : Signature) where
   All-tidyAll P nil h = tt
   All-tidyAll P (cons k r t f) h = All-consReduced S P k r (tidy S t) (tidyAll S f) (h .0) (All-tidyAll P f (h .1))
 
-  Any-tidyAll : (P : Kind → ℕ → Tree S → Type 0) (f : Forest S) → Any S (λ k r t. Nontrivial S k (tidy S t) × P k r (tidy S t)) f →
+  Any-tidyAll : (P : Kind → ℕ → Tree S → Type 0) (f : Forest S) → Any S (λ k r t. T (not (dropped S k (tidy S t))) × P k r (tidy S t)) f →
       Any S P (tidyAll S f)
   Any-tidyAll P nil h = h
   Any-tidyAll P (cons k r t f) (inl h) = Any-consReduced S P k r (tidy S t) (tidyAll S f) (h .0) (h .1)
@@ -43,7 +43,7 @@ module _ (S : Signature) where
 
   -- an all-successor of role r that tidying keeps
   abbrev KeptValue : ℕ → Kind → ℕ → Tree S → Type 0
-  KeptValue r k s b = Nontrivial S k (tidy S b) × IsValue r k s (tidy S b)
+  KeptValue r k s b = T (not (dropped S k (tidy S b))) × IsValue r k s (tidy S b)
 
   -- `valueOf` is an all-successor of the role, where there is one
   valueOf-present {ℓ} : (P : Tree S → Type ℓ) (r : ℕ) (f : Forest S) → Any S (IsValue r) f → All S (IfForAll S (λ s b. T (eqb s r) → P b)) f →
@@ -59,11 +59,10 @@ module _ (S : Signature) where
 
   saturated-notBottom : (f : Forest S) → All S (λ k r t. Saturated S t) f → T (not (any S (bottomExists S) f)) → SaturatedAll S f
   saturated-notBottom nil w n = tt
-  saturated-notBottom (cons exists r t f) w n =
-      let a = (labelOf S t) .bottom in
+  saturated-notBottom (cons k r t f) w n =
+      let a = bottomExists S k r t in
       let b = any S (bottomExists S) f in
       (or-fails-left a b n, w .0, saturated-notBottom f (w .1) (or-fails-right a b n))
-  saturated-notBottom (cons forAll r t f) w n = (tt, w .0, saturated-notBottom f (w .1) n)
 
   -- a tidied node is saturated if all-successors are propagated to its successors and these are saturated
   tidyNode-saturated : (l : Label S) (f : Forest S) → All S (IfExists S (λ r c. Propagated S f r c)) f → ((r : ℕ) → Propagated S f r (valueOf S r f)) →
@@ -86,37 +85,38 @@ module _ (S : Signature) where
         saturated-notBottom f w (or-fails-right (not z) d c),
       ))
 
-module _ (S : Signature) (p : Table S) where
+module _ (S : Signature) where
   -- what is true of the successors of a merged node, by its parts
   pub All-valuePart {ℓ} : (P : Kind → ℕ → Tree S → Type ℓ) (r : ℕ) (h : List ℕ → Tree S) (s : List ℕ) → P forAll r (h s) →
-      All S P (valuePart S p r h s)
+      All S P (valuePart S r h s)
   All-valuePart P r h [] q = tt
   All-valuePart P r h (a ∷ s) q = (q, tt)
 
   Any-valuePart : (P : Kind → ℕ → Tree S → Type 0) (r : ℕ) (h : List ℕ → Tree S) (s : List ℕ) (j : ℕ) → T (member j s) → P forAll r (h s) →
-      Any S P (valuePart S p r h s)
+      Any S P (valuePart S r h s)
   Any-valuePart P r h [] j m q = absurd m
   Any-valuePart P r h (a ∷ s) j m q = inl q
 
   pub All-existsParts {ℓ} : (P : Kind → ℕ → Tree S → Type ℓ) (r : ℕ) (h : ℕ → Tree S) (s : List ℕ) → ((c : ℕ) → P exists r (h c)) →
-      All S P (existsParts S p r h s)
+      All S P (existsParts S r h s)
   All-existsParts P r h [] q = tt
   All-existsParts P r h (c ∷ s) q = (q c, All-existsParts P r h s q)
 
+module _ (S : Signature) (p : Table S) where
   All-merged {ℓ} : (P : Kind → ℕ → Tree S → Type ℓ) (n : ℕ) (s : List ℕ) → ((r : ℕ) → P forAll r (merged S p n (valueRows S p s r))) →
       ((r c : ℕ) → P exists r (merged S p n (existsSet S p s r c))) → All S P (mergedSuccessors S p n s)
   All-merged P n s a b =
       All-byRole S P (roleParts S p (λ t. merged S p n t) s) (λ r.
       All-append S P (mergedValue S p n s r) (mergedExists S p n s r)
-      (All-valuePart P r (λ t. merged S p n t) (valueRows S p s r) (a r))
-      (All-existsParts P r (λ c. merged S p n (existsSet S p s r c)) (existsRows S p s r) (b r)))
+      (All-valuePart S P r (λ t. merged S p n t) (valueRows S p s r) (a r))
+      (All-existsParts S P r (λ c. merged S p n (existsSet S p s r c)) (existsRows S p s r) (b r)))
       (S .roles)
 
-  module _ (known : KnownRoles S p) where
-    -- an element fits the normal tree of a set exactly if it fits the tree of each of its rows
-    pub fits-normalOf : (M : Structure S) (n : ℕ) (s : List ℕ) (x : M .Element) → FitsEach S p M n s x → Fits S M (normalOf S p n s) x
-    fits-normalOf M n s x e = fits-tidy S M (merged S p n s) x (fits-merged S p M n s x e)
+  -- an element fits the normal tree of a set exactly if it fits the tree of each of its rows
+  pub fits-normalOf : (M : Structure S) (n : ℕ) (s : List ℕ) (x : M .Element) → FitsEach S p M n s x → Fits S M (normalOf S p n s) x
+  fits-normalOf M n s x e = fits-tidy S M (merged S p n s) x (fits-merged S p M n s x e)
 
+  module _ (known : KnownRoles S p) where
     pub normalOf-fits : (M : Structure S) (n : ℕ) (s : List ℕ) (x : M .Element) → Fits S M (normalOf S p n s) x → FitsEach S p M n s x
     normalOf-fits M n s x f = merged-fits S p M known n s x (tidy-fits S M (merged S p n s) x f)
 
@@ -175,7 +175,7 @@ module _ (S : Signature) (p : Table S) where
           Any-tidyAll S (IsValue S r) (mergedSuccessors S p n s)
           (Any-byRole S (KeptValue S r) (roleParts S p (λ t. merged S p n t) s) r (S .roles) l
           (Any-append-left S (KeptValue S r) (mergedValue S p n s r) (mergedExists S p n s r)
-          (Any-valuePart (KeptValue S r) r (λ t. merged S p n t) (valueRows S p s r) a m (b, eqb-refl r))))
+          (Any-valuePart S (KeptValue S r) r (λ t. merged S p n t) (valueRows S p s r) a m (b, eqb-refl r))))
 
       -- whether the rows that bind r are none, or their normal tree is trivial, or neither
       valueOf-implies : (r : ℕ) → ImpliesValues r (valueOf S r tidied)

@@ -6,7 +6,7 @@ use Prim.Native.Nat.{_<_, suc, zero, ℕ}
 use mathlib.Core.List.{List, [], _∷_}
 use mathlib.Core.Path.{_≡_, refl}
 use native.Mathlib.Omega.{arith}
-use Rattle.ale.specs.Forest.{append, byRole, consReduced, trivial}
+use Rattle.ale.specs.Forest.{append, byRole, consReduced, dropped}
 use Rattle.ale.specs.Merged.{existsParts, existsRows, merged, roleParts, valuePart, valueRows}
 use Rattle.ale.specs.Normal.{inconsistent, tidy, tidyAll}
 use Rattle.ale.specs.NormalForm.{Before, Ordered, OrderedAll}
@@ -56,25 +56,25 @@ module _ (S : Signature) (p : Table S) where
   module _ (h : List ℕ → Tree S) (ordered : (t : List ℕ) → Ordered S (h t)) (s : List ℕ) where
     parts-role : (r : ℕ) → All S (RoleIs S r) (roleParts S p h s r)
     parts-role r =
-        All-append S (RoleIs S r) (valuePart S p r h (valueRows S p s r)) (existsParts S p r (λ c. h (withRow (p .rows) c (valueRows S p s r))) (existsRows S p s r))
-        (All-valuePart S p (RoleIs S r) r h (valueRows S p s r) refl)
-        (All-existsParts S p (RoleIs S r) r (λ c. h (withRow (p .rows) c (valueRows S p s r))) (existsRows S p s r) (λ c. refl))
+        All-append S (RoleIs S r) (valuePart S r h (valueRows S p s r)) (existsParts S r (λ c. h (withRow (p .rows) c (valueRows S p s r))) (existsRows S p s r))
+        (All-valuePart S (RoleIs S r) r h (valueRows S p s r) refl)
+        (All-existsParts S (RoleIs S r) r (λ c. h (withRow (p .rows) c (valueRows S p s r))) (existsRows S p s r) (λ c. refl))
 
-    value-ordered : (r : ℕ) (a : List ℕ) → OrderedAll S (valuePart S p r h a)
+    value-ordered : (r : ℕ) (a : List ℕ) → OrderedAll S (valuePart S r h a)
     value-ordered r [] = tt
     value-ordered r (i ∷ a) = (tt, ordered (i ∷ a), tt)
 
-    exists-ordered : (r : ℕ) (g : ℕ → Tree S) → ((c : ℕ) → Ordered S (g c)) → (e : List ℕ) → OrderedAll S (existsParts S p r g e)
+    exists-ordered : (r : ℕ) (g : ℕ → Tree S) → ((c : ℕ) → Ordered S (g c)) → (e : List ℕ) → OrderedAll S (existsParts S r g e)
     exists-ordered r g o [] = tt
-    exists-ordered r g o (c ∷ e) = (All-existsParts S p (λ k′ r′ _. Before S exists r k′ r′) r g e (λ c. omega arith), o c, exists-ordered r g o e)
+    exists-ordered r g o (c ∷ e) = (All-existsParts S (λ k′ r′ _. Before S exists r k′ r′) r g e (λ c. omega arith), o c, exists-ordered r g o e)
 
     parts-ordered : (r : ℕ) → OrderedAll S (roleParts S p h s r)
     parts-ordered r =
         let a = valueRows S p s r in
         let g : ℕ → Tree S = λ c. h (withRow (p .rows) c a) in
-        ordered-append S (valuePart S p r h a) (existsParts S p r g (existsRows S p s r)) (value-ordered r a) (exists-ordered r g (λ c. ordered (withRow (p .rows) c a)) (existsRows S p s r))
-        (All-valuePart S p (BeforeAll S (existsParts S p r g (existsRows S p s r))) r h a
-        (All-existsParts S p (λ k′ r′ _. Before S forAll r k′ r′) r g (existsRows S p s r) (λ c. omega arith)))
+        ordered-append S (valuePart S r h a) (existsParts S r g (existsRows S p s r)) (value-ordered r a) (exists-ordered r g (λ c. ordered (withRow (p .rows) c a)) (existsRows S p s r))
+        (All-valuePart S (BeforeAll S (existsParts S r g (existsRows S p s r))) r h a
+        (All-existsParts S (λ k′ r′ _. Before S forAll r k′ r′) r g (existsRows S p s r) (λ c. omega arith)))
 
   pub merged-ordered : (n : ℕ) (s : List ℕ) → Ordered S (merged S p n s)
   merged-ordered zero s = tt
@@ -88,8 +88,7 @@ module _ (S : Signature) where
   before-kept k r (cons k′ r′ t f) h = All-consReduced S (λ k′ r′ _. Before S k r k′ r′) k′ r′ (tidy S t) (tidyAll S f) (h .0) (before-kept k r f (h .1))
 
   ordered-consReduced : (k : Kind) (r : ℕ) (t : Tree S) (f : Forest S) → All S (λ k′ r′ _. Before S k r k′ r′) f → Ordered S t → OrderedAll S f → OrderedAll S (consReduced S k r t f)
-  ordered-consReduced exists r t f b o q = (b, o, q)
-  ordered-consReduced forAll r t f b o q = chosen (λ g. OrderedAll S g) (trivial S t) f (cons forAll r t f) (λ _. q) (λ _. (b, o, q))
+  ordered-consReduced k r t f b o q = chosen (λ g. OrderedAll S g) (dropped S k t) f (cons k r t f) (λ _. q) (λ _. (b, o, q))
 
   mutual
     pub tidy-ordered : (t : Tree S) → Ordered S t → Ordered S (tidy S t)

@@ -36,10 +36,10 @@ module _ (S : Signature) (p q : Table S) where
       (or-split (eqb y j) (member y s) m)
 
   -- a node maps if its label agrees and, where the image is not ⊥, its edges map
-  node-mapsTo : (i v : ℕ) (f g : Forest S) → T (labelAgrees S p q i v) → (T (not (bottomAt S p q v)) → T (mapsAllTo S f g)) →
+  node-mapsTo : (i v : ℕ) (f g : Forest S) → T (labelAgrees S p q i v) → (T (not (bottomAt S p v)) → T (mapsAllTo S f g)) →
       T (mapsTo S (node (q .label i) f) (node (p .label v) g))
   node-mapsTo i v f g h k =
-      let u = bottomAt S p q v in
+      let u = bottomAt S p v in
       let a = labelWithin S (q .label i) (p .label v) in
       let b = mapsAllTo S f g in
       ⊎-elim (λ t. or-left u (a && b) t)
@@ -48,9 +48,9 @@ module _ (S : Signature) (p q : Table S) where
 
   module _ (im : ℕ → ℕ) (ok : IsHomomorphism S p q im) (up : ParentsFirst S p) where
     -- where row i's image is not ⊥, the images of its successors hang from it
-    edge-joined : (i j : ℕ) → j < q .rows → T (successorOf S q i j) → T (not (bottomAt S p q (im i))) → T (edgeJoins S p q j (im i) (im j))
+    edge-joined : (i j : ℕ) → j < q .rows → T (successorOf S q i j) → T (not (bottomAt S p (im i))) → T (edgeJoins S p q j (im i) (im j))
     edge-joined i j b c n =
-        let u = bottomAt S p q (im i) in
+        let u = bottomAt S p (im i) in
         let e = eqb (im j) (im i) in
         let h = ok .edges j b (successor-nonzero S q i j c) in
         ⊎-elim (λ t. absurd (clash u (and-left u e t) n)) (λ t. t)

@@ -7,20 +7,19 @@ use native.Mathlib.Nat.{mul-le-mul}
 use native.Mathlib.Omega.{arith}
 use Rattle.ale.specs.Countermodel.{countermodel}
 use Rattle.ale.specs.Encoding.{encode}
-use Rattle.ale.specs.Forest.{consReduced, trivial}
+use Rattle.ale.specs.Forest.{consReduced, dropped}
 use Rattle.ale.specs.Normal.{inconsistent, normalTree, tidy, tidyAll}
 use Rattle.ale.specs.Signature.{Signature}
 use Rattle.ale.specs.Table.{Table}
-use Rattle.ale.specs.Tree.{Forest, Kind, Tree, bottomTree, cons, exists, forAll, height, nil, node, size, sizes}
+use Rattle.ale.specs.Tree.{Forest, Kind, Tree, bottomTree, cons, height, nil, node, size, sizes}
 use Rattle.ale.proofs.Completeness.{countermodel-count}
 use Rattle.ale.proofs.Confined.{confined-height, normal-confined}
 use Rattle.ale.proofs.Tests.{chosen}
 
 module _ (S : Signature) where
   consReduced-size : (k : Kind) (r : ℕ) (t : Tree S) (f : Forest S) → sizes S (consReduced S k r t f) ≤ size S t + sizes S f
-  consReduced-size exists r t f = omega arith
-  consReduced-size forAll r t f =
-      chosen (λ g. sizes S g ≤ size S t + sizes S f) (trivial S t) f (cons forAll r t f) (λ _. omega arith) (λ _. omega arith)
+  consReduced-size k r t f =
+      chosen (λ g. sizes S g ≤ size S t + sizes S f) (dropped S k t) f (cons k r t f) (λ _. omega arith) (λ _. omega arith)
 
   mutual
     pub tidy-size : (t : Tree S) → size S (tidy S t) ≤ size S t

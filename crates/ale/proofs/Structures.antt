@@ -7,12 +7,17 @@ use Prim.Native.Nat.{ℕ}
 use Rattle.ale.specs.Interpretation.{Subsumed, structureOf}
 use Rattle.ale.specs.Signature.{Signature}
 use Rattle.ale.specs.Structure.{Fits, FitsAll, Restriction, Satisfies, Structure, SubsumedInAll}
-use Rattle.ale.specs.Tree.{All, Forest, Kind, Tree, cons, emptyLabel, nil}
+use Rattle.ale.specs.Tree.{All, Forest, Kind, Tree, cons, emptyLabel, exists, forAll, nil}
 use Rattle.ale.proofs.NameLaws.{none-has}
 
 module _ (S : Signature) (M : Structure S) where
   abbrev pub FitsEdge : M .Element → Kind → ℕ → Tree S → Type 0
   FitsEdge x k r t = Restriction S M k r (Fits S M t) x
+
+  pub restriction-map : (k : Kind) (r : ℕ) (P Q : M .Element → Type 0) → ((y : M .Element) → P y → Q y) →
+      (x : M .Element) → Restriction S M k r P x → Restriction S M k r Q x
+  restriction-map exists r P Q h x (y, s, p) = (y, s, h y p)
+  restriction-map forAll r P Q h x p = λ y s. h y (p y s)
 
   pub fits-each : (f : Forest S) (x : M .Element) → FitsAll S M f x → All S (FitsEdge x) f
   fits-each nil x h = tt

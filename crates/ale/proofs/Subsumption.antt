@@ -34,7 +34,7 @@ use Rattle.ale.proofs.Tidying.{tidy-reduced}
 
 module _ (S : Signature) where
   pub tree-normal : (p : Table S) → KnownRoles S p → (n : ℕ) → SubsumedInAll S (tree S p n) (normalTree S p n)
-  tree-normal p k n M x f = fits-normalOf S p k M n (0 ∷ []) x (member-cons (λ i. Fits S M (treeOf S p n i) x) 0 [] f (λ i m. absurd m))
+  tree-normal p k n M x f = fits-normalOf S p M n (0 ∷ []) x (member-cons (λ i. Fits S M (treeOf S p n i) x) 0 [] f (λ i m. absurd m))
 
   pub normal-tree : (p : Table S) → KnownRoles S p → (n : ℕ) → SubsumedInAll S (normalTree S p n) (tree S p n)
   normal-tree p k n M x f = normalOf-fits S p k M n (0 ∷ []) x f 0 (member-head 0 [])
@@ -46,7 +46,7 @@ module _ (S : Signature) where
   normalTree-normal p k n = record {
     saturated = normalOf-saturated S p k n (0 ∷ []);
     reduced = tidy-reduced S (merged S p n (0 ∷ []));
-    canonical = tidy-canonical S (merged S p n (0 ∷ []));
+    canonicalBottom = tidy-canonical S (merged S p n (0 ∷ []));
     ordered = tidy-ordered S (merged S p n (0 ∷ [])) (merged-ordered S p n (0 ∷ []));
   }
 

@@ -4,11 +4,9 @@
 --   and-fails, or-fails-left, or-fails-right   a conjunction fails: one does; a disjunction fails: both do
 --   decide, clash, refute                      a test passes or fails; not both; it fails if it cannot pass
 --   chosen, chosen-first                       a property of what `pick` picks: by cases; where the test passes
---   iff-eq                                     two tests that pass together are equal
 use lib.Dec.{T}
 use mathlib.Core.Bool.{Bool, _&&_, _||_, false, not, true}
 use mathlib.Core.Logic.{_⊎_, inl, inr}
-use mathlib.Core.Path.{_≡_, refl}
 use Rattle.table.specs.Pick.{pick}
 
 pub and-intro : (a b : Bool) → T a → T b → T (a && b)
@@ -68,9 +66,3 @@ chosen P false x y p q = q tt
 pub chosen-first {ℓ κ} : {A : Type ℓ} (P : A → Type κ) (b : Bool) (x y : A) → T b → P x → P (pick b x y)
 chosen-first P true x y t p = p
 chosen-first P false x y t p = absurd t
-
-pub iff-eq : (a b : Bool) → (T a → T b) → (T b → T a) → a ≡ b
-iff-eq true true f g = refl
-iff-eq true false f g = absurd (f tt)
-iff-eq false true f g = absurd (g tt)
-iff-eq false false f g = refl

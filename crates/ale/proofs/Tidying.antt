@@ -14,11 +14,11 @@ use mathlib.Core.Logic.{⊎-elim}
 use Rattle.ale.specs.Normal.{bottomExists, inconsistent, tidy, tidyAll, tidyNode}
 use Rattle.ale.specs.NormalForm.{Reduced, ReducedAll}
 use Rattle.ale.specs.Signature.{Signature}
-use Rattle.ale.specs.Structure.{Fits, FitsAll, Restriction, Satisfies, Structure}
+use Rattle.ale.specs.Structure.{Fits, FitsAll, Satisfies, Structure}
 use Rattle.ale.specs.Tree.{Forest, Kind, Label, Tree, any, bottomTree, cons, exists, forAll, labelOf, nil, node}
 use Rattle.ale.proofs.Forests.{consReduced-fits, fits-consReduced, reduced-consReduced}
 use Rattle.ale.proofs.NameLaws.{intersection-left, intersection-right}
-use Rattle.ale.proofs.Structures.{FitsEdge, fits-each}
+use Rattle.ale.proofs.Structures.{FitsEdge, fits-each, restriction-map}
 use Rattle.ale.proofs.Tests.{chosen, clash, or-split}
 use Rattle.ale.proofs.Trees.{All-Any, any-Any}
 
@@ -62,11 +62,6 @@ module _ (S : Signature) (M : Structure S) where
       chosen (λ t. Fits S M t x → Satisfies S M l x × FitsAll S M f x) (inconsistent S l f) (bottomTree S) (node l f)
       (λ b p. absurd (p .0 .possible)) (λ b p. p)
 
-  pub restriction-map : (k : Kind) (r : ℕ) (P Q : M .Element → Type 0) → ((y : M .Element) → P y → Q y) →
-      (x : M .Element) → Restriction S M k r P x → Restriction S M k r Q x
-  restriction-map exists r P Q h x (y, s, p) = (y, s, h y p)
-  restriction-map forAll r P Q h x p = λ y s. h y (p y s)
-
   mutual
     pub fits-tidy : (t : Tree S) (x : M .Element) → Fits S M t x → Fits S M (tidy S t) x
     fits-tidy (node l f) x p = fits-tidyNode l (tidyAll S f) x (p .0) (fits-tidyAll f x (p .1))
@@ -75,7 +70,7 @@ module _ (S : Signature) (M : Structure S) where
     fits-tidyAll nil x p = tt
     fits-tidyAll (cons k r t f) x p =
         fits-consReduced S M k r (tidy S t) (tidyAll S f) x
-        (restriction-map k r (λ y. Fits S M t y) (λ y. Fits S M (tidy S t) y) (λ y q. fits-tidy t y q) x (p .0))
+        (restriction-map S M k r (λ y. Fits S M t y) (λ y. Fits S M (tidy S t) y) (λ y q. fits-tidy t y q) x (p .0))
         (fits-tidyAll f x (p .1))
 
   mutual
@@ -86,4 +81,4 @@ module _ (S : Signature) (M : Structure S) where
     tidyAll-fits nil x p = tt
     tidyAll-fits (cons k r t f) x p =
         let (e, q) = consReduced-fits S M k r (tidy S t) (tidyAll S f) x p in
-        (restriction-map k r (λ y. Fits S M (tidy S t) y) (λ y. Fits S M t y) (λ y w. tidy-fits t y w) x e, tidyAll-fits f x q)
+        (restriction-map S M k r (λ y. Fits S M (tidy S t) y) (λ y. Fits S M t y) (λ y w. tidy-fits t y w) x e, tidyAll-fits f x q)

@@ -1,8 +1,9 @@
 -- Forests put together, as 01 orders successors: by role, all before some.
 --   append         one after the other
 --   byRole         what h gives for each role from 0 up to n, in turn
---   trivial        no names, no mark and no successors
---   consReduced    one successor more, unless it is a trivial all-successor (01: dropped)
+--   trivial        no names, not ⊥ and no successors
+--   dropped        01: an all-successor that is trivial; a some-successor never is
+--   consReduced    one successor more, unless it is dropped
 use Prim.Native.Nat.{suc, zero, ℕ}
 use mathlib.Core.Bool.{Bool, _&&_, false, true}
 use Rattle.table.specs.Pick.{pick}
@@ -26,6 +27,9 @@ module _ (S : Signature) where
   abbrev pub trivial : Tree S → Bool
   trivial (node l f) = labelWithin S l (emptyLabel S) && isNil f
 
+  abbrev pub dropped : Kind → Tree S → Bool
+  dropped exists t = false
+  dropped forAll t = trivial t
+
   abbrev pub consReduced : Kind → ℕ → Tree S → Forest S → Forest S
-  consReduced exists r t f = cons exists r t f
-  consReduced forAll r t f = pick (trivial t) f (cons forAll r t f)
+  consReduced k r t f = pick (dropped k t) f (cons k r t f)

@@ -15,6 +15,18 @@ use Rattle.ale.specs.Signature.{Signature}
 use Rattle.ale.specs.Table.{Table}
 use Rattle.ale.specs.Tree.{Forest, Label, Tree, cons, emptyLabel, exists, forAll, nil, node, sameKind}
 
+module _ (S : Signature) where
+  abbrev pub labelUnion : Label S → Label S → Label S
+  labelUnion l m = record { wanted = S .union (l .wanted) (m .wanted); excluded = S .union (l .excluded) (m .excluded); bottom = l .bottom || m .bottom }
+
+  abbrev pub valuePart : ℕ → (List ℕ → Tree S) → List ℕ → Forest S
+  valuePart r h [] = nil
+  valuePart r h (a ∷ s) = cons forAll r (h (a ∷ s)) nil
+
+  abbrev pub existsParts : ℕ → (ℕ → Tree S) → List ℕ → Forest S
+  existsParts r h [] = nil
+  existsParts r h (c ∷ s) = cons exists r (h c) (existsParts r h s)
+
 module _ (S : Signature) (p : Table S) where
   abbrev pub successorOfSet : List ℕ → ℕ → Bool
   successorOfSet s j = not (eqb j 0) && member (p .parent j) s
@@ -25,23 +37,12 @@ module _ (S : Signature) (p : Table S) where
   abbrev pub existsRows : List ℕ → ℕ → List ℕ
   existsRows s r = filterBelow (λ j. successorOfSet s j && (sameKind exists (p .kind j) && eqb (p .role j) r)) (p .rows)
 
-  abbrev pub labelUnion : Label S → Label S → Label S
-  labelUnion l m = record { wanted = S .union (l .wanted) (m .wanted); excluded = S .union (l .excluded) (m .excluded); bottom = l .bottom || m .bottom }
-
   abbrev pub labelOfSet : List ℕ → Label S
   labelOfSet [] = emptyLabel S
-  labelOfSet (i ∷ s) = labelUnion (p .label i) (labelOfSet s)
-
-  abbrev pub valuePart : ℕ → (List ℕ → Tree S) → List ℕ → Forest S
-  valuePart r h [] = nil
-  valuePart r h (a ∷ s) = cons forAll r (h (a ∷ s)) nil
-
-  abbrev pub existsParts : ℕ → (ℕ → Tree S) → List ℕ → Forest S
-  existsParts r h [] = nil
-  existsParts r h (c ∷ s) = cons exists r (h c) (existsParts r h s)
+  labelOfSet (i ∷ s) = labelUnion S (p .label i) (labelOfSet s)
 
   abbrev pub roleParts : (List ℕ → Tree S) → List ℕ → ℕ → Forest S
-  roleParts h s r = append S (valuePart r h (valueRows s r)) (existsParts r (λ c. h (withRow (p .rows) c (valueRows s r))) (existsRows s r))
+  roleParts h s r = append S (valuePart S r h (valueRows s r)) (existsParts S r (λ c. h (withRow (p .rows) c (valueRows s r))) (existsRows s r))
 
   abbrev pub merged : ℕ → List ℕ → Tree S
   merged zero s = node (labelOfSet s) nil

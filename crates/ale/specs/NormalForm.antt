@@ -1,8 +1,7 @@
 -- 003, Definition 34 and Lemma 35: what it is for a tree to be normal. No rule has anything left to do:
 --   NodeSaturated     P ⊓ ¬P is only in ⊥; what an all-successor says is said by the some- and all-successors that it binds
---   NotBottom         no some-successor is ⊥
---   Saturated         both, at every node
---   Reduced           no all-successor is ⊤, at every node
+--   Saturated         that, and no some-successor is ⊥, at every node
+--   Reduced           no successor is one that is dropped: no all-successor is ⊤, at every node
 --   CanonicalBottom   a node that is ⊥ has no names and no successors, at every node
 --   Ordered           successors by role, all before some, and at most one all-successor to a role, at every node (01)
 --   Normal            all of these
@@ -15,10 +14,11 @@ use lib.Dec.{T, eqb}
 use mathlib.Core.Bool.{not}
 use mathlib.Core.Path.{_≡_}
 use Rattle.table.specs.Pick.{pick}
-use Rattle.ale.specs.Forest.{trivial}
+use Rattle.ale.specs.Forest.{dropped}
+use Rattle.ale.specs.Normal.{bottomExists}
 use Rattle.ale.specs.Signature.{Signature}
 use Rattle.ale.specs.Structure.{SubsumedInAll}
-use Rattle.ale.specs.Tree.{All, Forest, Kind, Label, Tree, bottomLabel, cons, exists, forAll, labelOf, nil, node, top}
+use Rattle.ale.specs.Tree.{All, Forest, Kind, Label, Tree, bottomLabel, cons, exists, forAll, nil, node, top}
 
 module _ (S : Signature) where
   abbrev pub IfExists {ℓ} : (ℕ → Tree S → Type ℓ) → Kind → ℕ → Tree S → Type ℓ
@@ -42,21 +42,13 @@ module _ (S : Signature) where
     pub into-exists : All S (IfExists (λ r c. Propagated f r c)) f
     pub into-forAll : (r : ℕ) → Propagated f r (valueOf r f)
 
-  abbrev pub NotBottom : Kind → Tree S → Type 0
-  NotBottom exists t = T (not ((labelOf S t) .bottom))
-  NotBottom forAll t = Unit
-
   abbrev mutual
     pub Saturated : Tree S → Type 1
     Saturated (node l f) = NodeSaturated l f × SaturatedAll f
 
     pub SaturatedAll : Forest S → Type 1
     SaturatedAll nil = Unit
-    SaturatedAll (cons k r t f) = NotBottom k t × Saturated t × SaturatedAll f
-
-  abbrev pub Nontrivial : Kind → Tree S → Type 0
-  Nontrivial exists t = Unit
-  Nontrivial forAll t = T (not (trivial S t))
+    SaturatedAll (cons k r t f) = T (not (bottomExists S k r t)) × Saturated t × SaturatedAll f
 
   abbrev mutual
     pub Reduced : Tree S → Type 0
@@ -64,7 +56,7 @@ module _ (S : Signature) where
 
     pub ReducedAll : Forest S → Type 0
     ReducedAll nil = Unit
-    ReducedAll (cons k r t f) = Nontrivial k t × Reduced t × ReducedAll f
+    ReducedAll (cons k r t f) = T (not (dropped S k t)) × Reduced t × ReducedAll f
 
   abbrev mutual
     pub CanonicalBottom : Tree S → Type 0
@@ -92,5 +84,5 @@ module _ (S : Signature) where
   pub record Normal (t : Tree S) : Type 1 where
     pub saturated : Saturated t
     pub reduced : Reduced t
-    pub canonical : CanonicalBottom t
+    pub canonicalBottom : CanonicalBottom t
     pub ordered : Ordered t

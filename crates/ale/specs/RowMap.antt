@@ -21,18 +21,19 @@ use Rattle.ale.specs.Signature.{Signature}
 use Rattle.ale.specs.Table.{Table, successorOf, treeOf}
 use Rattle.ale.specs.Tree.{sameKind}
 
-module _ (S : Signature) (p q : Table S) where
+module _ (S : Signature) (p : Table S) where
   abbrev pub bottomAt : ℕ → Bool
   bottomAt v = (p .label v) .bottom
 
+module _ (S : Signature) (p q : Table S) where
   abbrev pub labelAgrees : ℕ → ℕ → Bool
-  labelAgrees i v = bottomAt v || labelWithin S (q .label i) (p .label v)
+  labelAgrees i v = bottomAt S p v || labelWithin S (q .label i) (p .label v)
 
   abbrev pub edgeJoins : ℕ → ℕ → ℕ → Bool
   edgeJoins i u v = successorOf S p u v && (sameKind (q .kind i) (p .kind v) && roleServes S (q .kind i) (p .role v) (q .role i))
 
   abbrev pub edgeAgrees : ℕ → ℕ → ℕ → Bool
-  edgeAgrees i u v = (bottomAt u && eqb v u) || edgeJoins i u v
+  edgeAgrees i u v = (bottomAt S p u && eqb v u) || edgeJoins i u v
 
   pub record IsHomomorphism (im : ℕ → ℕ) : Type 0 where
     pub inside : (i : ℕ) → i < q .rows → im i < p .rows
@@ -44,7 +45,7 @@ module _ (S : Signature) (p q : Table S) where
   rowMapsTo i v = mapsTo S (treeOf S q (q .rows) i) (treeOf S p (p .rows) v)
 
   abbrev pub nextImage : ℕ → ℕ → ℕ
-  nextImage i u = pick (bottomAt u) u (firstFrom (λ v. edgeJoins i u v && rowMapsTo i v) 0 (p .rows))
+  nextImage i u = pick (bottomAt S p u) u (firstFrom (λ v. edgeJoins i u v && rowMapsTo i v) 0 (p .rows))
 
   abbrev pub imageFrom : List ℕ → ℕ → ℕ
   imageFrom s i = pick (eqb i 0) 0 (nextImage i (getD s (q .parent i) 0))
