@@ -32,7 +32,7 @@ use Rattle.ale.proofs.Tests.{decide}
 use Rattle.ale.proofs.TreeStructure.{treeStructure}
 
 module _ (S : Signature) where
-  encoded-back : (b : Tree S) → treeOf S (encoded S b) (length (encode S b)) 0 ≡ b
+  pub encoded-back : (b : Tree S) → treeOf S (encoded S b) (length (encode S b)) 0 ≡ b
   encoded-back b = encoded-tree S b (length (encode S b)) (omega (arith, encodeTree-length S b 0 exists 0 0, height-size S b))
 
   pub fits-numbered : (b t : Tree S) → Fits S (treeStructure S) t b → Fits S (structureOf S (numbered S b)) t 0

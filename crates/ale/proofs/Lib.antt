@@ -33,4 +33,5 @@ pub mod Foldings
 pub mod Sizes
 pub mod RowMaps
 pub mod LowestMap
+pub mod MapExistence
 pub mod Examples

@@ -36,6 +36,14 @@ course-length : (f : List ℕ → ℕ → ℕ) (n : ℕ) → length (course f n)
 course-length f zero = refl
 course-length f (suc n) = omega (arith, length-append (course f n) (f (course f n) n ∷ []), course-length f n)
 
+-- and finds the lowest
+pub firstFrom-lowest : (q : ℕ → Bool) (o n v : ℕ) → o ≤ v → v < firstFrom q o n → T (not (q v))
+firstFrom-lowest q o zero v a b = absurd (omega arith)
+firstFrom-lowest q o (suc n) v a b =
+    let w = firstFrom q (suc o) n in
+    let (t, l) = chosen (λ z. v < z → T (not (q o)) × (v < w)) (q o) o w (λ t l. absurd (omega arith)) (λ t l. (t, l)) b in
+    ⊎-elim (λ e. subst (λ z. T (not (q z))) e t) (λ h. firstFrom-lowest q (suc o) n v h l) (eq-or-lt-of-le {n = o} {m = v} a)
+
 -- a longer course has the same beginning
 course-prefix : (f : List ℕ → ℕ → ℕ) (n m i : ℕ) → i < n → getD (course f (m + n)) i 0 ≡ getD (course f n) i 0
 course-prefix f n zero i l = ap (λ z. getD (course f z) i 0) (let e : 0 + n ≡ n = omega arith in e)
@@ -146,6 +154,15 @@ module _ (S : Signature) (p q : Table S) where
         course-at (imageFrom S p q) (q .rows) (q .rows - suc i) i (omega arith)
         ∙ chosen (λ x. x ≡ nextImage S p q i (image S p q j)) (eqb i 0) 0 (nextImage S p q i (getD (images S p q i) j 0))
         (λ t. absurd (z (eqb→eq i 0 t))) (λ t. ap (λ x. nextImage S p q i x) parent)
+
+    -- below an image that is not ⊥, no lower row could be taken
+    pub image-lowest : (i v : ℕ) → i < q .rows → ¬ (i ≡ 0) → T (not (bottomAt S p (image S p q (q .parent i)))) → v < image S p q i →
+        T (not (edgeJoins S p q i (image S p q (q .parent i)) v && rowMapsTo S p q i v))
+    image-lowest i v b z k l =
+        let u = image S p q (q .parent i) in
+        chosen (λ w. v < w → T (not (possible i u v))) (bottomAt S p u) u (firstFrom (possible i u) 0 (p .rows))
+        (λ t. absurd (clash (bottomAt S p u) t k)) (λ t. firstFrom-lowest (possible i u) 0 (p .rows) v (omega arith))
+        (subst (λ w. v < w) (image-next i b z) l)
 
     -- the invariant: v is a row, and row i's tree maps to its tree
     abbrev Mapped : ℕ → ℕ → Type 0
