@@ -7,6 +7,7 @@
 use Prim.Native.Nat.{_<_, ℕ}
 use lib.Dec.{T}
 use mathlib.Core.List.{[], _∷_}
+use mathlib.Core.Logic.{inl, inr}
 use mathlib.Core.Path.{_≡_}
 use Rattle.ale.specs.Homomorphism.{mapsTo}
 use Rattle.ale.specs.Interpretation.{Subsumed, structureOf}
@@ -20,18 +21,18 @@ use Rattle.ale.proofs.Confined.{confined-height, confined-rolesKnown, l
 use Rattle.ale.proofs.Encodings.{encoded-tree}
 use Rattle.ale.proofs.Leastness.{mapsTo-product, tidy-rolesKnown}
 use Rattle.ale.proofs.Normalizing.{normalOf-saturated}
-use Rattle.ale.proofs.Products.{fits-product-left, fits-product-right}
+use Rattle.ale.proofs.Products.{fits-product}
 use Rattle.ale.proofs.RoleLaws.{encoded-known}
 use Rattle.ale.proofs.Soundness.{mapsTo-sound}
 use Rattle.ale.proofs.Subsumption.{normal-tree, tree-normal}
 use Rattle.ale.proofs.Tidying.{fits-tidy, tidy-fits, tidy-reduced}
 
 module _ (S : Signature) where
-  pub lcs-left : (p q : Table S) → KnownRoles S p → (n m : ℕ) → Subsumed S (tree S p n) (lcs S p q n m)
-  lcs-left p q k n m I x l f = fits-product-left S (structureOf S I) (normalTree S p n) (normalTree S q m) x (tree-normal S p k n (structureOf S I) x f)
+  pub lcs-left : (p q : Table S) (n m : ℕ) → Subsumed S (tree S p n) (lcs S p q n m)
+  lcs-left p q n m I x l f = fits-product S (structureOf S I) (normalTree S p n) (normalTree S q m) x (inl (tree-normal S p n (structureOf S I) x f))
 
-  pub lcs-right : (p q : Table S) → KnownRoles S q → (n m : ℕ) → Subsumed S (tree S q m) (lcs S p q n m)
-  lcs-right p q k n m I x l f = fits-product-right S (structureOf S I) (normalTree S p n) (normalTree S q m) x (tree-normal S q k m (structureOf S I) x f)
+  pub lcs-right : (p q : Table S) (n m : ℕ) → Subsumed S (tree S q m) (lcs S p q n m)
+  lcs-right p q n m I x l f = fits-product S (structureOf S I) (normalTree S p n) (normalTree S q m) x (inr (tree-normal S q m (structureOf S I) x f))
 
   -- a tree that subsumes a picture maps to its normal tree, once tidied
   tidy-mapsTo : (p : Table S) → KnownRoles S p → (n : ℕ) (u : Tree S) → Subsumed S (tree S p n) u → T (mapsTo S (tidy S u) (normalTree S p n))

@@ -86,10 +86,10 @@ abbrev k9-common : Tree Sig
 k9-common = tree Sig (tableOf Sig k9-rows) 2
 
 k9-left : Subsumed Sig (tree Sig k9-first 2) k9-common
-k9-left = lcs-left Sig k9-first k9-second k9-known-first 2 2
+k9-left = lcs-left Sig k9-first k9-second 2 2
 
 k9-right : Subsumed Sig (tree Sig k9-second 2) k9-common
-k9-right = lcs-right Sig k9-first k9-second k9-known-second 2 2
+k9-right = lcs-right Sig k9-first k9-second 2 2
 
 -- {3} subsumes both
 k9-least : Subsumed Sig k9-common (leaf three)

@@ -29,8 +29,8 @@ module _ (S : Signature) (z : 0 < S .roles) (n : ℕ) (tables : ℕ → Table S)
       let q = fold S n tables b in
       subst (λ t. Subsumed S (tree S (tables i) n) t) (sym (lcsTable-tree S p q n))
       (⊎-elim
-      (λ h. subsumed-trans S (tree S (tables i) n) (tree S p n) (lcs S p q n n) (folding-subsumes a i h) (lcs-left S p q (fold-known a) n n))
-      (λ h. subsumed-trans S (tree S (tables i) n) (tree S q n) (lcs S p q n n) (folding-subsumes b i h) (lcs-right S p q (fold-known b) n n))
+      (λ h. subsumed-trans S (tree S (tables i) n) (tree S p n) (lcs S p q n n) (folding-subsumes a i h) (lcs-left S p q n n))
+      (λ h. subsumed-trans S (tree S (tables i) n) (tree S q n) (lcs S p q n n) (folding-subsumes b i h) (lcs-right S p q n n))
       u)
 
   pub folding-least : (w : Folding) (u : Tree S) → RolesKnown S u → ((i : ℕ) → Uses w i → Subsumed S (tree S (tables i) n) u) → Subsumed S (tree S (fold S n tables w) n) u

@@ -1,12 +1,11 @@
 -- The product subsumes both trees (003, Theorem 43, parts 1 and 2): whatever fits one of them fits the product.
 -- By induction on the pair: the intersected label asks for no more than either label, and each edge of the product is a pair of edges that
 -- serve for it, whose end by induction is fitted by whatever fits the end of either.
---   pairRole, pairForest                     the edges of a product node, for one role and for all
---   fits-product-left, fits-product-right    what fits the first tree, or the second, fits the product
---   fits-pairAll-left, fits-pairAll-right    the same for the pairs of one kind and role
+--   pairRole, pairForest   the edges of a product node, for one role and for all
+--   fits-product           what fits one of the trees, whichever, fits the product
 use Prim.Native.Nat.{ℕ}
 use lib.Dec.{T}
-use Rattle.table.proofs.Bools.{both}
+use mathlib.Core.Logic.{_⊎_, inl, inr, ⊎-elim, ⊎-map}
 use Rattle.table.specs.Pick.{pick}
 use Rattle.ale.specs.Forest.{append, byRole, consReduced}
 use Rattle.ale.specs.Homomorphism.{roleServes}
@@ -31,17 +30,10 @@ module _ (S : Signature) (M : Structure S) where
   abbrev FitsAt : M .Element → Kind → ℕ → Tree S → Type 0
   FitsAt x = FitsEdge S M x
 
-  satisfies-intersection-left : (l m : Label S) (x : M .Element) → Satisfies S M l x → Satisfies S M (labelIntersection S l m) x
-  satisfies-intersection-left l m x c = record {
-    held = λ n h. c .held n (intersection-left S (l .wanted) (m .wanted) n h);
-    free = λ n h. c .free n (intersection-left S (l .excluded) (m .excluded) n h);
-    possible = tt;
-  }
-
-  satisfies-intersection-right : (l m : Label S) (x : M .Element) → Satisfies S M m x → Satisfies S M (labelIntersection S l m) x
-  satisfies-intersection-right l m x c = record {
-    held = λ n h. c .held n (intersection-right S (l .wanted) (m .wanted) n h);
-    free = λ n h. c .free n (intersection-right S (l .excluded) (m .excluded) n h);
+  satisfies-intersection : (l m : Label S) (x : M .Element) → Satisfies S M l x ⊎ Satisfies S M m x → Satisfies S M (labelIntersection S l m) x
+  satisfies-intersection l m x p = record {
+    held = λ n h. ⊎-elim (λ c. c .held n (intersection-left S (l .wanted) (m .wanted) n h)) (λ c. c .held n (intersection-right S (l .wanted) (m .wanted) n h)) p;
+    free = λ n h. ⊎-elim (λ c. c .free n (intersection-left S (l .excluded) (m .excluded) n h)) (λ c. c .free n (intersection-right S (l .excluded) (m .excluded) n h)) p;
     possible = tt;
   }
 
@@ -57,23 +49,19 @@ module _ (S : Signature) (M : Structure S) where
       chosen (All S (FitsAt x)) (edgeCounts S k r k′ r′) (consReduced S k r (h e) later) later
       (λ t. All-consReduced S (FitsAt x) k r (h e) later (p .0 t) q) (λ t. q)
 
-  -- a product node is fitted where its label is satisfied and its pairs are fitted, or where one side is ⊥ and the other is fitted
-  fits-product : (l m : Label S) (f g : Forest S) (x : M .Element) → (T (l .bottom) → Fits S M (node m g) x) → (T (m .bottom) → Fits S M (node l f) x) →
-      Satisfies S M (labelIntersection S l m) x → ((k : Kind) (r : ℕ) → All S (FitsAt x) (pairAll S f k r g)) →
-      Fits S M (product S (node l f) (node m g)) x
-  fits-product l m f g x p q c h =
-      let both = node (labelIntersection S l m) (pairForest S f g) in
-      chosen (λ t. Fits S M t x) (l .bottom) (node m g) (pick (m .bottom) (node l f) both) p (λ a.
-      chosen (λ t. Fits S M t x) (m .bottom) (node l f) both q (λ b.
-      (c, each-fits S M (pairForest S f g) x (All-byRole S (FitsAt x) (λ r. pairRole S f g r) role (S .roles)))))
+  -- a product node is fitted by what fits one of the two nodes, where its pairs are fitted
+  fits-pair : (l m : Label S) (f g : Forest S) (x : M .Element) → Fits S M (node l f) x ⊎ Fits S M (node m g) x →
+      ((k : Kind) (r : ℕ) → All S (FitsAt x) (pairAll S f k r g)) → Fits S M (product S (node l f) (node m g)) x
+  fits-pair l m f g x p h =
+      let pair = node (labelIntersection S l m) (pairForest S f g) in
+      chosen (λ t. Fits S M t x) (l .bottom) (node m g) (pick (m .bottom) (node l f) pair)
+      (λ a. ⊎-elim (λ q. absurd (clash (l .bottom) a (q .0 .possible))) (λ q. q) p) (λ a.
+      chosen (λ t. Fits S M t x) (m .bottom) (node l f) pair
+      (λ b. ⊎-elim (λ q. q) (λ q. absurd (clash (m .bottom) b (q .0 .possible))) p) (λ b.
+      (satisfies-intersection l m x (⊎-map (λ q. q .0) (λ q. q .0) p), each-fits S M (pairForest S f g) x (All-byRole S (FitsAt x) (pairRole S f g) role (S .roles)))))
     where
       role : (r : ℕ) → All S (FitsAt x) (pairRole S f g r)
       role r = All-append S (FitsAt x) (pairAll S f forAll r g) (pairAll S f exists r g) (h forAll r) (h exists r)
-
-  fits-pairAll : (k : Kind) (r : ℕ) (k′ : Kind) (r′ : ℕ) (x : M .Element) (f g : Forest S) → (T (edgeCounts S k r k′ r′) → All S (FitsAt x) f) →
-      All S (FitsAt x) g → All S (FitsAt x) (pick (edgeCounts S k r k′ r′) (append S f g) g)
-  fits-pairAll k r k′ r′ x f g p q =
-      chosen (All S (FitsAt x)) (edgeCounts S k r k′ r′) (append S f g) g (λ t. All-append S (FitsAt x) f g (p t) q) (λ t. q)
 
   -- what fits along an edge that counts for (k, r) fits along (k, r), with whatever the end of the edge entails
   fits-counted : (k : Kind) (r : ℕ) (k′ : Kind) (r′ : ℕ) (t u : Tree S) → T (edgeCounts S k r k′ r′) →
@@ -93,28 +81,21 @@ module _ (S : Signature) (M : Structure S) where
   counted-entailed k r x h u (cons k′ r′ e g) p = (λ t. fits-counted k r k′ r′ e (h e) t (u e) x (p .0), counted-entailed k r x h u g (p .1))
 
   mutual
-    pub fits-product-left : (v w : Tree S) (x : M .Element) → Fits S M v x → Fits S M (product S v w) x
-    fits-product-left (node l f) (node m g) x p =
-        fits-product l m f g x (λ t. absurd (clash (l .bottom) t (p .0 .possible))) (λ t. p)
-        (satisfies-intersection-left l m x (p .0)) (λ k r. fits-pairAll-left f k r g x (p .1))
+    pub fits-product : (v w : Tree S) (x : M .Element) → Fits S M v x ⊎ Fits S M w x → Fits S M (product S v w) x
+    fits-product (node l f) (node m g) x p = fits-pair l m f g x p (λ k r. fits-pairAll f k r g x (⊎-map (λ q. q .1) (λ q. q .1) p))
 
-    pub fits-pairAll-left : (f : Forest S) (k : Kind) (r : ℕ) (g : Forest S) (x : M .Element) → FitsAll S M f x → All S (FitsAt x) (pairAll S f k r g)
-    fits-pairAll-left nil k r g x p = tt
-    fits-pairAll-left (cons k′ r′ c f) k r g x p =
+    fits-pairAll : (f : Forest S) (k : Kind) (r : ℕ) (g : Forest S) (x : M .Element) → FitsAll S M f x ⊎ FitsAll S M g x →
+        All S (FitsAt x) (pairAll S f k r g)
+    fits-pairAll nil k r g x p = tt
+    fits-pairAll (cons k′ r′ c f) k r g x p =
         let h : Tree S → Tree S = λ e. product S c e in
-        fits-pairAll k r k′ r′ x (pairEach S k r h g) (pairAll S f k r g)
-        (λ t. fits-pairEach k r h x g (counted-always k r x h (λ e. fits-counted k r k′ r′ c (h e) t (λ y q. fits-product-left c e y q) x (p .0)) g))
-        (fits-pairAll-left f k r g x (p .1))
-
-  mutual
-    pub fits-product-right : (v w : Tree S) (x : M .Element) → Fits S M w x → Fits S M (product S v w) x
-    fits-product-right (node l f) (node m g) x p =
-        fits-product l m f g x (λ t. p) (λ t. absurd (clash (m .bottom) t (p .0 .possible)))
-        (satisfies-intersection-right l m x (p .0)) (λ k r. fits-pairAll-right f k r g x (p .1))
-
-    pub fits-pairAll-right : (f : Forest S) (k : Kind) (r : ℕ) (g : Forest S) (x : M .Element) → FitsAll S M g x → All S (FitsAt x) (pairAll S f k r g)
-    fits-pairAll-right nil k r g x p = tt
-    fits-pairAll-right (cons k′ r′ c f) k r g x p =
-        let h : Tree S → Tree S = λ e. product S c e in
-        fits-pairAll k r k′ r′ x (pairEach S k r h g) (pairAll S f k r g)
-        (λ t. fits-pairEach k r h x g (counted-entailed k r x h (λ e y q. fits-product-right c e y q) g p)) (fits-pairAll-right f k r g x p)
+        let later = fits-pairAll f k r g x (⊎-map (λ q. q .1) (λ q. q) p) in
+        chosen (All S (FitsAt x)) (edgeCounts S k r k′ r′) (append S (pairEach S k r h g) (pairAll S f k r g)) (pairAll S f k r g)
+        (λ t. All-append S (FitsAt x) (pairEach S k r h g) (pairAll S f k r g)
+        (fits-pairEach k r h x g
+        (⊎-elim
+        (λ q. counted-always k r x h (λ e. fits-counted k r k′ r′ c (h e) t (λ y z. fits-product c e y (inl z)) x (q .0)) g)
+        (λ q. counted-entailed k r x h (λ e y z. fits-product c e y (inr z)) g q)
+        p))
+        later)
+        (λ t. later)

@@ -33,14 +33,14 @@ use Rattle.ale.proofs.Tests.{clash, decide}
 use Rattle.ale.proofs.Tidying.{tidy-reduced}
 
 module _ (S : Signature) where
-  pub tree-normal : (p : Table S) → KnownRoles S p → (n : ℕ) → SubsumedInAll S (tree S p n) (normalTree S p n)
-  tree-normal p k n M x f = fits-normalOf S p M n (0 ∷ []) x (member-cons (λ i. Fits S M (treeOf S p n i) x) 0 [] f (λ i m. absurd m))
+  pub tree-normal : (p : Table S) (n : ℕ) → SubsumedInAll S (tree S p n) (normalTree S p n)
+  tree-normal p n M x f = fits-normalOf S p M n (0 ∷ []) x (member-cons (λ i. Fits S M (treeOf S p n i) x) 0 [] f (λ i m. absurd m))
 
   pub normal-tree : (p : Table S) → KnownRoles S p → (n : ℕ) → SubsumedInAll S (normalTree S p n) (tree S p n)
   normal-tree p k n M x f = normalOf-fits S p k M n (0 ∷ []) x f 0 (member-head 0 [])
 
   pub normal-equivalent : (p : Table S) → KnownRoles S p → (n : ℕ) → Equivalent S (tree S p n) (normalTree S p n)
-  normal-equivalent p k n = (inAll-subsumed S (tree S p n) (normalTree S p n) (tree-normal p k n), inAll-subsumed S (normalTree S p n) (tree S p n) (normal-tree p k n))
+  normal-equivalent p k n = (inAll-subsumed S (tree S p n) (normalTree S p n) (tree-normal p n), inAll-subsumed S (normalTree S p n) (tree S p n) (normal-tree p k n))
 
   pub normalTree-normal : (p : Table S) → KnownRoles S p → (n : ℕ) → Normal S (normalTree S p n)
   normalTree-normal p k n = record {
@@ -59,12 +59,12 @@ module _ (S : Signature) (p q : Table S) (kp : KnownRoles S p) (kq : KnownRoles 
   d = normalTree S q m
 
   mapsTo-inAll : T (mapsTo S (normalTree S q m) (normalTree S p n)) → SubsumedInAll S (tree S p n) (tree S q m)
-  mapsTo-inAll t M x f = normal-tree S q kq m M x (mapsTo-sound S d v t M x (tree-normal S p kp n M x f))
+  mapsTo-inAll t M x f = normal-tree S q kq m M x (mapsTo-sound S d v t M x (tree-normal S p n M x f))
 
   subsumed-normal : Subsumed S (tree S p n) (tree S q m) → T (mapsTo S (normalTree S q m) (normalTree S p n))
   subsumed-normal c =
       subsumed-mapsTo S d v (normalTree-normal S q kq m .reduced) (normalTree-normal S p kp n .saturated)
-      (λ I x l f. tree-normal S q kq m (structureOf S I) x (c I x l (normal-tree S p kp n (structureOf S I) x f)))
+      (λ I x l f. tree-normal S q m (structureOf S I) x (c I x l (normal-tree S p kp n (structureOf S I) x f)))
 
   pub subsumption-homomorphism : Subsumed S (tree S p n) (tree S q m) ↔ T (mapsTo S (normalTree S q m) (normalTree S p n))
   subsumption-homomorphism = (subsumed-normal, λ t. inAll-subsumed S (tree S p n) (tree S q m) (mapsTo-inAll t))
@@ -79,4 +79,4 @@ module _ (S : Signature) (p q : Table S) (kp : KnownRoles S p) (kq : KnownRoles 
   not-subsumed t =
       let I = structureOf S (numbered S (countermodel S d v)) in
       let (a, b) = countermodel-refutes S d v (normalTree-normal S q kq m .reduced) (normalTree-normal S p kp n .saturated) t in
-      (normal-tree S p kp n I 0 a, λ f. b (tree-normal S q kq m I 0 f))
+      (normal-tree S p kp n I 0 a, λ f. b (tree-normal S q m I 0 f))
