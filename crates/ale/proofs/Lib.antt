@@ -1,6 +1,7 @@
 -- The theorems and their laws, by subject.
 pub mod Cases
 pub mod Tests
+pub mod RoleCases
 pub mod NameLaws
 pub mod Trees
 pub mod Structures

@@ -20,18 +20,17 @@ use Rattle.ale.proofs.Tests.{chosen}
 use Rattle.ale.proofs.Trees.{All-map}
 
 module _ (S : Signature) where
-  abbrev BeforeAll : Forest S → Kind → ℕ → Tree S → Type 0
-  BeforeAll g k r t = All S (λ k′ r′ _. Before S k r k′ r′) g
+  -- a successor of role r may stand before all of g
+  abbrev pub BeforeAll : ℕ → Forest S → Type 0
+  BeforeAll r g = All S (λ k′ r′ _. Before S r k′ r′) g
 
-  pub ordered-append : (f g : Forest S) → OrderedAll S f → OrderedAll S g → All S (λ k r _. All S (λ k′ r′ _. Before S k r k′ r′) g) f → OrderedAll S (append S f g)
+  pub ordered-append : (f g : Forest S) → OrderedAll S f → OrderedAll S g → All S (λ k r _. BeforeAll r g) f → OrderedAll S (append S f g)
   ordered-append nil g a b c = b
-  ordered-append (cons k r t f) g a b c = (All-append S (λ k′ r′ _. Before S k r k′ r′) f g (a .0) (c .0), a .1, ordered-append f g (a .2) b (c .1))
+  ordered-append (cons k r t f) g a b c = (All-append S (λ k′ r′ _. Before S r k′ r′) f g (a .0) (c .0), a .1, ordered-append f g (a .2) b (c .1))
 
-  before-lower : (k k′ : Kind) (r r′ : ℕ) → r < r′ → Before S k r k′ r′
-  before-lower exists exists r r′ l = omega arith
-  before-lower exists forAll r r′ l = l
-  before-lower forAll exists r r′ l = omega arith
-  before-lower forAll forAll r r′ l = l
+  before-lower : (r : ℕ) (k′ : Kind) (r′ : ℕ) → r < r′ → Before S r k′ r′
+  before-lower r exists r′ l = omega arith
+  before-lower r forAll r′ l = l
 
   abbrev RoleIs : ℕ → Kind → ℕ → Tree S → Type 0
   RoleIs r k r′ t = r′ ≡ r
@@ -47,8 +46,8 @@ module _ (S : Signature) where
     ordered-byRole o zero = tt
     ordered-byRole o (suc n) =
         ordered-append (byRole S h n) (h n) (ordered-byRole o n) (o n)
-        (All-map S (RoleBelow n) (BeforeAll (h n))
-        (λ k r t l. All-map S (RoleIs n) (λ k′ r′ _. Before S k r k′ r′) (λ k′ r′ t′ e. before-lower k k′ r r′ (omega arith)) (h n) (roles-are n))
+        (All-map S (RoleBelow n) (λ k r t. BeforeAll r (h n))
+        (λ k r t l. All-map S (RoleIs n) (λ k′ r′ _. Before S r k′ r′) (λ k′ r′ t′ e. before-lower r k′ r′ (omega arith)) (h n) (roles-are n))
         (byRole S h n) (byRole-below n))
 
 module _ (S : Signature) (p : Table S) where
@@ -66,15 +65,15 @@ module _ (S : Signature) (p : Table S) where
 
     exists-ordered : (r : ℕ) (g : ℕ → Tree S) → ((c : ℕ) → Ordered S (g c)) → (e : List ℕ) → OrderedAll S (existsParts S r g e)
     exists-ordered r g o [] = tt
-    exists-ordered r g o (c ∷ e) = (All-existsParts S (λ k′ r′ _. Before S exists r k′ r′) r g e (λ c. omega arith), o c, exists-ordered r g o e)
+    exists-ordered r g o (c ∷ e) = (All-existsParts S (λ k′ r′ _. Before S r k′ r′) r g e (λ c. omega arith), o c, exists-ordered r g o e)
 
     parts-ordered : (r : ℕ) → OrderedAll S (roleParts S p h s r)
     parts-ordered r =
         let a = valueRows S p s r in
         let g : ℕ → Tree S = λ c. h (withRow (p .rows) c a) in
         ordered-append S (valuePart S r h a) (existsParts S r g (existsRows S p s r)) (value-ordered r a) (exists-ordered r g (λ c. ordered (withRow (p .rows) c a)) (existsRows S p s r))
-        (All-valuePart S (BeforeAll S (existsParts S r g (existsRows S p s r))) r h a
-        (All-existsParts S (λ k′ r′ _. Before S forAll r k′ r′) r g (existsRows S p s r) (λ c. omega arith)))
+        (All-valuePart S (λ k r′ t. BeforeAll S r′ (existsParts S r g (existsRows S p s r))) r h a
+        (All-existsParts S (λ k′ r′ _. Before S r k′ r′) r g (existsRows S p s r) (λ c. omega arith)))
 
   pub merged-ordered : (n : ℕ) (s : List ℕ) → Ordered S (merged S p n s)
   merged-ordered zero s = tt
@@ -83,11 +82,11 @@ module _ (S : Signature) (p : Table S) where
       (parts-ordered (λ t. merged S p n t) (λ t. merged-ordered n t) s) (S .roles)
 
 module _ (S : Signature) where
-  before-kept : (k : Kind) (r : ℕ) (f : Forest S) → All S (λ k′ r′ _. Before S k r k′ r′) f → All S (λ k′ r′ _. Before S k r k′ r′) (tidyAll S f)
-  before-kept k r nil h = tt
-  before-kept k r (cons k′ r′ t f) h = All-consReduced S (λ k′ r′ _. Before S k r k′ r′) k′ r′ (tidy S t) (tidyAll S f) (h .0) (before-kept k r f (h .1))
+  before-kept : (r : ℕ) (f : Forest S) → BeforeAll S r f → BeforeAll S r (tidyAll S f)
+  before-kept r nil h = tt
+  before-kept r (cons k′ r′ t f) h = All-consReduced S (λ k′ r′ _. Before S r k′ r′) k′ r′ (tidy S t) (tidyAll S f) (h .0) (before-kept r f (h .1))
 
-  ordered-consReduced : (k : Kind) (r : ℕ) (t : Tree S) (f : Forest S) → All S (λ k′ r′ _. Before S k r k′ r′) f → Ordered S t → OrderedAll S f → OrderedAll S (consReduced S k r t f)
+  ordered-consReduced : (k : Kind) (r : ℕ) (t : Tree S) (f : Forest S) → BeforeAll S r f → Ordered S t → OrderedAll S f → OrderedAll S (consReduced S k r t f)
   ordered-consReduced k r t f b o q = chosen (λ g. OrderedAll S g) (dropped S k t) f (cons k r t f) (λ _. q) (λ _. (b, o, q))
 
   mutual
@@ -98,4 +97,4 @@ module _ (S : Signature) where
 
     tidyAll-ordered : (f : Forest S) → OrderedAll S f → OrderedAll S (tidyAll S f)
     tidyAll-ordered nil o = tt
-    tidyAll-ordered (cons k r t f) o = ordered-consReduced k r (tidy S t) (tidyAll S f) (before-kept k r f (o .0)) (tidy-ordered t (o .1)) (tidyAll-ordered f (o .2))
+    tidyAll-ordered (cons k r t f) o = ordered-consReduced k r (tidy S t) (tidyAll S f) (before-kept r f (o .0)) (tidy-ordered t (o .1)) (tidyAll-ordered f (o .2))

@@ -45,7 +45,9 @@ module _ (S : Signature) where
   namesOf a = filterBelow (S .has a) (S .names)
 
   abbrev pub labelConcept : Label S → Concept
-  labelConcept l = conjunction (pick (l .bottom) bottomConcept topConcept) (conjunction (conjunctionOf primitive (namesOf (l .wanted))) (conjunctionOf negation (namesOf (l .excluded))))
+  labelConcept l =
+      conjunction (pick (l .bottom) bottomConcept topConcept)
+      (conjunction (conjunctionOf primitive (namesOf (l .wanted))) (conjunctionOf negation (namesOf (l .excluded))))
 
   abbrev mutual
     pub conceptOf : Tree S → Concept
@@ -56,4 +58,5 @@ module _ (S : Signature) where
     conceptsOf (cons k r t f) = conjunction (restrictionConcept k r (conceptOf t)) (conceptsOf f)
 
   abbrev pub ConceptSubsumed : Concept → Concept → Type 0
-  ConceptSubsumed c d = (I : Interpretation S) (x : ℕ) → x < I .count → InExtension S (structureOf S I) c x → InExtension S (structureOf S I) d x
+  ConceptSubsumed c d =
+      (I : Interpretation S) (x : ℕ) → x < I .count → InExtension S (structureOf S I) c x → InExtension S (structureOf S I) d x

@@ -48,20 +48,24 @@ module _ (S : Signature) where
     pub countermodel : Tree S → Tree S → Tree S
     countermodel (node l f) (node m g) =
         pick (S .subset (l .wanted) (m .wanted))
-        (pick (S .subset (l .excluded) (m .excluded)) (individual (m .wanted) (falsifyAll f g)) (individual (S .complement (m .excluded)) (canonicalAll g)))
+        (pick (S .subset (l .excluded) (m .excluded))
+        (individual (m .wanted) (falsifyAll f g))
+        (individual (S .complement (m .excluded)) (canonicalAll g)))
         (individual (m .wanted) (canonicalAll g))
 
     -- the first edge that does not map is broken
     pub falsifyAll : Forest S → Forest S → Forest S
     falsifyAll nil g = canonicalAll g
-    falsifyAll (cons k r d f) g = pick (any S (edgeServes S k r (λ c. mapsTo S d c)) g) (falsifyAll f g) (falsify k r (λ c. countermodel d c) g)
+    falsifyAll (cons k r d f) g =
+        pick (any S (edgeServes S k r (λ c. mapsTo S d c)) g) (falsifyAll f g) (falsify k r (λ c. countermodel d c) g)
 
 module _ (S : Signature) (p : Table S) where
   abbrev pub reached : ℕ → ℕ → ℕ → Bool
   reached r x y = successorOf S p x y && S .subrole (p .role y) r
 
   pub reached-respects : (r s x y : ℕ) → T (S .subrole r s) → T (reached r x y) → T (reached s x y)
-  reached-respects r s x y i h = kept (successorOf S p x y) (S .subrole (p .role y) r) (S .subrole (p .role y) s) (λ j. S .subrole-trans (p .role y) r s j i) h
+  reached-respects r s x y i h =
+      kept (successorOf S p x y) (S .subrole (p .role y) r) (S .subrole (p .role y) s) (λ j. S .subrole-trans (p .role y) r s j i) h
     where
       kept : (a b c : Bool) → (T b → T c) → T (a && b) → T (a && c)
       kept true b c f h = f h

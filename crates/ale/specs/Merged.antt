@@ -17,7 +17,11 @@ use Rattle.ale.specs.Tree.{Forest, Label, Tree, cons, emptyLabel, exists
 
 module _ (S : Signature) where
   abbrev pub labelUnion : Label S → Label S → Label S
-  labelUnion l m = record { wanted = S .union (l .wanted) (m .wanted); excluded = S .union (l .excluded) (m .excluded); bottom = l .bottom || m .bottom }
+  labelUnion l m = record {
+    wanted = S .union (l .wanted) (m .wanted);
+    excluded = S .union (l .excluded) (m .excluded);
+    bottom = l .bottom || m .bottom;
+  }
 
   abbrev pub valuePart : ℕ → (List ℕ → Tree S) → List ℕ → Forest S
   valuePart r h [] = nil
@@ -42,7 +46,8 @@ module _ (S : Signature) (p : Table S) where
   labelOfSet (i ∷ s) = labelUnion S (p .label i) (labelOfSet s)
 
   abbrev pub roleParts : (List ℕ → Tree S) → List ℕ → ℕ → Forest S
-  roleParts h s r = append S (valuePart S r h (valueRows s r)) (existsParts S r (λ c. h (withRow (p .rows) c (valueRows s r))) (existsRows s r))
+  roleParts h s r =
+      append S (valuePart S r h (valueRows s r)) (existsParts S r (λ c. h (withRow (p .rows) c (valueRows s r))) (existsRows s r))
 
   abbrev pub merged : ℕ → List ℕ → Tree S
   merged zero s = node (labelOfSet s) nil

@@ -1,6 +1,6 @@
 -- 01, "Then, from the leaves up": inconsistent nodes become ⊥, trivial all-successors are dropped; the normal tree of a table.
 --   bottomExists   a some-successor that is ⊥
---   inconsistent   marked, or a name both wanted and excluded, or a some-successor that is ⊥
+--   inconsistent   01, broken: ⊥, or a name both wanted and excluded, or a some-successor that is ⊥
 --   tidyNode       ⊥ without names and successors if inconsistent, else the node as it is
 --   tidy           that at every node, from the leaves up
 --   normalOf       the normal tree of a set of rows

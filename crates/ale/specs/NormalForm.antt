@@ -66,12 +66,10 @@ module _ (S : Signature) where
     CanonicalBottomAll nil = Unit
     CanonicalBottomAll (cons k r t f) = CanonicalBottom t × CanonicalBottomAll f
 
-  -- a successor (k, r) may stand before one of (k′, r′)
-  abbrev pub Before : Kind → ℕ → Kind → ℕ → Type 0
-  Before forAll r exists r′ = r ≤ r′
-  Before forAll r forAll r′ = r < r′
-  Before exists r exists r′ = r ≤ r′
-  Before exists r forAll r′ = r < r′
+  -- what may stand after a successor of role r: a some-successor of no lower role, an all-successor of a higher one
+  abbrev pub Before : ℕ → Kind → ℕ → Type 0
+  Before r exists r′ = r ≤ r′
+  Before r forAll r′ = r < r′
 
   abbrev mutual
     pub Ordered : Tree S → Type 0
@@ -79,7 +77,7 @@ module _ (S : Signature) where
 
     pub OrderedAll : Forest S → Type 0
     OrderedAll nil = Unit
-    OrderedAll (cons k r t f) = All S (λ k′ r′ _. Before k r k′ r′) f × Ordered t × OrderedAll f
+    OrderedAll (cons k r t f) = All S (λ k′ r′ _. Before r k′ r′) f × Ordered t × OrderedAll f
 
   pub record Normal (t : Tree S) : Type 1 where
     pub saturated : Saturated t

@@ -18,23 +18,31 @@ use Rattle.ale.specs.Tree.{Forest, Kind, Label, Tree, cons, exists, forA
 
 module _ (S : Signature) where
   abbrev pub labelIntersection : Label S → Label S → Label S
-  labelIntersection l m = record { wanted = S .intersection (l .wanted) (m .wanted); excluded = S .intersection (l .excluded) (m .excluded); bottom = false }
+  labelIntersection l m = record {
+    wanted = S .intersection (l .wanted) (m .wanted);
+    excluded = S .intersection (l .excluded) (m .excluded);
+    bottom = false;
+  }
 
   abbrev pub edgeCounts : Kind → ℕ → Kind → ℕ → Bool
   edgeCounts k r k′ r′ = sameKind k k′ && roleServes S k r′ r
 
   abbrev pub pairEach : Kind → ℕ → (Tree S → Tree S) → Forest S → Forest S
   pairEach k r h nil = nil
-  pairEach k r h (cons k′ r′ e g) = pick (edgeCounts k r k′ r′) (consReduced S k r (h e) (pairEach k r h g)) (pairEach k r h g)
+  pairEach k r h (cons k′ r′ e g) =
+      pick (edgeCounts k r k′ r′) (consReduced S k r (h e) (pairEach k r h g)) (pairEach k r h g)
 
   abbrev mutual
     pub product : Tree S → Tree S → Tree S
     product (node l f) (node m g) =
-        pick (l .bottom) (node m g) (pick (m .bottom) (node l f) (node (labelIntersection l m) (byRole S (λ r. append S (pairAll f forAll r g) (pairAll f exists r g)) (S .roles))))
+        pick (l .bottom) (node m g)
+        (pick (m .bottom) (node l f)
+        (node (labelIntersection l m) (byRole S (λ r. append S (pairAll f forAll r g) (pairAll f exists r g)) (S .roles))))
 
     pub pairAll : Forest S → Kind → ℕ → Forest S → Forest S
     pairAll nil k r g = nil
-    pairAll (cons k′ r′ c f) k r g = pick (edgeCounts k r k′ r′) (append S (pairEach k r (λ e. product c e) g) (pairAll f k r g)) (pairAll f k r g)
+    pairAll (cons k′ r′ c f) k r g =
+        pick (edgeCounts k r k′ r′) (append S (pairEach k r (λ e. product c e) g) (pairAll f k r g)) (pairAll f k r g)
 
 module _ (S : Signature) (p q : Table S) where
   abbrev pub lcs : ℕ → ℕ → Tree S

@@ -1,12 +1,12 @@
 -- 01, "A map sends each row of the second normal table to one of the first": maps by rows, and the map that we write.
 -- p is the first table, q the second.
---   bottomAt         row v of the first is marked
---   labelAgrees      question 19: the image carries all the row's names and its mark, or is marked
+--   bottomAt         row v of the first is ⊥ (01: marked)
+--   labelAgrees      question 19: the image carries all the row's names and its mark, or is ⊥
 --   edgeJoins        u and v are joined by an edge of row i's kind and role
---   edgeAgrees       question 20: they are so joined, or u is marked and v is u
+--   edgeAgrees       question 20: they are so joined, or u is ⊥ and v is u
 --   IsHomomorphism   questions 17 to 20 for every row
 --   rowMapsTo        row i's tree maps to row v's tree
---   nextImage        the image of row i where its parent's is u: u itself if marked, else the lowest row that can be
+--   nextImage        the image of row i where its parent's is u: u itself if it is ⊥, else the lowest row that can be
 --   images, image    our map: the lowest possible row each time, parents first
 use Prim.Native.Nat.{_<_, ℕ}
 use lib.Dec.{T, eqb}
