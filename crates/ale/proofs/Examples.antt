@@ -1,4 +1,4 @@
--- Each theorem used once on a case of paper 01 (Cases), at its signature.
+-- Each theorem used once on a case of paper 01, at its signature.
 --   concept-fits                      fitting is membership in the extension of the concept
 --   k4-means, k4-is-normal            the normal tree means the same, and is normal
 --   k7-sound                          a homomorphism, so subsumption in every structure
@@ -7,11 +7,11 @@
 --   k8-inAll                          over all structures, not only finite ones
 --   k9-left, k9-right, k9-least       the common picture subsumes both, and is subsumed by what subsumes both
 --   k9-turned, k9-grouped, k9-repeated
---   k7-lowest                         the map that we write is a homomorphism
-use Prim.Native.Nat.{_*_, _≤_}
-use lib.Dec.{T, ltb, lit<, lit≤}
+--   k7-lowest, k7-exists              the map that we write is a homomorphism; there is one
+use Prim.Native.Nat.{_*_, _≤_, ℕ}
+use lib.Dec.{T, lit<, lit≤, ltb}
 use lib.ListN.{length}
-use mathlib.Core.List.{[], _∷_}
+use mathlib.Core.List.{List, [], _∷_}
 use mathlib.Core.Logic.{_↔_}
 use Rattle.table.specs.Layout.{roles}
 use Rattle.ale.specs.Concept.{InExtension, conceptOf}
@@ -23,13 +23,17 @@ use Rattle.ale.specs.Product.{lcsTable}
 use Rattle.ale.specs.RowMap.{IsHomomorphism, image}
 use Rattle.ale.specs.Structure.{Fits, Structure, SubsumedInAll}
 use Rattle.ale.specs.Table.{KnownRoles, Table, tree}
-use Rattle.ale.specs.Tree.{Tree, exists, forAll}
-use Rattle.ale.proofs.Cases.{Sig, five, impossible, k4-normal, k4-rows, k7-counter, k7-narrow, k7-rows, k8-rows, k8-some, k8-value, k9-first, k9-rows, k9-second, leaf, meaning, names, none, normal, picture, root, row, three, threeFive}
+use Rattle.ale.specs.Tree.{exists, forAll}
+use Rattle.ale.proofs.CaseTrees.{Sig, five, leaf, names, none, three, threeFive}
 use Rattle.ale.proofs.CommonSubsumers.{lcs-least, lcs-left, lcs-right}
 use Rattle.ale.proofs.Concepts.{fits-concept}
+use Rattle.ale.proofs.CountermodelCases.{k7-counter}
 use Rattle.ale.proofs.Encodings.{encoded-parentsFirst}
 use Rattle.ale.proofs.Foldings.{lcs-associative, lcs-commutative, lcs-idempotent}
 use Rattle.ale.proofs.LowestMap.{lowest-homomorphism}
+use Rattle.ale.proofs.MapExistence.{encoded-homomorphism}
+use Rattle.ale.proofs.NormalCases.{impossible, k4-normal, k4-rows, meaning, normal, picture, root, row}
+use Rattle.ale.proofs.ProductCases.{k9-common}
 use Rattle.ale.proofs.RoleLaws.{rows-known}
 use Rattle.ale.proofs.Sizes.{countermodel-bound}
 use Rattle.ale.proofs.Soundness.{mapsTo-sound}
@@ -55,6 +59,12 @@ k4-means = normal-equivalent Sig (picture k4-rows) k4-known 2
 k4-is-normal : Normal Sig k4-normal
 k4-is-normal = normalTree-normal Sig (picture k4-rows) k4-known 2
 
+abbrev k7-rows : List (Row Sig)
+k7-rows = row 0 exists 8 three ∷ row 0 exists 8 five ∷ []
+
+abbrev k7-narrow : List (Row Sig)
+k7-narrow = row 0 exists 8 threeFive ∷ []
+
 k7-sound : SubsumedInAll Sig (meaning k7-narrow) (meaning k7-rows)
 k7-sound = mapsTo-sound Sig (meaning k7-rows) (meaning k7-narrow) tt
 
@@ -67,6 +77,15 @@ k7-refuted = not-subsumed Sig (picture k7-rows) (picture k7-narrow) k7-known (kn
 k7-small : length (encode Sig k7-counter) ≤ 3 * 3
 k7-small = countermodel-bound Sig (picture k7-rows) (picture k7-narrow) 2 3 (lit≤ tt)
 
+abbrev k8-rows : List (Row Sig)
+k8-rows = impossible forAll ∷ []
+
+abbrev k8-value : List (Row Sig)
+k8-value = row 0 forAll 8 five ∷ []
+
+abbrev k8-some : List (Row Sig)
+k8-some = row 0 exists 8 none ∷ []
+
 k8-subsumed : Subsumed Sig (meaning k8-rows) (meaning k8-value)
 k8-subsumed = subsumption-homomorphism Sig (picture k8-rows) (picture k8-value) (known-one (impossible forAll) tt) (known-one (row 0 forAll 8 five) tt) 2 2 .1 tt
 
@@ -76,39 +95,42 @@ k8-inAll = subsumed-inAll Sig (picture k8-rows) (picture k8-value) (known-one (i
 k8-not-subsumed : Subsumed Sig (meaning k8-rows) (meaning k8-some) → ⊥
 k8-not-subsumed = subsumption-homomorphism Sig (picture k8-rows) (picture k8-some) (known-one (impossible forAll) tt) (known-one (row 0 exists 8 none) tt) 2 2 .0
 
-k9-known-first : KnownRoles Sig k9-first
-k9-known-first = rows-known Sig (root three ∷ row 0 exists 8 (names 16 tt) ∷ []) (lit< tt, (lit< tt, tt))
+abbrev first : Table Sig
+first = tableOf Sig (root three ∷ row 0 exists 8 (names 16 tt) ∷ [])
 
-k9-known-second : KnownRoles Sig k9-second
-k9-known-second = rows-known Sig (root threeFive ∷ row 0 exists 8 (names 80 tt) ∷ row 0 exists 8 (names 128 tt) ∷ []) (lit< tt, (lit< tt, (lit< tt, tt)))
+abbrev second : Table Sig
+second = tableOf Sig (root threeFive ∷ row 0 exists 8 (names 80 tt) ∷ row 0 exists 8 (names 128 tt) ∷ [])
 
-abbrev k9-common : Tree Sig
-k9-common = tree Sig (tableOf Sig k9-rows) 2
+first-known : KnownRoles Sig first
+first-known = rows-known Sig (root three ∷ row 0 exists 8 (names 16 tt) ∷ []) (lit< tt, (lit< tt, tt))
 
-k9-left : Subsumed Sig (tree Sig k9-first 2) k9-common
-k9-left = lcs-left Sig k9-first k9-second 2 2
+second-known : KnownRoles Sig second
+second-known = rows-known Sig (root threeFive ∷ row 0 exists 8 (names 80 tt) ∷ row 0 exists 8 (names 128 tt) ∷ []) (lit< tt, (lit< tt, (lit< tt, tt)))
 
-k9-right : Subsumed Sig (tree Sig k9-second 2) k9-common
-k9-right = lcs-right Sig k9-first k9-second 2 2
+k9-left : Subsumed Sig (tree Sig first 2) k9-common
+k9-left = lcs-left Sig first second 2 2
+
+k9-right : Subsumed Sig (tree Sig second 2) k9-common
+k9-right = lcs-right Sig first second 2 2
 
 -- {3} subsumes both
 k9-least : Subsumed Sig k9-common (leaf three)
 k9-least =
-    lcs-least Sig k9-first k9-second k9-known-first k9-known-second 2 2 (leaf three) tt
-    (inAll-subsumed Sig (tree Sig k9-first 2) (leaf three) (mapsTo-sound Sig (leaf three) (tree Sig k9-first 2) tt))
-    (inAll-subsumed Sig (tree Sig k9-second 2) (leaf three) (mapsTo-sound Sig (leaf three) (tree Sig k9-second 2) tt))
+    lcs-least Sig first second first-known second-known 2 2 (leaf three) tt
+    (inAll-subsumed Sig (tree Sig first 2) (leaf three) (mapsTo-sound Sig (leaf three) (tree Sig first 2) tt))
+    (inAll-subsumed Sig (tree Sig second 2) (leaf three) (mapsTo-sound Sig (leaf three) (tree Sig second 2) tt))
 
 abbrev both : Table Sig → Table Sig → Table Sig
 both p q = lcsTable Sig p q 2
 
-k9-turned : Equivalent Sig (tree Sig (both k9-first k9-second) 2) (tree Sig (both k9-second k9-first) 2)
-k9-turned = lcs-commutative Sig (lit< tt) 2 k9-first k9-second k9-known-first k9-known-second
+k9-turned : Equivalent Sig (tree Sig (both first second) 2) (tree Sig (both second first) 2)
+k9-turned = lcs-commutative Sig (lit< tt) 2 first second first-known second-known
 
-k9-grouped : Equivalent Sig (tree Sig (both (both k9-first k9-second) k9-first) 2) (tree Sig (both k9-first (both k9-second k9-first)) 2)
-k9-grouped = lcs-associative Sig (lit< tt) 2 k9-first k9-second k9-first k9-known-first k9-known-second k9-known-first
+k9-grouped : Equivalent Sig (tree Sig (both (both first second) first) 2) (tree Sig (both first (both second first)) 2)
+k9-grouped = lcs-associative Sig (lit< tt) 2 first second first first-known second-known first-known
 
-k9-repeated : Equivalent Sig (tree Sig (both k9-second k9-second) 2) (tree Sig k9-second 2)
-k9-repeated = lcs-idempotent Sig (lit< tt) 2 k9-second k9-known-second
+k9-repeated : Equivalent Sig (tree Sig (both second second) 2) (tree Sig second 2)
+k9-repeated = lcs-idempotent Sig (lit< tt) 2 second second-known
 
 -- the first and the second normal table
 abbrev k7-first : Table Sig
@@ -120,3 +142,6 @@ k7-second = encoded Sig (normal k7-rows)
 k7-lowest : IsHomomorphism Sig k7-first k7-second (image Sig k7-first k7-second)
 k7-lowest =
     lowest-homomorphism Sig k7-first k7-second (encoded-parentsFirst Sig (normal k7-narrow)) (encoded-parentsFirst Sig (normal k7-rows)) (lit< tt) tt (lit< tt)
+
+k7-exists : (im : ℕ → ℕ) × IsHomomorphism Sig k7-first k7-second im
+k7-exists = encoded-homomorphism Sig (normal k7-narrow) (normal k7-rows) .1 tt

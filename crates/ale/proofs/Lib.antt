@@ -1,7 +1,5 @@
 -- The theorems and their laws, by subject.
-pub mod Cases
 pub mod Tests
-pub mod RoleCases
 pub mod NameLaws
 pub mod Trees
 pub mod Structures
@@ -35,4 +33,13 @@ pub mod Sizes
 pub mod RowMaps
 pub mod LowestMap
 pub mod MapExistence
+pub mod CaseTrees
+pub mod ConceptCases
+pub mod MapCases
+pub mod ForestCases
+pub mod NormalCases
+pub mod RowMapCases
+pub mod CountermodelCases
+pub mod ProductCases
+pub mod RoleCases
 pub mod Examples

@@ -17,7 +17,6 @@ use Rattle.ale.specs.Rows.{course, firstFrom, member}
 use Rattle.ale.specs.Signature.{Signature}
 use Rattle.ale.specs.Table.{ParentsFirst, Table, successorOf, successors, treeOf}
 use Rattle.ale.specs.Tree.{Forest, Kind, Tree, any, sameKind}
-use Rattle.ale.proofs.Cases.{root}
 use Rattle.ale.proofs.Depths.{Ranked, treeOf-settled}
 use Rattle.ale.proofs.Individuals.{not-zero, successor-above, successor-intro, successor-nonzero, successorRows}
 use Rattle.ale.proofs.RowLists.{filterBelow-in, filterBelow-out, member-cons, member-head, member-tail}

@@ -1,0 +1,43 @@
+-- Countermodels, computed: `countermodel d v` fits v and not d.
+use Prim.Native.Nat.{_*_, _-_, _^_, suc}
+use mathlib.Core.Bool.{false, true}
+use mathlib.Core.Path.{_≡_, refl}
+use Rattle.table.specs.Bounds.{maxDepth, maxRows}
+use Rattle.ale.specs.Countermodel.{countermodel, individual}
+use Rattle.ale.specs.ModelCheck.{fitsTest}
+use Rattle.ale.specs.PictureSignature.{NameSet}
+use Rattle.ale.specs.Tree.{Tree, cons, exists, forAll, nil, node}
+use Rattle.ale.proofs.CaseTrees.{Sig, double, excludes, five, leaf, names, none, single, three, threeFive}
+
+abbrev everything : NameSet
+everything = names (2 ^ 64 - 1) tt
+
+-- {3} does not subsume {5}: 5 holds and 3 does not
+counter-wanted : countermodel Sig (leaf three) (leaf five) ≡ individual Sig five nil
+counter-wanted = refl
+
+-- a name that is not mentioned may hold: what excludes 3 does not subsume everything
+counter-excluded : countermodel Sig (node (excludes three) nil) (leaf none) ≡ individual Sig everything nil
+counter-excluded = refl
+
+-- K7: two individuals, one with each name
+abbrev pub k7-counter : Tree Sig
+k7-counter = individual Sig none (cons exists 8 (individual Sig three nil) (cons exists 8 (individual Sig five nil) nil))
+
+counter-k7 : countermodel Sig (single exists (leaf threeFive)) (double exists (leaf three) exists (leaf five)) ≡ k7-counter
+counter-k7 = refl
+
+counter-k7-checked : (fitsTest Sig (double exists (leaf three) exists (leaf five)) k7-counter ≡ true) × (fitsTest Sig (single exists (leaf threeFive)) k7-counter ≡ false)
+counter-k7-checked = (refl, refl)
+
+-- every individual that some r {} asks for may have 3
+counter-some : countermodel Sig (single exists (node (excludes three) nil)) (single exists (leaf none)) ≡ individual Sig none (cons exists 8 (individual Sig everything nil) nil)
+counter-some = refl
+
+-- all r {5} does not subsume all r {3}: one reached by r has 3 and lacks 5
+counter-all : countermodel Sig (single forAll (leaf five)) (single forAll (leaf three)) ≡ individual Sig none (cons exists 8 (individual Sig three nil) nil)
+counter-all = refl
+
+-- at the limits of paper 01
+counter-limit : suc maxDepth * maxRows ≡ 3328
+counter-limit = refl

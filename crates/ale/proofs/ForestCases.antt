@@ -1,0 +1,14 @@
+-- What is dropped: an empty all-successor; never an empty some-successor, which says something.
+use mathlib.Core.Path.{_≡_, refl}
+use Rattle.ale.specs.Forest.{consReduced}
+use Rattle.ale.specs.Tree.{cons, exists, forAll, nil}
+use Rattle.ale.proofs.CaseTrees.{Sig, bad, leaf, none}
+
+all-dropped : consReduced Sig forAll 8 (leaf none) nil ≡ nil
+all-dropped = refl
+
+some-kept : consReduced Sig exists 8 (leaf none) nil ≡ cons exists 8 (leaf none) nil
+some-kept = refl
+
+bottom-kept : consReduced Sig forAll 8 bad nil ≡ cons forAll 8 bad nil
+bottom-kept = refl

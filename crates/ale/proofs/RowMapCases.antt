@@ -1,0 +1,28 @@
+-- The maps that we write, computed.
+use Prim.Native.Nat.{ℕ}
+use mathlib.Core.Bool.{false}
+use mathlib.Core.List.{List, [], _∷_}
+use mathlib.Core.Path.{_≡_, refl}
+use Rattle.ale.specs.Encoding.{encoded}
+use Rattle.ale.specs.RowMap.{edgeAgrees, images}
+use Rattle.ale.specs.Tree.{Tree, exists, forAll}
+use Rattle.ale.proofs.CaseTrees.{Sig, bad, double, five, leaf, single, three, threeFive}
+
+abbrev first : Tree Sig → Tree Sig → List ℕ
+first v d = images Sig (encoded Sig v) (encoded Sig d) ((encoded Sig d) .rows)
+
+-- K7: both rows go to row 1
+k7-map : first (single exists (leaf threeFive)) (double exists (leaf three) exists (leaf five)) ≡ 0 ∷ 1 ∷ 1 ∷ []
+k7-map = refl
+
+-- of two rows that can be, the lowest
+lowest-map : first (double exists (leaf three) exists (leaf threeFive)) (single exists (leaf three)) ≡ 0 ∷ 1 ∷ []
+lowest-map = refl
+
+-- below a ⊥ image all rows go where their parent goes
+bottom-map : first (single forAll bad) (single forAll (single exists (leaf three))) ≡ 0 ∷ 1 ∷ 1 ∷ []
+bottom-map = refl
+
+-- and nowhere else: row 2 may not go to row 0
+bottom-elsewhere : edgeAgrees Sig (encoded Sig (single forAll bad)) (encoded Sig (single forAll (single exists (leaf three)))) 2 1 0 ≡ false
+bottom-elsewhere = refl
