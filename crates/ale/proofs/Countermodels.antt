@@ -16,7 +16,6 @@ use Rattle.ale.specs.Countermodel.{canonical, canonicalAll, countermodel
 use Rattle.ale.specs.Forest.{dropped, trivial}
 use Rattle.ale.specs.Homomorphism.{edgeServes, labelWithin, mapsAllTo, mapsTo}
 use Rattle.ale.specs.NormalForm.{IfExists, IfForAll, NodeSaturated, Propagated, Reduced, ReducedAll, Saturated, SaturatedAll, valueOf}
-use Rattle.ale.specs.PictureSignature.{below}
 use Rattle.ale.specs.Signature.{Signature}
 use Rattle.ale.specs.Structure.{Fits, FitsAll, Restriction, Satisfies}
 use Rattle.ale.specs.Tree.{All, Forest, Kind, Label, Tree, any, cons, exists, forAll, labelOf, nil, node, top}

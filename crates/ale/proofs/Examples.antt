@@ -24,16 +24,16 @@ use Rattle.ale.specs.RowMap.{IsHomomorphism, image}
 use Rattle.ale.specs.Structure.{Fits, Structure, SubsumedInAll}
 use Rattle.ale.specs.Table.{KnownRoles, Table, tree}
 use Rattle.ale.specs.Tree.{exists, forAll}
-use Rattle.ale.proofs.CaseTrees.{Sig, five, leaf, names, none, three, threeFive}
+use Rattle.ale.proofs.CasesTree.{Sig, five, leaf, names, none, three, threeFive}
 use Rattle.ale.proofs.CommonSubsumers.{lcs-least, lcs-left, lcs-right}
 use Rattle.ale.proofs.Concepts.{fits-concept}
-use Rattle.ale.proofs.CountermodelCases.{k7-counter}
+use Rattle.ale.proofs.CasesCountermodel.{k7-counter}
 use Rattle.ale.proofs.Encodings.{encoded-parentsFirst}
 use Rattle.ale.proofs.Foldings.{lcs-associative, lcs-commutative, lcs-idempotent}
 use Rattle.ale.proofs.LowestMap.{lowest-homomorphism}
 use Rattle.ale.proofs.MapExistence.{encoded-homomorphism}
-use Rattle.ale.proofs.NormalCases.{impossible, k4-normal, k4-rows, meaning, normal, picture, root, row}
-use Rattle.ale.proofs.ProductCases.{k9-common}
+use Rattle.ale.proofs.CasesNormal.{impossible, k4-normal, k4-rows, meaning, normal, picture, root, row}
+use Rattle.ale.proofs.CasesProduct.{k9-common}
 use Rattle.ale.proofs.RoleLaws.{rows-known}
 use Rattle.ale.proofs.Sizes.{countermodel-bound}
 use Rattle.ale.proofs.Soundness.{mapsTo-sound}

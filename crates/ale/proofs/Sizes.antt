@@ -2,7 +2,6 @@
 -- A countermodel has at most (height of d + 1) * (size of v) individuals; a normal tree of depth n is no higher than n.
 use Prim.Native.Nat.{_*_, _+_, _≤_, suc, ℕ}
 use lib.ListN.{length}
-use lib.Pow.{high}
 use native.Mathlib.Nat.{mul-le-mul}
 use native.Mathlib.Omega.{arith}
 use Rattle.ale.specs.Countermodel.{countermodel}

@@ -2,7 +2,7 @@
 use mathlib.Core.Path.{_≡_, refl}
 use Rattle.ale.specs.Product.{product}
 use Rattle.ale.specs.Tree.{Tree, cons, exists, forAll, nil, node}
-use Rattle.ale.proofs.CaseTrees.{Sig, bad, double, five, leaf, names, none, single, three, threeFive, wants}
+use Rattle.ale.proofs.CasesTree.{Sig, bad, double, five, leaf, names, none, single, three, threeFive, wants}
 
 abbrev pub k9-first : Tree Sig
 k9-first = node (wants three) (cons exists 8 (leaf (names 16 tt)) nil)

@@ -2,7 +2,7 @@
 use mathlib.Core.Path.{_≡_, refl}
 use Rattle.ale.specs.Forest.{consReduced}
 use Rattle.ale.specs.Tree.{cons, exists, forAll, nil}
-use Rattle.ale.proofs.CaseTrees.{Sig, bad, leaf, none}
+use Rattle.ale.proofs.CasesTree.{Sig, bad, leaf, none}
 
 all-dropped : consReduced Sig forAll 8 (leaf none) nil ≡ nil
 all-dropped = refl

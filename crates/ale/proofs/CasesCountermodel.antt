@@ -7,7 +7,7 @@ use Rattle.ale.specs.Countermodel.{countermodel, individual}
 use Rattle.ale.specs.ModelCheck.{fitsTest}
 use Rattle.ale.specs.PictureSignature.{NameSet}
 use Rattle.ale.specs.Tree.{Tree, cons, exists, forAll, nil, node}
-use Rattle.ale.proofs.CaseTrees.{Sig, double, excludes, five, leaf, names, none, single, three, threeFive}
+use Rattle.ale.proofs.CasesTree.{Sig, double, excludes, five, leaf, names, none, single, three, threeFive}
 
 abbrev everything : NameSet
 everything = names (2 ^ 64 - 1) tt

@@ -6,7 +6,7 @@ use mathlib.Core.Path.{_≡_, refl}
 use Rattle.ale.specs.Encoding.{encoded}
 use Rattle.ale.specs.RowMap.{edgeAgrees, images}
 use Rattle.ale.specs.Tree.{Tree, exists, forAll}
-use Rattle.ale.proofs.CaseTrees.{Sig, bad, double, five, leaf, single, three, threeFive}
+use Rattle.ale.proofs.CasesTree.{Sig, bad, double, five, leaf, single, three, threeFive}
 
 abbrev first : Tree Sig → Tree Sig → List ℕ
 first v d = images Sig (encoded Sig v) (encoded Sig d) ((encoded Sig d) .rows)

@@ -8,7 +8,7 @@ use Rattle.ale.specs.Normal.{normalTree}
 use Rattle.ale.specs.PictureSignature.{NameSet}
 use Rattle.ale.specs.Table.{Table, tree}
 use Rattle.ale.specs.Tree.{Kind, Tree, bottomLabel, exists, forAll, size}
-use Rattle.ale.proofs.CaseTrees.{Sig, bad, double, five, leaf, names, none, single, three, threeFive, wants}
+use Rattle.ale.proofs.CasesTree.{Sig, bad, double, five, leaf, names, none, single, three, threeFive, wants}
 
 abbrev pub root : NameSet → Row Sig
 root a = record { parent = 0; kind = exists; role = 0; label = wants a }

@@ -3,7 +3,7 @@ use mathlib.Core.Bool.{false, true}
 use mathlib.Core.Path.{_≡_, refl}
 use Rattle.ale.specs.Homomorphism.{mapsTo}
 use Rattle.ale.specs.Tree.{exists, forAll, nil, node}
-use Rattle.ale.proofs.CaseTrees.{Sig, bad, double, excludes, five, leaf, none, single, three, threeFive}
+use Rattle.ale.proofs.CasesTree.{Sig, bad, double, excludes, five, leaf, none, single, three, threeFive}
 
 -- some r {3}, some r {5} subsumes some r {3,5}; not the reverse
 k7 : (mapsTo Sig (double exists (leaf three) exists (leaf five)) (single exists (leaf threeFive)) ≡ true) × (mapsTo Sig (single exists (leaf threeFive)) (double exists (leaf three) exists (leaf five)) ≡ false)

@@ -4,7 +4,7 @@ use mathlib.Core.Path.{_≡_, refl}
 use Rattle.table.specs.NameSet.{has}
 use Rattle.ale.specs.Concept.{Concept, conceptOf, conjunction, primitive, topConcept, value}
 use Rattle.ale.specs.Tree.{cons, forAll, nil, node}
-use Rattle.ale.proofs.CaseTrees.{Sig, five, leaf, three, wants}
+use Rattle.ale.proofs.CasesTree.{Sig, five, leaf, three, wants}
 
 abbrev wanted : ℕ → Concept
 wanted n = conjunction topConcept (conjunction (conjunction (primitive n) topConcept) topConcept)
