@@ -1,6 +1,6 @@
 -- A homomorphism by rows exists exactly if `mapsTo` passes, and then our map is one (003, Definition 39 and Theorem 41).
--- A homomorphism by rows shows, from the leaves up, that each row's tree maps to its image's tree; and where the test passes, the lowest
--- possible image of each row can be taken, parents first.
+-- With a homomorphism by rows, each row's tree maps to its image's tree, by induction on the depth; and where the test passes, taking the
+-- lowest possible image of each row, parents first, never fails.
 --   homomorphism-exists    there is a homomorphism of two tables exactly if their trees map
 --   lowest-whenever        our map is a homomorphism whenever there is one
 --   encoded-homomorphism   there is one of the tables of two trees exactly if the trees map
