@@ -49,8 +49,9 @@ module _ (S : Signature) where
       Subsumed S (tree S p n) u → Subsumed S (tree S q m) u → Subsumed S (lcs S p q n m) u
   lcs-least p q kp kq n m u w a b I x l f =
       let t = tidy S u in
-      let h = mapsTo-product S t (normalTree S p n) (normalTree S q m) (tidy-reduced S u) (tidy-rolesKnown S u w)
-          (tidy-mapsTo p kp n u a) (tidy-mapsTo q kq m u b) in
+      let to-p = tidy-mapsTo p kp n u a in
+      let to-q = tidy-mapsTo q kq m u b in
+      let h = mapsTo-product S t (normalTree S p n) (normalTree S q m) (tidy-reduced S u) (tidy-rolesKnown S u w) to-p to-q in
       tidy-fits S (structureOf S I) u x (mapsTo-sound S t (lcs S p q n m) h (structureOf S I) x f)
 
   pub lcsTable-tree : (p q : Table S) (n : ℕ) → tree S (lcsTable S p q n) n ≡ lcs S p q n n

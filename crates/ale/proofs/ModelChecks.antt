@@ -60,10 +60,9 @@ module _ (S : Signature) where
     test-restriction forAll r (cons k s b g) h =
         let a = not (S .subrole s r) || q b in
         let later = restrictionTest S forAll r q g in
-        λ y e. ⊎-elim
-            (first (or-split (not (S .subrole s r)) (q b) (and-left a later h)) y)
-            (test-restriction forAll r g (and-right a later h) y)
-            e
+        let here = first (or-split (not (S .subrole s r)) (q b) (and-left a later h)) in
+        let there = test-restriction forAll r g (and-right a later h) in
+        λ y e. ⊎-elim (here y) (there y) e
       where
         first : T (not (S .subrole s r)) ⊎ T (q b) → (y : Tree S) → T (S .subrole s r) × (b ≡ y) → P y
         first (inl n) y t = absurd (clash (S .subrole s r) (t .0) n)

@@ -63,9 +63,10 @@ module _ (S : Signature) (M : Structure S) where
       chosen (λ t. Fits S M t x) (l .bottom) (node m g) (pick (m .bottom) (node l f) pair)
       (λ a. ⊎-elim (λ q. absurd (clash (l .bottom) a (q .0 .possible))) (λ q. q) p) (λ a.
       chosen (λ t. Fits S M t x) (m .bottom) (node l f) pair
-      (λ b. ⊎-elim (λ q. q) (λ q. absurd (clash (m .bottom) b (q .0 .possible))) p) (λ b.
-      (satisfies-intersection l m x (⊎-map (λ q. q .0) (λ q. q .0) p),
-      each-fits S M (pairForest S f g) x (All-byRole S (FitsAt x) (pairRole S f g) fits-pairRole (S .roles)))))
+      (λ b. ⊎-elim (λ q. q) (λ q. absurd (clash (m .bottom) b (q .0 .possible))) p) (λ b. (
+        satisfies-intersection l m x (⊎-map (λ q. q .0) (λ q. q .0) p),
+        each-fits S M (pairForest S f g) x (All-byRole S (FitsAt x) (pairRole S f g) fits-pairRole (S .roles)),
+      )))
     where
       fits-pairRole : (r : ℕ) → All S (FitsAt x) (pairRole S f g r)
       fits-pairRole r = All-append S (FitsAt x) (pairAll S f forAll r g) (pairAll S f exists r g) (h forAll r) (h exists r)

@@ -28,17 +28,19 @@ pub member-cons : (P : ℕ → Type 0) (j : ℕ) (s : List ℕ) → P j → ((i 
     (i : ℕ) → T (member i (j ∷ s)) → P i
 member-cons P j s p q i h = ⊎-elim (λ e. subst P (sym (eqb→eq i j e)) p) (λ m. q i m) (or-split (eqb i j) (member i s) h)
 
--- the members of a filtered range are its numbers that pass
-filterFrom-out : (q : ℕ → Bool) (o n j : ℕ) → T (member j (filterFrom q o n)) → T (q j) × (o ≤ j) × (j < o + n)
+-- j is one of the n numbers from o on, and passes
+abbrev PassesIn : (ℕ → Bool) → ℕ → ℕ → ℕ → Type 0
+PassesIn q o n j = T (q j) × (o ≤ j) × (j < o + n)
+
+filterFrom-out : (q : ℕ → Bool) (o n j : ℕ) → T (member j (filterFrom q o n)) → PassesIn q o n j
 filterFrom-out q o zero j h = absurd h
 filterFrom-out q o (suc n) j h =
     let s = filterFrom q (suc o) n in
-    let later : T (member j s) → T (q j) × (o ≤ j) × (j < o + suc n) =
-        λ m. let (a, b, c) = filterFrom-out q (suc o) n j m in (a, omega arith, omega arith) in
-    chosen (λ z. T (member j z) → T (q j) × (o ≤ j) × (j < o + suc n)) (q o) (o ∷ s) s
+    let later : T (member j s) → PassesIn q o (suc n) j = λ m. let (a, b, c) = filterFrom-out q (suc o) n j m in (a, omega arith, omega arith) in
+    chosen (λ z. T (member j z) → PassesIn q o (suc n) j) (q o) (o ∷ s) s
     (λ t m. ⊎-elim (λ e. first t (eqb→eq j o e)) later (or-split (eqb j o) (member j s) m)) (λ t. later) h
   where
-    first : T (q o) → j ≡ o → T (q j) × (o ≤ j) × (j < o + suc n)
+    first : T (q o) → j ≡ o → PassesIn q o (suc n) j
     first t e = (subst (λ i. T (q i)) (sym e) t, omega arith, omega arith)
 
 filterFrom-in : (q : ℕ → Bool) (o n j : ℕ) → T (q j) → o ≤ j → j < o + n → T (member j (filterFrom q o n))
