@@ -1,6 +1,6 @@
--- However pictures are folded two at a time, the result is their least common subsumer. By induction on the folding: a tree subsumes
--- two foldings put together exactly if it subsumes both. So only the set of tables that are used counts, up to equivalence, and the
--- least common subsumer is commutative, associative and idempotent.
+-- However pictures are folded two at a time, the result is their least common subsumer. By induction on the folding: a tree of known
+-- roles subsumes two foldings put together exactly if it subsumes both. So only the set of tables that are used counts, up to
+-- equivalence, and the least common subsumer is commutative, associative and idempotent.
 --   folding-subsumes                                   the result subsumes each table that is used
 --   folding-least                                      every tree of known roles that subsumes all of them subsumes the result
 --   folding-equivalent                                 two foldings that use the same tables are equivalent
@@ -44,7 +44,7 @@ module _ (S : Signature) (z : 0 < S .roles) (n : ℕ) (tables : ℕ → Table S)
       (lcs-least S p q (fold-known a) (fold-known b) n n u v
       (folding-least a u v (λ i h′. h i (inl h′))) (folding-least b u v (λ i h′. h i (inr h′))))
 
-  -- a folding that uses more tables subsumes
+  -- a folding is subsumed by every folding that uses at least its tables
   folding-within : (v w : Folding) → ((i : ℕ) → Uses v i → Uses w i) →
       Subsumed S (tree S (fold S n tables v) n) (tree S (fold S n tables w) n)
   folding-within v w h =

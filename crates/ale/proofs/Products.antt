@@ -1,6 +1,6 @@
 -- The product subsumes both trees (003, Theorem 43, parts 1 and 2): whatever fits one of them fits the product.
--- By induction on the pair of trees: the intersected label asks for no more than either label, and each edge of the product comes from an
--- edge of either tree that serves for it, to an end that by induction is fitted by whatever fits the end of either.
+-- By induction on the pair of trees: the intersected label asks for no more than either label, and each edge of the product comes from
+-- two edges, one of each tree, that both serve for it; its end is by induction fitted by whatever fits the end of either.
 --   pairRole, pairForest   the successors of a product node, for one role and for all
 --   fits-product           what fits one of the trees, whichever, fits the product
 use Prim.Native.Nat.{ℕ}
