@@ -16,7 +16,7 @@ everything = names (2 ^ 64 - 1) tt
 counter-wanted : countermodel Sig (leaf three) (leaf five) ≡ individual Sig five nil
 counter-wanted = refl
 
--- a name that is not mentioned may hold: what excludes 3 does not subsume everything
+-- a name that is not mentioned may hold: the node that excludes 3 does not subsume ⊤
 counter-excluded : countermodel Sig (node (excludes three) nil) (leaf none) ≡ individual Sig everything nil
 counter-excluded = refl
 
@@ -27,17 +27,20 @@ k7-counter = individual Sig none (cons exists 8 (individual Sig three nil) (cons
 counter-k7 : countermodel Sig (single exists (leaf threeFive)) (double exists (leaf three) exists (leaf five)) ≡ k7-counter
 counter-k7 = refl
 
-counter-k7-checked : (fitsTest Sig (double exists (leaf three) exists (leaf five)) k7-counter ≡ true) × (fitsTest Sig (single exists (leaf threeFive)) k7-counter ≡ false)
+counter-k7-checked : (fitsTest Sig (double exists (leaf three) exists (leaf five)) k7-counter ≡ true) ×
+    (fitsTest Sig (single exists (leaf threeFive)) k7-counter ≡ false)
 counter-k7-checked = (refl, refl)
 
--- every individual that some r {} asks for may have 3
-counter-some : countermodel Sig (single exists (node (excludes three) nil)) (single exists (leaf none)) ≡ individual Sig none (cons exists 8 (individual Sig everything nil) nil)
+-- 3 may hold of the individual that some r {} asks for
+counter-some : countermodel Sig (single exists (node (excludes three) nil)) (single exists (leaf none)) ≡
+    individual Sig none (cons exists 8 (individual Sig everything nil) nil)
 counter-some = refl
 
--- all r {5} does not subsume all r {3}: one reached by r has 3 and lacks 5
-counter-all : countermodel Sig (single forAll (leaf five)) (single forAll (leaf three)) ≡ individual Sig none (cons exists 8 (individual Sig three nil) nil)
+-- all r {5} does not subsume all r {3}: of an individual reached by r, 3 holds and 5 does not
+counter-all : countermodel Sig (single forAll (leaf five)) (single forAll (leaf three)) ≡
+    individual Sig none (cons exists 8 (individual Sig three nil) nil)
 counter-all = refl
 
--- at the limits of paper 01
+-- the bound on the countermodel's individuals, at the limits of paper 01
 counter-limit : suc maxDepth * maxRows ≡ 3328
 counter-limit = refl

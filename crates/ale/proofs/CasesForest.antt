@@ -1,4 +1,4 @@
--- What is dropped: an empty all-successor; never an empty some-successor, which says something.
+-- Dropping, computed: a trivial all-successor is dropped; a trivial some-successor, which says something, is kept, and so is all r ⊥.
 use mathlib.Core.Path.{_≡_, refl}
 use Rattle.ale.specs.Forest.{consReduced}
 use Rattle.ale.specs.Tree.{cons, exists, forAll, nil}

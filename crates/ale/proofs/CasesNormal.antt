@@ -1,4 +1,7 @@
 -- Normal trees of pictures, computed: K2 to K6 and K12 of paper 01.
+--   root, row, impossible      rows: a root, a row with wanted names, a row that is ⊥
+--   picture, meaning, normal   a picture by the rows below its empty root, its tree, and its normal tree
+--   k4-rows, k4-normal         the picture of K4 and its normal tree
 use Prim.Native.Nat.{ℕ}
 use mathlib.Core.Bool.{false}
 use mathlib.Core.List.{List, [], _∷_}
@@ -19,7 +22,6 @@ row p k r a = record { parent = p; kind = k; role = r; label = wants a }
 abbrev pub impossible : Kind → Row Sig
 impossible k = record { parent = 0; kind = k; role = 8; label = bottomLabel Sig }
 
--- a picture by the rows below its empty root, its tree, and its normal tree
 abbrev pub picture : List (Row Sig) → Table Sig
 picture w = tableOf Sig (root none ∷ w)
 
@@ -29,16 +31,18 @@ meaning w = tree Sig (picture w) 2
 abbrev pub normal : List (Row Sig) → Tree Sig
 normal w = normalTree Sig (picture w) 2
 
--- 3 wanted and excluded
+-- 3 both wanted and excluded: inconsistent
 abbrev clashing : Row Sig
 clashing = record { parent = 0; kind = exists; role = 0; label = record { wanted = three; excluded = three; bottom = false } }
 
 k2 : normalTree Sig (tableOf Sig (clashing ∷ [])) 2 ≡ bad
 k2 = refl
 
+-- all r {3}, all r {5}: one all-successor
 k3 : normal (row 0 forAll 8 three ∷ row 0 forAll 8 five ∷ []) ≡ single forAll (leaf threeFive)
 k3 = refl
 
+-- all r {3}, some r {5}: the value restriction is propagated
 abbrev pub k4-rows : List (Row Sig)
 k4-rows = row 0 forAll 8 three ∷ row 0 exists 8 five ∷ []
 
@@ -48,21 +52,24 @@ k4-normal = double forAll (leaf three) exists (leaf threeFive)
 k4 : normal k4-rows ≡ k4-normal
 k4 = refl
 
+-- all r {}: dropped
 k5 : normal (row 0 forAll 8 none ∷ []) ≡ leaf none
 k5 = refl
 
+-- all r ⊥: kept, and inconsistent only beside a some-successor
 k6 : normal (impossible forAll ∷ []) ≡ single forAll bad
 k6 = refl
 
 k6-some : normal (impossible forAll ∷ row 0 exists 8 none ∷ []) ≡ bad
 k6-some = refl
 
+-- all r (some s {1}), some r {2}: the some-successor gets a some-successor of its own
 abbrev k12-rows : List (Row Sig)
 k12-rows = row 0 forAll 8 none ∷ row 1 exists 9 (names 2 tt) ∷ row 0 exists 8 (names 4 tt) ∷ []
 
 k12 : size Sig (normal k12-rows) ≡ 5
 k12 = refl
 
--- the normal table of that table
+-- normalizing again propagates the value restriction once more: a normal tree need not be its own normal tree
 k12-again : size Sig (normalTree Sig (encoded Sig (normal k12-rows)) 2) ≡ 6
 k12-again = refl

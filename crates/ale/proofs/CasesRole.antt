@@ -17,6 +17,7 @@ use Rattle.ale.specs.Signature.{Signature}
 use Rattle.ale.specs.Tree.{Forest, Tree, cons, emptyLabel, exists, forAll, nil, node, top}
 use Rattle.ale.proofs.Tests.{and-left, and-right, or-left, or-split}
 
+-- the inclusion of role 9 in role 8
 abbrev narrow : ℕ → ℕ → Bool
 narrow r s = eqb r 9 && eqb s 8
 
@@ -39,7 +40,10 @@ within-trans r s t a b = step (or-split (eqb r s) (narrow r s) a) (or-split (eqb
 
 within-below : (r s : ℕ) → T (within r s) → s < roles → r < roles
 within-below r s a l =
-    ⊎-elim (λ e. let x = eqb→eq r s e in omega arith) (λ n. let x = eqb→eq r 9 (and-left (eqb r 9) (eqb s 8) n) in omega arith) (or-split (eqb r s) (narrow r s) a)
+    ⊎-elim
+    (λ e. let x = eqb→eq r s e in omega arith)
+    (λ n. let x = eqb→eq r 9 (and-left (eqb r 9) (eqb s 8) n) in omega arith)
+    (or-split (eqb r s) (narrow r s) a)
 
 abbrev Loops : Signature
 Loops = signatureOf within within-refl within-trans within-below
@@ -57,18 +61,19 @@ abbrev some-firing : Tree Loops
 some-firing = under (cons exists 9 (top Loops) nil)
 
 -- some loop subsumes some firing loop, and not the reverse
-loop-covers : (mapsTo Loops some-loop some-firing ≡ true) × (mapsTo Loops some-firing some-loop ≡ false)
-loop-covers = (refl, refl)
+loop-subsumes : (mapsTo Loops some-loop some-firing ≡ true) × (mapsTo Loops some-firing some-loop ≡ false)
+loop-subsumes = (refl, refl)
 
--- what is said of all loops is said of each firing loop: all 8 {3}, some 9 {5}
+-- what a value restriction says of all loops is said of each firing loop: all 8 {3}, some 9 {5}
 loop-merged : normalTree Loops (encoded Loops (under (cons forAll 8 (wanting 8 tt) (cons exists 9 (wanting 32 tt) nil)))) 1 ≡
     under (cons forAll 8 (wanting 8 tt) (cons forAll 9 (wanting 8 tt) (cons exists 9 (wanting 40 tt) nil)))
 loop-merged = refl
 
 -- in the product a pair appears once for every role that includes both, ordered by that role
-loop-product : (product Loops some-firing some-loop ≡ some-loop) × (product Loops some-firing some-firing ≡ under (cons exists 8 (top Loops) (cons exists 9 (top Loops) nil)))
+loop-product : (product Loops some-firing some-loop ≡ some-loop) ×
+    (product Loops some-firing some-firing ≡ under (cons exists 8 (top Loops) (cons exists 9 (top Loops) nil)))
 loop-product = (refl, refl)
 
 -- an edge counts for all including roles: an individual with a firing loop fits some loop
-loop-edge : (fitsTest Loops some-loop (individual Loops (Loops .none) (cons exists 9 (individual Loops (Loops .none) nil) nil)) ≡ true)
+loop-edge : fitsTest Loops some-loop (individual Loops (Loops .none) (cons exists 9 (individual Loops (Loops .none) nil) nil)) ≡ true
 loop-edge = refl

@@ -1,4 +1,11 @@
 -- Trees for the cases, at the signature of paper 01. Role r is 8, role s is 9. A set of names is written as its number: {3} is 8, {5} is 32.
+--   Sig                            the signature
+--   names                          a set of names by its number
+--   none, three, five, threeFive   {}, {3}, {5}, {3,5}
+--   wants, excludes                a label with only wanted, with only excluded names
+--   leaf, bad                      a node without successors; ⊥
+--   under                          a root without names, and its successors
+--   single, double                 a root with one successor by r, with two
 use Prim.Native.Nat.{_^_, ℕ}
 use lib.Dec.{T, ltb}
 use mathlib.Core.Bool.{false}
@@ -37,7 +44,6 @@ leaf a = node (wants a) nil
 abbrev pub bad : Tree Sig
 bad = bottomTree Sig
 
--- a root without names, and its successors
 abbrev pub under : Forest Sig → Tree Sig
 under f = node (wants none) f
 

@@ -1,7 +1,8 @@
--- An element fits a tree exactly if it is in the extension of the tree's concept (003, Table 1), in every structure.
+-- An element fits a tree exactly if it is in the extension of the tree's concept (003, Table 1), in every structure. By induction on
+-- the tree: a label's concept asks for each listed name what the label asks for it, and each successor's concept is its restriction.
 --   fits-extension, extension-fits   the two directions
 --   fits-concept                     both
---   subsumed-concepts                so subsumption of trees is inclusion of extensions (003, Definition 1)
+--   subsumed-concepts                so one tree is subsumed by another exactly if its concept is (003, Definition 1)
 use Prim.Native.Nat.{ℕ}
 use lib.Dec.{T}
 use mathlib.Core.Bool.{Bool, false, not, true}
@@ -18,21 +19,25 @@ use Rattle.ale.proofs.RowLists.{filterBelow-in, filterBelow-out, member
 use Rattle.ale.proofs.Structures.{restriction-map}
 
 module _ (S : Signature) (M : Structure S) where
-  conjunction-at : (h : ℕ → Concept) (s : List ℕ) (x : M .Element) → InExtension S M (conjunctionOf h s) x → (n : ℕ) → T (member n s) → InExtension S M (h n) x
-  conjunction-at h [] x p = λ n m. absurd m
-  conjunction-at h (i ∷ s) x p = member-cons (λ n. InExtension S M (h n) x) i s (p .0) (conjunction-at h s x (p .1))
+  -- an element is in the extension of a conjunction exactly if it is in that of each part
+  conjunction-part : (h : ℕ → Concept) (s : List ℕ) (x : M .Element) → InExtension S M (conjunctionOf h s) x →
+      (n : ℕ) → T (member n s) → InExtension S M (h n) x
+  conjunction-part h [] x p = λ n m. absurd m
+  conjunction-part h (i ∷ s) x p = member-cons (λ n. InExtension S M (h n) x) i s (p .0) (conjunction-part h s x (p .1))
 
-  at-conjunction : (h : ℕ → Concept) (s : List ℕ) (x : M .Element) → ((n : ℕ) → T (member n s) → InExtension S M (h n) x) → InExtension S M (conjunctionOf h s) x
-  at-conjunction h [] x p = tt
-  at-conjunction h (i ∷ s) x p = (p i (member-head i s), at-conjunction h s x (λ n m. p n (member-tail n i s m)))
+  conjunction-intro : (h : ℕ → Concept) (s : List ℕ) (x : M .Element) → ((n : ℕ) → T (member n s) → InExtension S M (h n) x) →
+      InExtension S M (conjunctionOf h s) x
+  conjunction-intro h [] x p = tt
+  conjunction-intro h (i ∷ s) x p = (p i (member-head i s), conjunction-intro h s x (λ n m. p n (member-tail n i s m)))
 
-  -- the names of a set, listed
-  listed : (a : S .Names) (n : ℕ) → T (S .has a n) → T (member n (namesOf S a))
-  listed a n h = filterBelow-in (S .has a) (S .names) n h (S .has-below a n h)
+  -- the listed names of a set are the names that it has
+  name-listed : (a : S .Names) (n : ℕ) → T (S .has a n) → T (member n (namesOf S a))
+  name-listed a n h = filterBelow-in (S .has a) (S .names) n h (S .has-below a n h)
 
-  unlisted : (a : S .Names) (n : ℕ) → T (member n (namesOf S a)) → T (S .has a n)
-  unlisted a n m = filterBelow-out (S .has a) (S .names) n m .0
+  listed-name : (a : S .Names) (n : ℕ) → T (member n (namesOf S a)) → T (S .has a n)
+  listed-name a n m = filterBelow-out (S .has a) (S .names) n m .0
 
+  -- an element is in the extension of a label's ⊥ part exactly if the label is not ⊥
   bottom-possible : (b : Bool) (x : M .Element) → InExtension S M (pick b bottomConcept topConcept) x → T (not b)
   bottom-possible true x p = p
   bottom-possible false x p = tt
@@ -41,12 +46,14 @@ module _ (S : Signature) (M : Structure S) where
   possible-bottom true x p = p
   possible-bottom false x p = tt
 
-  -- a restriction of either kind, and its concept
-  concept-restriction : (k : Kind) (r : ℕ) (c : Concept) (x : M .Element) → InExtension S M (restrictionConcept k r c) x → Restriction S M k r (λ y. InExtension S M c y) x
+  -- the concept of a restriction, of either kind, says what the restriction says
+  concept-restriction : (k : Kind) (r : ℕ) (c : Concept) (x : M .Element) → InExtension S M (restrictionConcept k r c) x →
+      Restriction S M k r (λ y. InExtension S M c y) x
   concept-restriction exists r c x p = p
   concept-restriction forAll r c x p = p
 
-  restriction-concept : (k : Kind) (r : ℕ) (c : Concept) (x : M .Element) → Restriction S M k r (λ y. InExtension S M c y) x → InExtension S M (restrictionConcept k r c) x
+  restriction-concept : (k : Kind) (r : ℕ) (c : Concept) (x : M .Element) → Restriction S M k r (λ y. InExtension S M c y) x →
+      InExtension S M (restrictionConcept k r c) x
   restriction-concept exists r c x p = p
   restriction-concept forAll r c x p = p
 
@@ -54,8 +61,8 @@ module _ (S : Signature) (M : Structure S) where
     pub extension-fits : (t : Tree S) (x : M .Element) → InExtension S M (conceptOf S t) x → Fits S M t x
     extension-fits (node l f) x p = (
       record {
-        held = λ n h. conjunction-at primitive (namesOf S (l .wanted)) x (p .0 .1 .0) n (listed (l .wanted) n h);
-        free = λ n h. conjunction-at negation (namesOf S (l .excluded)) x (p .0 .1 .1) n (listed (l .excluded) n h);
+        held = λ n h. conjunction-part primitive (namesOf S (l .wanted)) x (p .0 .1 .0) n (name-listed (l .wanted) n h);
+        free = λ n h. conjunction-part negation (namesOf S (l .excluded)) x (p .0 .1 .1) n (name-listed (l .excluded) n h);
         possible = bottom-possible (l .bottom) x (p .0 .0);
       },
       extension-fits-all f x (p .1),
@@ -75,8 +82,8 @@ module _ (S : Signature) (M : Structure S) where
       (
         possible-bottom (l .bottom) x (p .0 .possible),
         (
-          at-conjunction primitive (namesOf S (l .wanted)) x (λ n m. p .0 .held n (unlisted (l .wanted) n m)),
-          at-conjunction negation (namesOf S (l .excluded)) x (λ n m. p .0 .free n (unlisted (l .excluded) n m)),
+          conjunction-intro primitive (namesOf S (l .wanted)) x (λ n m. p .0 .held n (listed-name (l .wanted) n m)),
+          conjunction-intro negation (namesOf S (l .excluded)) x (λ n m. p .0 .free n (listed-name (l .excluded) n m)),
         ),
       ),
       fits-extension-all f x (p .1),

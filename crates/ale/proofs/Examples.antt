@@ -1,13 +1,13 @@
 -- Each theorem used once on a case of paper 01, at its signature.
---   concept-fits                      fitting is membership in the extension of the concept
---   k4-means, k4-is-normal            the normal tree means the same, and is normal
---   k7-sound                          a homomorphism, so subsumption in every structure
---   k7-refuted, k7-small              no homomorphism: the numbered countermodel fits the first and not the second, and is small
---   k8-subsumed, k8-not-subsumed      the test decides subsumption of pictures
---   k8-inAll                          over all structures, not only finite ones
---   k9-left, k9-right, k9-least       the common picture subsumes both, and is subsumed by what subsumes both
---   k9-turned, k9-grouped, k9-repeated
---   k7-lowest, k7-exists              the map that we write is a homomorphism; there is one
+--   k4-concept                                      fitting is membership in the extension of the concept
+--   k4-equivalent, k4-is-normal                     the normal tree is equivalent to the picture's, and is normal
+--   k7-sound                                        a homomorphism, so subsumption in every structure
+--   k7-refuted, k7-small                            no homomorphism: the countermodel fits the first and not the second, and is small
+--   k8-subsumed, k8-not-subsumed                    the test decides subsumption of pictures
+--   k8-inAll                                        subsumption over all structures, not only finite ones
+--   k9-left, k9-right, k9-least                     the least common subsumer subsumes both, and is subsumed by what subsumes both
+--   k9-commutative, k9-associative, k9-idempotent   in any order and grouping, with repetition
+--   k7-lowest, k7-exists                            our map by rows is a homomorphism; there is one
 use Prim.Native.Nat.{_*_, _≤_, ℕ}
 use lib.Dec.{T, lit<, lit≤, ltb}
 use lib.ListN.{length}
@@ -40,10 +40,10 @@ use Rattle.ale.proofs.Soundness.{mapsTo-sound}
 use Rattle.ale.proofs.Structures.{inAll-subsumed}
 use Rattle.ale.proofs.Subsumption.{normal-equivalent, normalTree-normal, not-subsumed, subsumed-inAll, subsumption-homomorphism}
 
-concept-fits : (M : Structure Sig) (x : M .Element) → Fits Sig M k4-normal x ↔ InExtension Sig M (conceptOf Sig k4-normal) x
-concept-fits M x = fits-concept Sig M k4-normal x
+k4-concept : (M : Structure Sig) (x : M .Element) → Fits Sig M k4-normal x ↔ InExtension Sig M (conceptOf Sig k4-normal) x
+k4-concept M x = fits-concept Sig M k4-normal x
 
--- pictures of rows that hang by roles 8 and 9
+-- pictures of one and of two rows of known roles, below an empty root
 known-one : (a : Row Sig) → T (ltb (a .role) roles) → KnownRoles Sig (picture (a ∷ []))
 known-one a t = rows-known Sig (root none ∷ a ∷ []) (lit< tt, (lit< t, tt))
 
@@ -53,15 +53,17 @@ known-two a b t u = rows-known Sig (root none ∷ a ∷ b ∷ []) (lit< tt, (lit
 k4-known : KnownRoles Sig (picture k4-rows)
 k4-known = known-two (row 0 forAll 8 three) (row 0 exists 8 five) tt tt
 
-k4-means : Equivalent Sig (meaning k4-rows) k4-normal
-k4-means = normal-equivalent Sig (picture k4-rows) k4-known 2
+k4-equivalent : Equivalent Sig (meaning k4-rows) k4-normal
+k4-equivalent = normal-equivalent Sig (picture k4-rows) k4-known 2
 
 k4-is-normal : Normal Sig k4-normal
 k4-is-normal = normalTree-normal Sig (picture k4-rows) k4-known 2
 
+-- some r {3}, some r {5}
 abbrev k7-rows : List (Row Sig)
 k7-rows = row 0 exists 8 three ∷ row 0 exists 8 five ∷ []
 
+-- some r {3,5}
 abbrev k7-narrow : List (Row Sig)
 k7-narrow = row 0 exists 8 threeFive ∷ []
 
@@ -77,27 +79,41 @@ k7-refuted = not-subsumed Sig (picture k7-rows) (picture k7-narrow) k7-known (kn
 k7-small : length (encode Sig k7-counter) ≤ 3 * 3
 k7-small = countermodel-bound Sig (picture k7-rows) (picture k7-narrow) 2 3 (lit≤ tt)
 
-abbrev k8-rows : List (Row Sig)
-k8-rows = impossible forAll ∷ []
+-- all r ⊥
+abbrev k8-bottom : List (Row Sig)
+k8-bottom = impossible forAll ∷ []
 
+-- all r {5}
 abbrev k8-value : List (Row Sig)
 k8-value = row 0 forAll 8 five ∷ []
 
+-- some r {}
 abbrev k8-some : List (Row Sig)
 k8-some = row 0 exists 8 none ∷ []
 
-k8-subsumed : Subsumed Sig (meaning k8-rows) (meaning k8-value)
-k8-subsumed = subsumption-homomorphism Sig (picture k8-rows) (picture k8-value) (known-one (impossible forAll) tt) (known-one (row 0 forAll 8 five) tt) 2 2 .1 tt
+k8-bottom-known : KnownRoles Sig (picture k8-bottom)
+k8-bottom-known = known-one (impossible forAll) tt
 
-k8-inAll : SubsumedInAll Sig (meaning k8-rows) (meaning k8-value)
-k8-inAll = subsumed-inAll Sig (picture k8-rows) (picture k8-value) (known-one (impossible forAll) tt) (known-one (row 0 forAll 8 five) tt) 2 2 k8-subsumed
+k8-value-known : KnownRoles Sig (picture k8-value)
+k8-value-known = known-one (row 0 forAll 8 five) tt
 
-k8-not-subsumed : Subsumed Sig (meaning k8-rows) (meaning k8-some) → ⊥
-k8-not-subsumed = subsumption-homomorphism Sig (picture k8-rows) (picture k8-some) (known-one (impossible forAll) tt) (known-one (row 0 exists 8 none) tt) 2 2 .0
+k8-some-known : KnownRoles Sig (picture k8-some)
+k8-some-known = known-one (row 0 exists 8 none) tt
 
+k8-subsumed : Subsumed Sig (meaning k8-bottom) (meaning k8-value)
+k8-subsumed = subsumption-homomorphism Sig (picture k8-bottom) (picture k8-value) k8-bottom-known k8-value-known 2 2 .1 tt
+
+k8-inAll : SubsumedInAll Sig (meaning k8-bottom) (meaning k8-value)
+k8-inAll = subsumed-inAll Sig (picture k8-bottom) (picture k8-value) k8-bottom-known k8-value-known 2 2 k8-subsumed
+
+k8-not-subsumed : Subsumed Sig (meaning k8-bottom) (meaning k8-some) → ⊥
+k8-not-subsumed = subsumption-homomorphism Sig (picture k8-bottom) (picture k8-some) k8-bottom-known k8-some-known 2 2 .0
+
+-- {3}, some r {4}
 abbrev first : Table Sig
 first = tableOf Sig (root three ∷ row 0 exists 8 (names 16 tt) ∷ [])
 
+-- {3,5}, some r {4,6}, some r {7}
 abbrev second : Table Sig
 second = tableOf Sig (root threeFive ∷ row 0 exists 8 (names 80 tt) ∷ row 0 exists 8 (names 128 tt) ∷ [])
 
@@ -105,7 +121,8 @@ first-known : KnownRoles Sig first
 first-known = rows-known Sig (root three ∷ row 0 exists 8 (names 16 tt) ∷ []) (lit< tt, (lit< tt, tt))
 
 second-known : KnownRoles Sig second
-second-known = rows-known Sig (root threeFive ∷ row 0 exists 8 (names 80 tt) ∷ row 0 exists 8 (names 128 tt) ∷ []) (lit< tt, (lit< tt, (lit< tt, tt)))
+second-known =
+    rows-known Sig (root threeFive ∷ row 0 exists 8 (names 80 tt) ∷ row 0 exists 8 (names 128 tt) ∷ []) (lit< tt, (lit< tt, (lit< tt, tt)))
 
 k9-left : Subsumed Sig (tree Sig first 2) k9-common
 k9-left = lcs-left Sig first second 2 2
@@ -123,14 +140,14 @@ k9-least =
 abbrev both : Table Sig → Table Sig → Table Sig
 both p q = lcsTable Sig p q 2
 
-k9-turned : Equivalent Sig (tree Sig (both first second) 2) (tree Sig (both second first) 2)
-k9-turned = lcs-commutative Sig (lit< tt) 2 first second first-known second-known
+k9-commutative : Equivalent Sig (tree Sig (both first second) 2) (tree Sig (both second first) 2)
+k9-commutative = lcs-commutative Sig (lit< tt) 2 first second first-known second-known
 
-k9-grouped : Equivalent Sig (tree Sig (both (both first second) first) 2) (tree Sig (both first (both second first)) 2)
-k9-grouped = lcs-associative Sig (lit< tt) 2 first second first first-known second-known first-known
+k9-associative : Equivalent Sig (tree Sig (both (both first second) first) 2) (tree Sig (both first (both second first)) 2)
+k9-associative = lcs-associative Sig (lit< tt) 2 first second first first-known second-known first-known
 
-k9-repeated : Equivalent Sig (tree Sig (both second second) 2) (tree Sig second 2)
-k9-repeated = lcs-idempotent Sig (lit< tt) 2 second second-known
+k9-idempotent : Equivalent Sig (tree Sig (both second second) 2) (tree Sig second 2)
+k9-idempotent = lcs-idempotent Sig (lit< tt) 2 second second-known
 
 -- the first and the second normal table
 abbrev k7-first : Table Sig
@@ -141,7 +158,8 @@ k7-second = encoded Sig (normal k7-rows)
 
 k7-lowest : IsHomomorphism Sig k7-first k7-second (image Sig k7-first k7-second)
 k7-lowest =
-    lowest-homomorphism Sig k7-first k7-second (encoded-parentsFirst Sig (normal k7-narrow)) (encoded-parentsFirst Sig (normal k7-rows)) (lit< tt) tt (lit< tt)
+    lowest-homomorphism Sig k7-first k7-second (encoded-parentsFirst Sig (normal k7-narrow)) (encoded-parentsFirst Sig (normal k7-rows))
+    (lit< tt) tt (lit< tt)
 
 k7-exists : (im : ℕ → ℕ) × IsHomomorphism Sig k7-first k7-second im
 k7-exists = encoded-homomorphism Sig (normal k7-narrow) (normal k7-rows) .1 tt

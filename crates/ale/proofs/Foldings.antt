@@ -1,9 +1,10 @@
--- However pictures are folded two at a time, the result is their least common subsumer; so the least common subsumer is associative,
--- commutative and idempotent, up to equivalence.
---   folding-subsumes    the result subsumes each table that is used
---   folding-least       and is subsumed by every tree of known roles that subsumes all of them
---   folding-equivalent  two foldings that use the same tables are equivalent
---   lcs-commutative, lcs-associative, lcs-idempotent
+-- However pictures are folded two at a time, the result is their least common subsumer. By induction on the folding: a tree of known
+-- roles subsumes two foldings put together exactly if it subsumes both. So only the set of tables that are used counts, up to
+-- equivalence, and the least common subsumer is commutative, associative and idempotent.
+--   folding-subsumes                                   the result subsumes each table that is used
+--   folding-least                                      every tree of known roles that subsumes all of them subsumes the result
+--   folding-equivalent                                 two foldings that use the same tables are equivalent
+--   lcs-commutative, lcs-associative, lcs-idempotent   so order, grouping and repetition do not count
 use Prim.Native.Nat.{_<_, suc, zero, ℕ}
 use mathlib.Core.Logic.{_↔_, inl, inr, ⊎-elim}
 use mathlib.Core.Path.{refl, subst, sym}
@@ -33,22 +34,29 @@ module _ (S : Signature) (z : 0 < S .roles) (n : ℕ) (tables : ℕ → Table S)
       (λ h. subsumed-trans S (tree S (tables i) n) (tree S q n) (lcs S p q n n) (folding-subsumes b i h) (lcs-right S p q n n))
       u)
 
-  pub folding-least : (w : Folding) (u : Tree S) → RolesKnown S u → ((i : ℕ) → Uses w i → Subsumed S (tree S (tables i) n) u) → Subsumed S (tree S (fold S n tables w) n) u
+  pub folding-least : (w : Folding) (u : Tree S) → RolesKnown S u → ((i : ℕ) → Uses w i → Subsumed S (tree S (tables i) n) u) →
+      Subsumed S (tree S (fold S n tables w) n) u
   folding-least (one i) u v h = h i refl
   folding-least (two a b) u v h =
       let p = fold S n tables a in
       let q = fold S n tables b in
       subst (λ t. Subsumed S t u) (sym (lcsTable-tree S p q n))
-      (lcs-least S p q (fold-known a) (fold-known b) n n u v (folding-least a u v (λ i h′. h i (inl h′))) (folding-least b u v (λ i h′. h i (inr h′))))
+      (lcs-least S p q (fold-known a) (fold-known b) n n u v
+      (folding-least a u v (λ i h′. h i (inl h′))) (folding-least b u v (λ i h′. h i (inr h′))))
 
-  folding-within : (v w : Folding) → ((i : ℕ) → Uses v i → Uses w i) → Subsumed S (tree S (fold S n tables v) n) (tree S (fold S n tables w) n)
+  -- a folding is subsumed by every folding that uses at least its tables
+  folding-within : (v w : Folding) → ((i : ℕ) → Uses v i → Uses w i) →
+      Subsumed S (tree S (fold S n tables v) n) (tree S (fold S n tables w) n)
   folding-within v w h =
-      folding-least v (tree S (fold S n tables w) n) (treeOf-rolesKnown S (fold S n tables w) (fold-known w) n 0) (λ i q. folding-subsumes w i (h i q))
+      let q = fold S n tables w in
+      folding-least v (tree S q n) (treeOf-rolesKnown S q (fold-known w) n 0) (λ i u. folding-subsumes w i (h i u))
 
-  pub folding-equivalent : (v w : Folding) → ((i : ℕ) → Uses v i ↔ Uses w i) → Equivalent S (tree S (fold S n tables v) n) (tree S (fold S n tables w) n)
+  pub folding-equivalent : (v w : Folding) → ((i : ℕ) → Uses v i ↔ Uses w i) →
+      Equivalent S (tree S (fold S n tables v) n) (tree S (fold S n tables w) n)
   folding-equivalent v w h = (folding-within v w (λ i. h i .0), folding-within w v (λ i. h i .1))
 
 module _ (S : Signature) (p q r : Table S) where
+  -- tables 0, 1 and 2
   abbrev three : ℕ → Table S
   three zero = p
   three (suc zero) = q
@@ -60,16 +68,20 @@ module _ (S : Signature) (p q r : Table S) where
   three-known kp kq kr (suc (suc i)) = kr
 
 module _ (S : Signature) (z : 0 < S .roles) (n : ℕ) where
-  pub lcs-commutative : (p q : Table S) → KnownRoles S p → KnownRoles S q → Equivalent S (tree S (lcsTable S p q n) n) (tree S (lcsTable S q p n) n)
+  pub lcs-commutative : (p q : Table S) → KnownRoles S p → KnownRoles S q →
+      Equivalent S (tree S (lcsTable S p q n) n) (tree S (lcsTable S q p n) n)
   lcs-commutative p q kp kq =
-      folding-equivalent S z n (three S p q q) (three-known S p q q kp kq kq) (two (one 0) (one 1)) (two (one 1) (one 0)) (λ i. (⊎-elim inr inl, ⊎-elim inr inl))
+      folding-equivalent S z n (three S p q q) (three-known S p q q kp kq kq) (two (one 0) (one 1)) (two (one 1) (one 0))
+      (λ i. (⊎-elim inr inl, ⊎-elim inr inl))
 
   pub lcs-associative : (p q r : Table S) → KnownRoles S p → KnownRoles S q → KnownRoles S r →
       Equivalent S (tree S (lcsTable S (lcsTable S p q n) r n) n) (tree S (lcsTable S p (lcsTable S q r n) n) n)
   lcs-associative p q r kp kq kr =
-      folding-equivalent S z n (three S p q r) (three-known S p q r kp kq kr) (two (two (one 0) (one 1)) (one 2)) (two (one 0) (two (one 1) (one 2)))
+      folding-equivalent S z n (three S p q r) (three-known S p q r kp kq kr)
+      (two (two (one 0) (one 1)) (one 2)) (two (one 0) (two (one 1) (one 2)))
       (λ i. (⊎-elim (⊎-elim inl (λ h. inr (inl h))) (λ h. inr (inr h)), ⊎-elim (λ h. inl (inl h)) (⊎-elim (λ h. inl (inr h)) inr)))
 
   pub lcs-idempotent : (p : Table S) → KnownRoles S p → Equivalent S (tree S (lcsTable S p p n) n) (tree S p n)
   lcs-idempotent p kp =
-      folding-equivalent S z n (three S p p p) (three-known S p p p kp kp kp) (two (one 0) (one 0)) (one 0) (λ i. (⊎-elim (λ h. h) (λ h. h), inl))
+      folding-equivalent S z n (three S p p p) (three-known S p p p kp kp kp) (two (one 0) (one 0)) (one 0)
+      (λ i. (⊎-elim (λ h. h) (λ h. h), inl))

@@ -1,7 +1,7 @@
 -- The product subsumes both trees (003, Theorem 43, parts 1 and 2): whatever fits one of them fits the product.
--- By induction on the pair: the intersected label asks for no more than either label, and each edge of the product is a pair of edges that
--- serve for it, whose end by induction is fitted by whatever fits the end of either.
---   pairRole, pairForest   the edges of a product node, for one role and for all
+-- By induction on the pair of trees: the intersected label asks for no more than either label, and each edge of the product comes from
+-- two edges, one of each tree, that both serve for it; its end is by induction fitted by whatever fits the end of either.
+--   pairRole, pairForest   the successors of a product node, for one role and for all
 --   fits-product           what fits one of the trees, whichever, fits the product
 use Prim.Native.Nat.{ℕ}
 use lib.Dec.{T}
@@ -30,18 +30,24 @@ module _ (S : Signature) (M : Structure S) where
   abbrev FitsAt : M .Element → Kind → ℕ → Tree S → Type 0
   FitsAt x = FitsEdge S M x
 
-  satisfies-intersection : (l m : Label S) (x : M .Element) → Satisfies S M l x ⊎ Satisfies S M m x → Satisfies S M (labelIntersection S l m) x
+  satisfies-intersection : (l m : Label S) (x : M .Element) → Satisfies S M l x ⊎ Satisfies S M m x →
+      Satisfies S M (labelIntersection S l m) x
   satisfies-intersection l m x p = record {
-    held = λ n h. ⊎-elim (λ c. c .held n (intersection-left S (l .wanted) (m .wanted) n h)) (λ c. c .held n (intersection-right S (l .wanted) (m .wanted) n h)) p;
-    free = λ n h. ⊎-elim (λ c. c .free n (intersection-left S (l .excluded) (m .excluded) n h)) (λ c. c .free n (intersection-right S (l .excluded) (m .excluded) n h)) p;
+    held = λ n h. ⊎-elim
+        (λ c. c .held n (intersection-left S (l .wanted) (m .wanted) n h))
+        (λ c. c .held n (intersection-right S (l .wanted) (m .wanted) n h)) p;
+    free = λ n h. ⊎-elim
+        (λ c. c .free n (intersection-left S (l .excluded) (m .excluded) n h))
+        (λ c. c .free n (intersection-right S (l .excluded) (m .excluded) n h)) p;
     possible = tt;
   }
 
-  -- each end of an edge of g that counts for (k, r), put through h, is fitted along (k, r)
+  -- x fits the restriction (k, r) to h e, for the end e of each edge of g that counts for (k, r)
   abbrev FitsCounted : Kind → ℕ → (Tree S → Tree S) → M .Element → Forest S → Type 0
   FitsCounted k r h x g = All S (λ k′ r′ e. T (edgeCounts S k r k′ r′) → FitsAt x k r (h e)) g
 
-  fits-pairEach : (k : Kind) (r : ℕ) (h : Tree S → Tree S) (x : M .Element) (g : Forest S) → FitsCounted k r h x g → All S (FitsAt x) (pairEach S k r h g)
+  fits-pairEach : (k : Kind) (r : ℕ) (h : Tree S → Tree S) (x : M .Element) (g : Forest S) → FitsCounted k r h x g →
+      All S (FitsAt x) (pairEach S k r h g)
   fits-pairEach k r h x nil p = tt
   fits-pairEach k r h x (cons k′ r′ e g) p =
       let later = pairEach S k r h g in
@@ -49,7 +55,7 @@ module _ (S : Signature) (M : Structure S) where
       chosen (All S (FitsAt x)) (edgeCounts S k r k′ r′) (consReduced S k r (h e) later) later
       (λ t. All-consReduced S (FitsAt x) k r (h e) later (p .0 t) q) (λ t. q)
 
-  -- a product node is fitted by what fits one of the two nodes, where its pairs are fitted
+  -- x fits a product node where it fits one of the two nodes and every paired successor
   fits-pair : (l m : Label S) (f g : Forest S) (x : M .Element) → Fits S M (node l f) x ⊎ Fits S M (node m g) x →
       ((k : Kind) (r : ℕ) → All S (FitsAt x) (pairAll S f k r g)) → Fits S M (product S (node l f) (node m g)) x
   fits-pair l m f g x p h =
@@ -57,13 +63,15 @@ module _ (S : Signature) (M : Structure S) where
       chosen (λ t. Fits S M t x) (l .bottom) (node m g) (pick (m .bottom) (node l f) pair)
       (λ a. ⊎-elim (λ q. absurd (clash (l .bottom) a (q .0 .possible))) (λ q. q) p) (λ a.
       chosen (λ t. Fits S M t x) (m .bottom) (node l f) pair
-      (λ b. ⊎-elim (λ q. q) (λ q. absurd (clash (m .bottom) b (q .0 .possible))) p) (λ b.
-      (satisfies-intersection l m x (⊎-map (λ q. q .0) (λ q. q .0) p), each-fits S M (pairForest S f g) x (All-byRole S (FitsAt x) (pairRole S f g) role (S .roles)))))
+      (λ b. ⊎-elim (λ q. q) (λ q. absurd (clash (m .bottom) b (q .0 .possible))) p) (λ b. (
+        satisfies-intersection l m x (⊎-map (λ q. q .0) (λ q. q .0) p),
+        each-fits S M (pairForest S f g) x (All-byRole S (FitsAt x) (pairRole S f g) fits-pairRole (S .roles)),
+      )))
     where
-      role : (r : ℕ) → All S (FitsAt x) (pairRole S f g r)
-      role r = All-append S (FitsAt x) (pairAll S f forAll r g) (pairAll S f exists r g) (h forAll r) (h exists r)
+      fits-pairRole : (r : ℕ) → All S (FitsAt x) (pairRole S f g r)
+      fits-pairRole r = All-append S (FitsAt x) (pairAll S f forAll r g) (pairAll S f exists r g) (h forAll r) (h exists r)
 
-  -- what fits along an edge that counts for (k, r) fits along (k, r), with whatever the end of the edge entails
+  -- the restriction of an edge that counts for (k, r) implies the restriction (k, r) to whatever subsumes its end
   fits-counted : (k : Kind) (r : ℕ) (k′ : Kind) (r′ : ℕ) (t u : Tree S) → T (edgeCounts S k r k′ r′) →
       ((y : M .Element) → Fits S M t y → Fits S M u y) → (x : M .Element) → FitsAt x k′ r′ t → FitsAt x k r u
   fits-counted k r k′ r′ t u c h x p =
@@ -71,14 +79,17 @@ module _ (S : Signature) (M : Structure S) where
       let b = roleServes S k r′ r in
       restriction-along S M k k′ r r′ (λ y. Fits S M t y) (λ y. Fits S M u y) (and-left a b c) (and-right a b c) h x p
 
-  counted-always : (k : Kind) (r : ℕ) (x : M .Element) (h : Tree S → Tree S) → ((e : Tree S) → FitsAt x k r (h e)) → (g : Forest S) → FitsCounted k r h x g
+  -- if x fits the first tree's edge, it fits its pair with every end; if x fits g, it fits the pairs of the edges that count
+  counted-always : (k : Kind) (r : ℕ) (x : M .Element) (h : Tree S → Tree S) → ((e : Tree S) → FitsAt x k r (h e)) →
+      (g : Forest S) → FitsCounted k r h x g
   counted-always k r x h p nil = tt
   counted-always k r x h p (cons k′ r′ e g) = (λ t. p e, counted-always k r x h p g)
 
-  counted-entailed : (k : Kind) (r : ℕ) (x : M .Element) (h : Tree S → Tree S) → ((e : Tree S) (y : M .Element) → Fits S M e y → Fits S M (h e) y) →
-      (g : Forest S) → FitsAll S M g x → FitsCounted k r h x g
-  counted-entailed k r x h u nil p = tt
-  counted-entailed k r x h u (cons k′ r′ e g) p = (λ t. fits-counted k r k′ r′ e (h e) t (u e) x (p .0), counted-entailed k r x h u g (p .1))
+  counted-subsumed : (k : Kind) (r : ℕ) (x : M .Element) (h : Tree S → Tree S) →
+      ((e : Tree S) (y : M .Element) → Fits S M e y → Fits S M (h e) y) → (g : Forest S) → FitsAll S M g x → FitsCounted k r h x g
+  counted-subsumed k r x h u nil p = tt
+  counted-subsumed k r x h u (cons k′ r′ e g) p =
+      (λ t. fits-counted k r k′ r′ e (h e) t (u e) x (p .0), counted-subsumed k r x h u g (p .1))
 
   mutual
     pub fits-product : (v w : Tree S) (x : M .Element) → Fits S M v x ⊎ Fits S M w x → Fits S M (product S v w) x
@@ -89,13 +100,15 @@ module _ (S : Signature) (M : Structure S) where
     fits-pairAll nil k r g x p = tt
     fits-pairAll (cons k′ r′ c f) k r g x p =
         let h : Tree S → Tree S = λ e. product S c e in
-        let later = fits-pairAll f k r g x (⊎-map (λ q. q .1) (λ q. q) p) in
-        chosen (All S (FitsAt x)) (edgeCounts S k r k′ r′) (append S (pairEach S k r h g) (pairAll S f k r g)) (pairAll S f k r g)
-        (λ t. All-append S (FitsAt x) (pairEach S k r h g) (pairAll S f k r g)
+        let first = pairEach S k r h g in
+        let later = pairAll S f k r g in
+        let fits-later = fits-pairAll f k r g x (⊎-map (λ q. q .1) (λ q. q) p) in
+        chosen (All S (FitsAt x)) (edgeCounts S k r k′ r′) (append S first later) later
+        (λ t. All-append S (FitsAt x) first later
         (fits-pairEach k r h x g
         (⊎-elim
         (λ q. counted-always k r x h (λ e. fits-counted k r k′ r′ c (h e) t (λ y z. fits-product c e y (inl z)) x (q .0)) g)
-        (λ q. counted-entailed k r x h (λ e y z. fits-product c e y (inr z)) g q)
+        (λ q. counted-subsumed k r x h (λ e y z. fits-product c e y (inr z)) g q)
         p))
-        later)
-        (λ t. later)
+        fits-later)
+        (λ t. fits-later)

@@ -1,4 +1,4 @@
--- The roles of a table and those of its tree.
+-- The roles of a table are those of its tree: if the one has only known roles, so has the other.
 --   KnownRows           every row of a list has a known role
 --   rows-known          such a list is a table of known roles
 --   encoded-known       a tree of known roles, encoded, is a table of known roles
@@ -34,15 +34,20 @@ module _ (S : Signature) where
 
     encodeForest-known : (f : Forest S) (p o : ℕ) → RolesKnownAll S f → KnownRows (encodeForest S f p o)
     encodeForest-known nil p o w = tt
-    encodeForest-known (cons k r t f) p o w = append-known (encodeTree S t p k r o) (encodeForest S f p (o + size S t)) (encodeTree-known t p k r o (w .0) (w .1)) (encodeForest-known f p (o + size S t) (w .2))
+    encodeForest-known (cons k r t f) p o w =
+        let e = o + size S t in
+        append-known (encodeTree S t p k r o) (encodeForest S f p e) (encodeTree-known t p k r o (w .0) (w .1)) (encodeForest-known f p e (w .2))
 
   pub encoded-known : 0 < S .roles → (t : Tree S) → RolesKnown S t → KnownRoles S (encoded S t)
   encoded-known z t w = rows-known (encode S t) (encodeTree-known t 0 exists 0 0 z w)
 
   pub treeOf-rolesKnown : (p : Table S) → KnownRoles S p → (n i : ℕ) → RolesKnown S (treeOf S p n i)
   treeOf-rolesKnown p k zero i = tt
-  treeOf-rolesKnown p k (suc n) i = go (filterBelow (successorOf S p i) (p .rows)) (λ j m. filterBelow-out (successorOf S p i) (p .rows) j m .1) (λ j. treeOf-rolesKnown p k n j)
+  treeOf-rolesKnown p k (suc n) i =
+      let q = successorOf S p i in
+      successors-known (filterBelow q (p .rows)) (λ j m. filterBelow-out q (p .rows) j m .1) (λ j. treeOf-rolesKnown p k n j)
     where
-      go : (s : List ℕ) → ((j : ℕ) → T (member j s) → j < p .rows) → ((j : ℕ) → RolesKnown S (treeOf S p n j)) → RolesKnownAll S (successors S p (λ j. treeOf S p n j) s)
-      go [] h ih = tt
-      go (j ∷ s) h ih = (k j (h j (member-head j s)), ih j, go s (λ i m. h i (member-tail i j s m)) ih)
+      successors-known : (s : List ℕ) → ((j : ℕ) → T (member j s) → j < p .rows) → ((j : ℕ) → RolesKnown S (treeOf S p n j)) →
+          RolesKnownAll S (successors S p (λ j. treeOf S p n j) s)
+      successors-known [] h ih = tt
+      successors-known (j ∷ s) h ih = (k j (h j (member-head j s)), ih j, successors-known s (λ i m. h i (member-tail i j s m)) ih)

@@ -2,8 +2,8 @@
 --   member-head, member-tail            the members of a list: its first, and those of the rest
 --   member-cons                         what is true of the first and of each of the rest is true of each
 --   filterBelow-out, filterBelow-in     the members of a filtered range are the numbers below n that pass
---   filterFrom-split                    a range filtered in two parts
---   filterFrom-none                     a range in which no number passes
+--   filterFrom-split                    the numbers of a range that pass are those of its first part, then those of the rest
+--   filterFrom-none                     a range in which no number passes gives none
 --   withRow-each                        what is true of the added row and of each row of the set is true of each
 --   withRow-self, withRow-others        the added row is a member, and so is every row of the set
 use Prim.Native.Nat.{_+_, _<_, _≤_, suc, zero, ℕ}
@@ -24,18 +24,23 @@ member-head i s = or-left (eqb i i) (member i s) (eqb-refl i)
 pub member-tail : (i j : ℕ) (s : List ℕ) → T (member i s) → T (member i (j ∷ s))
 member-tail i j s h = or-right (eqb i j) (member i s) h
 
-pub member-cons : (P : ℕ → Type 0) (j : ℕ) (s : List ℕ) → P j → ((i : ℕ) → T (member i s) → P i) → (i : ℕ) → T (member i (j ∷ s)) → P i
+pub member-cons : (P : ℕ → Type 0) (j : ℕ) (s : List ℕ) → P j → ((i : ℕ) → T (member i s) → P i) →
+    (i : ℕ) → T (member i (j ∷ s)) → P i
 member-cons P j s p q i h = ⊎-elim (λ e. subst P (sym (eqb→eq i j e)) p) (λ m. q i m) (or-split (eqb i j) (member i s) h)
 
-filterFrom-out : (q : ℕ → Bool) (o n j : ℕ) → T (member j (filterFrom q o n)) → T (q j) × (o ≤ j) × (j < o + n)
+-- j is one of the n numbers from o on, and passes
+abbrev PassesIn : (ℕ → Bool) → ℕ → ℕ → ℕ → Type 0
+PassesIn q o n j = T (q j) × (o ≤ j) × (j < o + n)
+
+filterFrom-out : (q : ℕ → Bool) (o n j : ℕ) → T (member j (filterFrom q o n)) → PassesIn q o n j
 filterFrom-out q o zero j h = absurd h
 filterFrom-out q o (suc n) j h =
     let s = filterFrom q (suc o) n in
-    let later : T (member j s) → T (q j) × (o ≤ j) × (j < o + suc n) = λ m. let (a, b, c) = filterFrom-out q (suc o) n j m in (a, omega arith, omega arith) in
-    chosen (λ z. T (member j z) → T (q j) × (o ≤ j) × (j < o + suc n)) (q o) (o ∷ s) s
+    let later : T (member j s) → PassesIn q o (suc n) j = λ m. let (a, b, c) = filterFrom-out q (suc o) n j m in (a, omega arith, omega arith) in
+    chosen (λ z. T (member j z) → PassesIn q o (suc n) j) (q o) (o ∷ s) s
     (λ t m. ⊎-elim (λ e. first t (eqb→eq j o e)) later (or-split (eqb j o) (member j s) m)) (λ t. later) h
   where
-    first : T (q o) → j ≡ o → T (q j) × (o ≤ j) × (j < o + suc n)
+    first : T (q o) → j ≡ o → PassesIn q o (suc n) j
     first t e = (subst (λ i. T (q i)) (sym e) t, omega arith, omega arith)
 
 filterFrom-in : (q : ℕ → Bool) (o n j : ℕ) → T (q j) → o ≤ j → j < o + n → T (member j (filterFrom q o n))
@@ -43,8 +48,10 @@ filterFrom-in q o zero j t a l = absurd (omega arith)
 filterFrom-in q o (suc n) j t a l =
     let s = filterFrom q (suc o) n in
     ⊎-elim
-    (λ e. chosen-first (λ z. T (member j z)) (q o) (o ∷ s) s (subst (λ i. T (q i)) (sym e) t) (subst (λ i. T (member i (o ∷ s))) e (member-head o s)))
-    (λ b. let m = filterFrom-in q (suc o) n j t b (omega arith) in chosen (λ z. T (member j z)) (q o) (o ∷ s) s (λ _. member-tail j o s m) (λ _. m))
+    (λ e. chosen-first (λ z. T (member j z)) (q o) (o ∷ s) s
+    (subst (λ i. T (q i)) (sym e) t) (subst (λ i. T (member i (o ∷ s))) e (member-head o s)))
+    (λ b. let m = filterFrom-in q (suc o) n j t b (omega arith) in
+    chosen (λ z. T (member j z)) (q o) (o ∷ s) s (λ _. member-tail j o s m) (λ _. m))
     (eq-or-lt-of-le {n = o} {m = j} a)
 
 pub filterBelow-out : (q : ℕ → Bool) (n j : ℕ) → T (member j (filterBelow q n)) → T (q j) × (j < n)
@@ -55,9 +62,12 @@ filterBelow-in q n j t l = filterFrom-in q 0 n j t (omega arith) (omega arith)
 
 pub filterFrom-split : (q : ℕ → Bool) (o m n t e : ℕ) → t ≡ m + n → e ≡ o + m → filterFrom q o t ≡ filterFrom q o m ++ filterFrom q e n
 filterFrom-split q o zero n t e p r =
-    ap (λ z. filterFrom q o z) (let h : t ≡ n = omega arith in h) ∙ ap (λ z. filterFrom q z n) (let h : o ≡ e = omega arith in h)
+    let whole : t ≡ n = omega arith in
+    let start : o ≡ e = omega arith in
+    ap (λ z. filterFrom q o z) whole ∙ ap (λ z. filterFrom q z n) start
 filterFrom-split q o (suc m) n t e p r =
-    subst (λ z. filterFrom q o z ≡ filterFrom q o (suc m) ++ filterFrom q e n) (let h : suc (m + n) ≡ t = omega arith in h)
+    let whole : suc (m + n) ≡ t = omega arith in
+    subst (λ z. filterFrom q o z ≡ filterFrom q o (suc m) ++ filterFrom q e n) whole
     (step (q o) (filterFrom-split q (suc o) m n (m + n) e refl (omega arith)))
   where
     step : (b : Bool) → filterFrom q (suc o) (m + n) ≡ filterFrom q (suc o) m ++ filterFrom q e n →
@@ -74,7 +84,8 @@ filterFrom-none q o (suc n) h =
     (λ t. absurd (clash (q o) t (h o (omega arith) (omega arith))))
     (λ t. filterFrom-none q (suc o) n (λ j a b. h j (omega arith) (omega arith)))
 
-pub withRow-each : (P : ℕ → Type 0) (n c : ℕ) (s : List ℕ) → P c → ((i : ℕ) → T (member i s) → P i) → (i : ℕ) → T (member i (withRow n c s)) → P i
+pub withRow-each : (P : ℕ → Type 0) (n c : ℕ) (s : List ℕ) → P c → ((i : ℕ) → T (member i s) → P i) →
+    (i : ℕ) → T (member i (withRow n c s)) → P i
 withRow-each P n c s p q i m = member-cons P c s p q i (filterBelow-out (λ j. eqb j c || member j s) n i m .0)
 
 pub withRow-self : (n c : ℕ) (s : List ℕ) → c < n → T (member c (withRow n c s))

@@ -1,12 +1,13 @@
--- Pictures: one is subsumed by another exactly if the other's normal tree maps to its own (003, Theorem 41). Soundness holds of any trees; for
--- completeness the normal tree is saturated and reduced, so that the countermodel refutes. Both trees mean what their pictures mean.
+-- One picture is subsumed by another exactly if the other's normal tree maps to its own (003, Theorem 41). Each normal tree is
+-- equivalent to its picture's tree, so the question is one about normal trees. There a homomorphism is sound for any trees; and where
+-- there is none, the countermodel refutes subsumption, because the normal tree of p is saturated and that of q is reduced.
 --   tree-normal, normal-tree       whatever fits the picture's tree fits the normal tree, and the reverse, in every structure
---   normal-equivalent              so they are equivalent
+--   normal-equivalent              so the two are equivalent
 --   normalTree-normal              the normal tree is normal
 --   subsumption-homomorphism       p ⊑ q exactly if the normal tree of q maps to that of p
---   subsumed-decidable             so it is decidable
+--   subsumed-decidable             so subsumption is decidable
 --   subsumed-inAll                 subsumption over finite interpretations is subsumption over all structures
---   not-subsumed                   if it does not map, individual 0 of the numbered countermodel fits p and not q
+--   not-subsumed                   if it does not map, individual 0 of the numbered countermodel fits p's tree and not q's
 use Prim.Native.Nat.{ℕ}
 use lib.Dec.{T}
 use mathlib.Core.Bool.{not}
@@ -40,7 +41,10 @@ module _ (S : Signature) where
   normal-tree p k n M x f = normalOf-fits S p k M n (0 ∷ []) x f 0 (member-head 0 [])
 
   pub normal-equivalent : (p : Table S) → KnownRoles S p → (n : ℕ) → Equivalent S (tree S p n) (normalTree S p n)
-  normal-equivalent p k n = (inAll-subsumed S (tree S p n) (normalTree S p n) (tree-normal p n), inAll-subsumed S (normalTree S p n) (tree S p n) (normal-tree p k n))
+  normal-equivalent p k n =
+      let t = tree S p n in
+      let v = normalTree S p n in
+      (inAll-subsumed S t v (tree-normal p n), inAll-subsumed S v t (normal-tree p k n))
 
   pub normalTree-normal : (p : Table S) → KnownRoles S p → (n : ℕ) → Normal S (normalTree S p n)
   normalTree-normal p k n = record {
@@ -51,17 +55,17 @@ module _ (S : Signature) where
   }
 
 module _ (S : Signature) (p q : Table S) (kp : KnownRoles S p) (kq : KnownRoles S q) (n m : ℕ) where
-  -- the trees of the pictures, and their normal trees
+  -- the normal trees of p and of q
   abbrev v : Tree S
   v = normalTree S p n
 
   abbrev d : Tree S
   d = normalTree S q m
 
-  mapsTo-inAll : T (mapsTo S (normalTree S q m) (normalTree S p n)) → SubsumedInAll S (tree S p n) (tree S q m)
+  mapsTo-inAll : T (mapsTo S d v) → SubsumedInAll S (tree S p n) (tree S q m)
   mapsTo-inAll t M x f = normal-tree S q kq m M x (mapsTo-sound S d v t M x (tree-normal S p n M x f))
 
-  subsumed-normal : Subsumed S (tree S p n) (tree S q m) → T (mapsTo S (normalTree S q m) (normalTree S p n))
+  subsumed-normal : Subsumed S (tree S p n) (tree S q m) → T (mapsTo S d v)
   subsumed-normal c =
       subsumed-mapsTo S d v (normalTree-normal S q kq m .reduced) (normalTree-normal S p kp n .saturated)
       (λ I x l f. tree-normal S q m (structureOf S I) x (c I x l (normal-tree S p kp n (structureOf S I) x f)))
@@ -70,12 +74,16 @@ module _ (S : Signature) (p q : Table S) (kp : KnownRoles S p) (kq : KnownRoles 
   subsumption-homomorphism = (subsumed-normal, λ t. inAll-subsumed S (tree S p n) (tree S q m) (mapsTo-inAll t))
 
   pub subsumed-decidable : Dec (Subsumed S (tree S p n) (tree S q m))
-  subsumed-decidable = ⊎-elim (λ t. yes (subsumption-homomorphism .1 t)) (λ t. no (λ c. clash (mapsTo S d v) (subsumed-normal c) t)) (decide (mapsTo S d v))
+  subsumed-decidable =
+      let test = mapsTo S d v in
+      ⊎-elim (λ t. yes (subsumption-homomorphism .1 t)) (λ t. no (λ c. clash test (subsumed-normal c) t)) (decide test)
 
   pub subsumed-inAll : Subsumed S (tree S p n) (tree S q m) → SubsumedInAll S (tree S p n) (tree S q m)
   subsumed-inAll c = mapsTo-inAll (subsumed-normal c)
 
-  pub not-subsumed : T (not (mapsTo S (normalTree S q m) (normalTree S p n))) → let I = structureOf S (numbered S (countermodel S (normalTree S q m) (normalTree S p n))) in Fits S I (tree S p n) 0 × (Fits S I (tree S q m) 0 → ⊥)
+  pub not-subsumed : T (not (mapsTo S (normalTree S q m) (normalTree S p n))) →
+      let I = structureOf S (numbered S (countermodel S (normalTree S q m) (normalTree S p n))) in
+      Fits S I (tree S p n) 0 × (Fits S I (tree S q m) 0 → ⊥)
   not-subsumed t =
       let I = structureOf S (numbered S (countermodel S d v)) in
       let (a, b) = countermodel-refutes S d v (normalTree-normal S q kq m .reduced) (normalTree-normal S p kp n .saturated) t in
