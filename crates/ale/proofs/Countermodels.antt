@@ -201,9 +201,10 @@ module _ (S : Signature) where
         let c : ℕ → Tree S → Tree S = λ r c. canonical S c in (
           λ s. fits-realized g s (cons exists r (h a) (canonicalAll S g))
               (realizes-more g s (canonicalAll S g) r (h a)
-              (subst (λ cs. All S (Realizes (individual S s cs)) g) (canonical-realize g) (realize-realizes c g s p)))
-              (propagated-fitsValues g r a (h a) (t .into-forAll r) (z .0),
-              subst (λ cs. AllChildren S (λ r y. FitsValues g r y) cs) (canonical-realize g) (realize-fitsValues g c g p (t .into-exists))),
+              (subst (λ cs. All S (Realizes (individual S s cs)) g) (canonical-realize g) (realize-realizes c g s p))) (
+                propagated-fitsValues g r a (h a) (t .into-forAll r) (z .0),
+                subst (λ cs. AllChildren S (λ r y. FitsValues g r y) cs) (canonical-realize g) (realize-fitsValues g c g p (t .into-exists)),
+              ),
           λ s f. z .1 (f (h a) (inl (S .subrole-refl r, refl))),
         )
 

@@ -1,4 +1,5 @@
 -- Each theorem used once on a case of paper 01, at its signature.
+--   k1-covers                                       one empty row subsumes every picture
 --   k4-concept                                      fitting is membership in the extension of the concept
 --   k4-equivalent, k4-is-normal                     the normal tree is equivalent to the picture's, and is normal
 --   k7-sound                                        a homomorphism, so subsumption in every structure
@@ -23,22 +24,26 @@ use Rattle.ale.specs.Product.{lcsTable}
 use Rattle.ale.specs.RowMap.{IsHomomorphism, image}
 use Rattle.ale.specs.Structure.{Fits, Structure, SubsumedInAll}
 use Rattle.ale.specs.Table.{KnownRoles, Table, tree}
-use Rattle.ale.specs.Tree.{exists, forAll}
+use Rattle.ale.specs.Tree.{Tree, exists, forAll}
+use Rattle.ale.proofs.CasesCountermodel.{k7-counter}
+use Rattle.ale.proofs.CasesNormal.{impossible, k4-normal, k4-rows, meaning, normal, picture, root, row}
+use Rattle.ale.proofs.CasesProduct.{k9-common}
 use Rattle.ale.proofs.CasesTree.{Sig, five, leaf, names, none, three, threeFive}
 use Rattle.ale.proofs.CommonSubsumers.{lcs-least, lcs-left, lcs-right}
 use Rattle.ale.proofs.Concepts.{fits-concept}
-use Rattle.ale.proofs.CasesCountermodel.{k7-counter}
 use Rattle.ale.proofs.Encodings.{encoded-parentsFirst}
 use Rattle.ale.proofs.Foldings.{lcs-associative, lcs-commutative, lcs-idempotent}
+use Rattle.ale.proofs.Forests.{trivial-fits}
 use Rattle.ale.proofs.LowestMap.{lowest-homomorphism}
 use Rattle.ale.proofs.MapExistence.{encoded-homomorphism}
-use Rattle.ale.proofs.CasesNormal.{impossible, k4-normal, k4-rows, meaning, normal, picture, root, row}
-use Rattle.ale.proofs.CasesProduct.{k9-common}
 use Rattle.ale.proofs.RoleLaws.{rows-known}
 use Rattle.ale.proofs.Sizes.{countermodel-bound}
 use Rattle.ale.proofs.Soundness.{mapsTo-sound}
 use Rattle.ale.proofs.Structures.{inAll-subsumed}
 use Rattle.ale.proofs.Subsumption.{normal-equivalent, normalTree-normal, not-subsumed, subsumed-inAll, subsumption-homomorphism}
+
+k1-covers : (t : Tree Sig) → SubsumedInAll Sig t (meaning [])
+k1-covers t M x f = trivial-fits Sig M (meaning []) tt x
 
 k4-concept : (M : Structure Sig) (x : M .Element) → Fits Sig M k4-normal x ↔ InExtension Sig M (conceptOf Sig k4-normal) x
 k4-concept M x = fits-concept Sig M k4-normal x
@@ -104,7 +109,7 @@ k8-subsumed : Subsumed Sig (meaning k8-bottom) (meaning k8-value)
 k8-subsumed = subsumption-homomorphism Sig (picture k8-bottom) (picture k8-value) k8-bottom-known k8-value-known 2 2 .1 tt
 
 k8-inAll : SubsumedInAll Sig (meaning k8-bottom) (meaning k8-value)
-k8-inAll = subsumed-inAll Sig (picture k8-bottom) (picture k8-value) k8-bottom-known k8-value-known 2 2 k8-subsumed
+k8-inAll = subsumed-inAll Sig (picture k8-bottom) (picture k8-value) k8-bottom-known k8-value-known 2 2 .0 k8-subsumed
 
 k8-not-subsumed : Subsumed Sig (meaning k8-bottom) (meaning k8-some) → ⊥
 k8-not-subsumed = subsumption-homomorphism Sig (picture k8-bottom) (picture k8-some) k8-bottom-known k8-some-known 2 2 .0

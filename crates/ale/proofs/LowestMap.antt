@@ -82,7 +82,7 @@ module _ (S : Signature) (p q : Table S) where
       let g = successors S p (λ x. treeOf S p m x) (successorRows S p u) in
       let a = labelWithin S (q .label j) (p .label u) in
       let e : T (a && mapsAllTo S f g) =
-          ⊎-elim (λ t. absurd (clash (bottomAt S p u) t k)) (λ t. t) (or-split (bottomAt S p u) (a && mapsAllTo S f g) w) in
+      ⊎-elim (λ t. absurd (clash (bottomAt S p u) t k)) (λ t. t) (or-split (bottomAt S p u) (a && mapsAllTo S f g) w) in
       let d = filterBelow-in (successorOf S q j) (q .rows) i (successor-intro S q j i z refl) b in
       let h = mapsAllTo-at (λ x. treeOf S q n x) (successorRows S q j) g (and-right a (mapsAllTo S f g) e) i d in
       let (v, y, t) = any-row (edgeServes S (q .kind i) (q .role i) (λ c. mapsTo S (treeOf S q n i) c)) (λ x. treeOf S p m x) (successorRows S p u) h in

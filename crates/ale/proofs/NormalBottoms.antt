@@ -50,8 +50,8 @@ module _ (S : Signature) where
     product-canonical (node l f) (node m g) a b =
         let both = node (labelIntersection S l m) (pairForest S f g) in
         let role : (r : ℕ) → All S CanonicalEdge (pairRole S f g r) = λ r.
-            All-append S CanonicalEdge (pairAll S f forAll r g) (pairAll S f exists r g)
-            (pairAll-canonical f forAll r g (a .1) (b .1)) (pairAll-canonical f exists r g (a .1) (b .1)) in
+        All-append S CanonicalEdge (pairAll S f forAll r g) (pairAll S f exists r g)
+        (pairAll-canonical f forAll r g (a .1) (b .1)) (pairAll-canonical f exists r g (a .1) (b .1)) in
         let c = each-canonical (pairForest S f g) (All-byRole S CanonicalEdge (pairRole S f g) role (S .roles)) in
         chosen (λ t. CanonicalBottom S t) (l .bottom) (node m g) (pick (m .bottom) (node l f) both) (λ _. b) (λ _.
         chosen (λ t. CanonicalBottom S t) (m .bottom) (node l f) both (λ _. a) (λ _. (λ x. absurd x, c)))

@@ -1,8 +1,10 @@
 -- Fitting, successor by successor.
 --   FitsEdge               an element fits the restriction of one edge
+--   restriction-map        a restriction is kept where what it asks of the ends is
 --   fits-each, each-fits   it fits a forest exactly if it fits the restriction of each edge
 --   satisfies-emptyLabel   every element satisfies the empty label
 --   inAll-subsumed         subsumption in all structures implies subsumption in the finite interpretations
+--   subsumed-trans         subsumption is transitive
 use Prim.Native.Nat.{ℕ}
 use Rattle.ale.specs.Interpretation.{Subsumed, structureOf}
 use Rattle.ale.specs.Signature.{Signature}

@@ -78,8 +78,8 @@ module _ (S : Signature) (p q : Table S) (kp : KnownRoles S p) (kq : KnownRoles 
       let test = mapsTo S d v in
       ⊎-elim (λ t. yes (subsumption-homomorphism .1 t)) (λ t. no (λ c. clash test (subsumed-normal c) t)) (decide test)
 
-  pub subsumed-inAll : Subsumed S (tree S p n) (tree S q m) → SubsumedInAll S (tree S p n) (tree S q m)
-  subsumed-inAll c = mapsTo-inAll (subsumed-normal c)
+  pub subsumed-inAll : Subsumed S (tree S p n) (tree S q m) ↔ SubsumedInAll S (tree S p n) (tree S q m)
+  subsumed-inAll = (λ c. mapsTo-inAll (subsumed-normal c), inAll-subsumed S (tree S p n) (tree S q m))
 
   pub not-subsumed : T (not (mapsTo S (normalTree S q m) (normalTree S p n))) →
       let I = structureOf S (numbered S (countermodel S (normalTree S q m) (normalTree S p n))) in

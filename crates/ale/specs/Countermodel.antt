@@ -3,7 +3,7 @@
 --   individual             one individual, from its names and its successors
 --   realize                an individual for each some-successor
 --   canonical              003, Definition 36: the canonical model of a tree, where only its wanted names hold
---   falsify                successors that fit g and break one edge (k, r) of d, where h gives the countermodel of its end
+--   falsify                successors that fit g and not one edge (k, r) of d, where h gives the countermodel of its end
 --   countermodel           individuals that fit v and not d; `countermodel d v`
 --   reached                01, "Evidence": each later individual is reached from its parent by its role, and no other pairs exist
 --   interpretationOf       a table of individuals as an interpretation
@@ -53,7 +53,7 @@ module _ (S : Signature) where
         (individual (S .complement (m .excluded)) (canonicalAll g)))
         (individual (m .wanted) (canonicalAll g))
 
-    -- the first edge that does not map is broken
+    -- the first edge that does not map is the one not fitted
     pub falsifyAll : Forest S → Forest S → Forest S
     falsifyAll nil g = canonicalAll g
     falsifyAll (cons k r d f) g =

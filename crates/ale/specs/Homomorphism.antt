@@ -1,7 +1,7 @@
 -- 003, Definition 39 by recursion: whether a tree d maps to a tree v, root to root.
 --   roleServes    an edge of role r′ serves for one of role r: a some-edge of an included role, an all-edge of the same role
 --   edgeServes    an edge of v serves for an edge (k, r) of d whose end passes p
---   labelWithin   the names of the first label are names of the second, and it is not ⊥
+--   labelWithin   the names of the first label are names of the second, and the first is not ⊥
 --   mapsTo        v's root is ⊥ (it takes everything), or its label carries d's and each edge of d is served by an edge of v
 use Prim.Native.Nat.{ℕ}
 use lib.Dec.{eqb}

@@ -1,7 +1,7 @@
 -- 01, "The file": a table by row number, whatever it is read from, and the tree that hangs from a row.
 --   Table          the number of rows, and for each row its parent, kind, role and label
 --   successorOf    row j hangs from row i (row 0 hangs from none)
---   treeOf         the tree of a row, its successors in row order, down to a depth; at the depth limit nothing is cut off
+--   treeOf         the tree of a row, its successors in row order, down to a depth; the depth limit cuts nothing off
 --   tree           the tree of a picture: that of row 0
 --   ParentsFirst   question 11: a parent stands before its row
 --   KnownRoles     question 10: roles are below the number of roles
