@@ -19,7 +19,7 @@ use Rattle.ale.specs.NormalForm.{IfExists, IfForAll, NodeSaturated, Prop
 use Rattle.ale.specs.Signature.{Signature}
 use Rattle.ale.specs.Structure.{Fits, FitsAll, Restriction, Satisfies}
 use Rattle.ale.specs.Tree.{All, Forest, Kind, Label, Tree, any, cons, exists, forAll, labelOf, nil, node, top}
-use Rattle.ale.proofs.NameLaws.{complement-in, complement-out}
+use Rattle.ale.proofs.NameLaws.{complement-in, complement-out, subset-fails}
 use Rattle.ale.proofs.NormalForms.{saturated-top, trivial-mapsTo, valueOf-elim}
 use Rattle.ale.proofs.Tests.{and-fails, clash, or-fails-left, or-fails-right, refute}
 use Rattle.ale.proofs.TreeStructure.{AllChildren, children-at, treeStructure}
@@ -225,7 +225,7 @@ module _ (S : Signature) where
         Refutes (node m g) (node l f) (nodeModel (S .subset (l .wanted) (m .wanted)) (S .subset (l .excluded) (m .excluded)))
     node-refutes =
         go (S .subset (l .wanted) (m .wanted)) (S .subset (l .excluded) (m .excluded))
-        (S .subset-fails (l .wanted) (m .wanted)) (S .subset-fails (l .excluded) (m .excluded))
+        (subset-fails S (l .wanted) (m .wanted)) (subset-fails S (l .excluded) (m .excluded))
       where
         go : (a b : Bool) → (T (not a) → Missing (l .wanted) (m .wanted)) → (T (not b) → Missing (l .excluded) (m .excluded)) →
             T (not ((a && (b && not (l .bottom))) && mapsAllTo S f g)) → Refutes (node m g) (node l f) (nodeModel a b)

@@ -23,8 +23,8 @@ use Rattle.ale.specs.Signature.{Signature}
 use Rattle.ale.specs.Structure.{Fits, SubsumedInAll}
 use Rattle.ale.specs.Table.{KnownRoles, Table, tree, treeOf}
 use Rattle.ale.specs.Tree.{Tree}
-use Rattle.ale.proofs.NormalBottoms.{tidy-canonical}
 use Rattle.ale.proofs.Completeness.{countermodel-refutes, subsumed-mapsTo}
+use Rattle.ale.proofs.NormalBottoms.{tidy-canonical}
 use Rattle.ale.proofs.Normalizing.{fits-normalOf, normalOf-fits, normalOf-saturated}
 use Rattle.ale.proofs.Orderings.{merged-ordered, tidy-ordered}
 use Rattle.ale.proofs.RowLists.{member-cons, member-head}

@@ -17,7 +17,7 @@ use Rattle.ale.specs.Signature.{Signature}
 use Rattle.ale.specs.Structure.{Fits, FitsAll, Satisfies, Structure}
 use Rattle.ale.specs.Tree.{Forest, Kind, Label, Tree, any, bottomTree, cons, exists, forAll, labelOf, nil, node}
 use Rattle.ale.proofs.Forests.{consReduced-fits, fits-consReduced, reduced-consReduced}
-use Rattle.ale.proofs.NameLaws.{intersection-left, intersection-right}
+use Rattle.ale.proofs.NameLaws.{intersection-left, intersection-right, subset-fails}
 use Rattle.ale.proofs.Structures.{FitsEdge, fits-each, restriction-map}
 use Rattle.ale.proofs.Tests.{chosen, clash, or-split}
 use Rattle.ale.proofs.Trees.{All-Any, any-Any}
@@ -43,7 +43,7 @@ module _ (S : Signature) (M : Structure S) where
       let d = any S (bottomExists S) f in
       ⊎-elim (λ m. clash (l .bottom) m (c .possible))
       (λ q. ⊎-elim
-      (λ n. let (i, h, o) = S .subset-fails overlapping (S .none) n in
+      (λ n. let (i, h, o) = subset-fails S overlapping (S .none) n in
       c .free i (intersection-right S (l .wanted) (l .excluded) i h) (c .held i (intersection-left S (l .wanted) (l .excluded) i h)))
       (λ n. All-Any S (FitsEdge S M x) (λ k r t. T (bottomExists S k r t)) ⊥ bottomExists-fits f (fits-each S M f x p) (any-Any S (bottomExists S) f n))
       (or-split (not s) d q))

@@ -9,7 +9,7 @@ use lib.Dec.{T, eqb, eqb→eq, eqb-refl, ltb, ltb→lt, lt→ltb}
 use Rattle.table.specs.Layout as Layout
 use Rattle.table.specs.Layout.{nameCount}
 use Rattle.table.specs.NameSet as Set
-use Rattle.table.proofs.Bools.{is-true, is-false, true-is, false-is}
+use Rattle.table.proofs.Bools.{is-true, true-is}
 use Rattle.table.proofs.NameSets as Laws
 use Rattle.ale.specs.Signature.{Signature}
 
@@ -37,11 +37,6 @@ subset-from a b h =
     true-is (Set.subset (a .set) (b .set))
     (Laws.has-subset (a .set) (b .set) (λ n e. is-true (Set.has (b .set) n) (h n (true-is (Set.has (a .set) n) e))))
 
-pub subset-lacks : (a b : NameSet) → T (not (Set.subset (a .set) (b .set))) → (n : ℕ) × T (Set.has (a .set) n) × T (not (Set.has (b .set) n))
-subset-lacks a b t =
-    let (n, x, y) = Laws.subset-not (a .set) (b .set) (is-false (Set.subset (a .set) (b .set)) t) in
-    (n, true-is (Set.has (a .set) n) x, false-is (Set.has (b .set) n) y)
-
 -- over any role inclusion
 module _ (subrole : ℕ → ℕ → Bool) (subrole-refl : (r : ℕ) → T (subrole r r))
     (subrole-trans : (r s t : ℕ) → T (subrole r s) → T (subrole s t) → T (subrole r t))
@@ -63,7 +58,6 @@ module _ (subrole : ℕ → ℕ → Bool) (subrole-refl : (r : ℕ) → T (subro
     has-complement = complement-has;
     subset-has = subset-to;
     subset-intro = subset-from;
-    subset-fails = subset-lacks;
     roles = Layout.roles;
     subrole = subrole;
     subrole-refl = subrole-refl;

@@ -2,8 +2,8 @@
 --   Names, names                       sets of names; names are the numbers below `names`
 --   has, none, union, intersection, complement, subset
 --                                      sets by membership, each with its law
---   roles, subrole                     roles are the numbers below `roles`; `subrole r s`: a pair of r is a pair of s
--- In paper 01 a role is a subrole of itself only (01, "What a picture means").
+--   roles, subrole                     roles are the numbers below `roles`; `subrole r s`: a pair of r is a pair of s (over all numbers, reflexive and transitive)
+-- In paper 01 a role is a subrole of itself only.
 use Prim.Native.Nat.{_<_, ℕ}
 use lib.Dec.{T}
 use mathlib.Core.Bool.{Bool, _&&_, _||_, false, not}
@@ -25,7 +25,6 @@ pub record Signature : Type 1 where
   pub has-complement : (a : Names) (n : ℕ) → n < names → has (complement a) n ≡ not (has a n)
   pub subset-has : (a b : Names) → T (subset a b) → (n : ℕ) → T (has a n) → T (has b n)
   pub subset-intro : (a b : Names) → ((n : ℕ) → T (has a n) → T (has b n)) → T (subset a b)
-  pub subset-fails : (a b : Names) → T (not (subset a b)) → (n : ℕ) × T (has a n) × T (not (has b n))
   pub roles : ℕ
   pub subrole : ℕ → ℕ → Bool
   pub subrole-refl : (r : ℕ) → T (subrole r r)
