@@ -11,7 +11,7 @@ use lib.Dec.{T}
 use lib.ListN.{length}
 use mathlib.Core.Bool.{not}
 use mathlib.Core.Logic.{_↔_, ⊎-elim}
-use mathlib.Core.Path.{_≡_, subst, sym}
+use mathlib.Core.Path.{subst, sym}
 use native.Mathlib.Omega.{arith}
 use Rattle.ale.specs.Countermodel.{countermodel, encoded-inhabited, numbered}
 use Rattle.ale.specs.Encoding.{encode, encoded}
@@ -20,11 +20,10 @@ use Rattle.ale.specs.Interpretation.{Subsumed, structureOf}
 use Rattle.ale.specs.NormalForm.{Reduced, Saturated}
 use Rattle.ale.specs.Signature.{Signature}
 use Rattle.ale.specs.Structure.{Fits}
-use Rattle.ale.specs.Table.{treeOf}
 use Rattle.ale.specs.Tree.{Tree, exists, height, size}
 use Rattle.ale.proofs.CountermodelSize.{countermodel-size}
 use Rattle.ale.proofs.Countermodels.{countermodel-complete}
-use Rattle.ale.proofs.Encodings.{encodeTree-length, encoded-parentsFirst, encoded-tree, height-size}
+use Rattle.ale.proofs.Encodings.{encodeTree-length, encoded-back, encoded-parentsFirst}
 use Rattle.ale.proofs.Individuals.{fits-numbered-table, numbered-table-fits}
 use Rattle.ale.proofs.Soundness.{mapsTo-sound}
 use Rattle.ale.proofs.Structures.{inAll-subsumed}
@@ -32,17 +31,14 @@ use Rattle.ale.proofs.Tests.{decide}
 use Rattle.ale.proofs.TreeStructure.{treeStructure}
 
 module _ (S : Signature) where
-  pub encoded-back : (b : Tree S) → treeOf S (encoded S b) (length (encode S b)) 0 ≡ b
-  encoded-back b = encoded-tree S b (length (encode S b)) (omega (arith, encodeTree-length S b 0 exists 0 0, height-size S b))
-
   pub fits-numbered : (b t : Tree S) → Fits S (treeStructure S) t b → Fits S (structureOf S (numbered S b)) t 0
   fits-numbered b t f =
       fits-numbered-table S (encoded S b) (encoded-inhabited S b) (encoded-parentsFirst S b) t
-      (subst (λ z. Fits S (treeStructure S) t z) (sym (encoded-back b)) f)
+      (subst (λ z. Fits S (treeStructure S) t z) (sym (encoded-back S b)) f)
 
   pub numbered-fits : (b t : Tree S) → Fits S (structureOf S (numbered S b)) t 0 → Fits S (treeStructure S) t b
   numbered-fits b t f =
-      subst (λ z. Fits S (treeStructure S) t z) (encoded-back b)
+      subst (λ z. Fits S (treeStructure S) t z) (encoded-back S b)
       (numbered-table-fits S (encoded S b) (encoded-inhabited S b) (encoded-parentsFirst S b) t f)
 
   pub countermodel-refutes : (d v : Tree S) → Reduced S d → Saturated S v → T (not (mapsTo S d v)) →

@@ -9,8 +9,8 @@ use Rattle.ale.specs.Rows.{filterBelow, member}
 use Rattle.ale.specs.Signature.{Signature}
 use Rattle.ale.specs.Table.{Table, successorOf, successors, treeOf}
 use Rattle.ale.specs.Tree.{Tree, cons, node}
-use Rattle.ale.proofs.Individuals.{successor-nonzero, successor-parent}
 use Rattle.ale.proofs.RowLists.{filterBelow-out, filterFrom-none, member-head, member-tail}
+use Rattle.ale.proofs.TableLaws.{successor-nonzero, successor-parent}
 use Rattle.ale.proofs.Tests.{refute}
 
 module _ (S : Signature) (p : Table S) where

@@ -22,10 +22,10 @@ use native.Mathlib.Omega.{arith}
 use Rattle.ale.specs.Encoding.{Row, encode, encodeForest, encodeTree, encoded, noRow, tableOf}
 use Rattle.ale.specs.Rows.{filterFrom}
 use Rattle.ale.specs.Signature.{Signature}
-use Rattle.ale.specs.Table.{ParentsFirst, Table, successorOf, successors, treeOf}
+use Rattle.ale.specs.Table.{ParentsFirst, Table, successorOf, successorRows, successors, treeOf}
 use Rattle.ale.specs.Tree.{Forest, Kind, Label, Tree, cons, exists, height, heights, labelOf, nil, node, size, sizes}
-use Rattle.ale.proofs.Individuals.{successor-above, successor-intro, successor-parent, successorRows}
 use Rattle.ale.proofs.RowLists.{filterFrom-none, filterFrom-split}
+use Rattle.ale.proofs.TableLaws.{successor-above, successor-intro, successor-parent}
 use Rattle.ale.proofs.Tests.{chosen-first, refute}
 
 data Order (a b : ℕ) : Type 0 where
@@ -241,3 +241,7 @@ module _ (S : Signature) where
     heights-sizes : (f : Forest S) → heights S f ≤ sizes S f
     heights-sizes nil = omega arith
     heights-sizes (cons k r t f) = omega (arith, height-size t, heights-sizes f)
+
+  -- the table's own number of rows is deep enough
+  pub encoded-back : (b : Tree S) → treeOf S (encoded S b) (length (encode S b)) 0 ≡ b
+  encoded-back b = encoded-tree b (length (encode S b)) (omega (arith, encodeTree-length b 0 exists 0 0, height-size b))

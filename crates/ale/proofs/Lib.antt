@@ -10,6 +10,7 @@ pub mod NormalForms
 pub mod Forests
 pub mod Tidying
 pub mod RowLists
+pub mod TableLaws
 pub mod Merging
 pub mod Normalizing
 pub mod NormalBottoms

@@ -15,12 +15,12 @@ use Rattle.ale.specs.Homomorphism.{edgeServes, labelWithin, mapsAllTo, m
 use Rattle.ale.specs.RowMap.{IsHomomorphism, bottomAt, edgeAgrees, edgeJoins, image, imageFrom, images, labelAgrees, nextImage, rowMapsTo}
 use Rattle.ale.specs.Rows.{course, firstFrom, member}
 use Rattle.ale.specs.Signature.{Signature}
-use Rattle.ale.specs.Table.{ParentsFirst, Table, successorOf, successors, treeOf}
+use Rattle.ale.specs.Table.{ParentsFirst, Table, successorOf, successorRows, successors, treeOf}
 use Rattle.ale.specs.Tree.{Forest, Kind, Tree, any, sameKind}
 use Rattle.ale.proofs.Depths.{Ranked, treeOf-settled}
-use Rattle.ale.proofs.Individuals.{not-zero, successor-above, successor-intro, successor-nonzero, successorRows}
 use Rattle.ale.proofs.RowLists.{filterBelow-in, filterBelow-out, member-cons, member-head, member-tail}
-use Rattle.ale.proofs.Tests.{and-intro, and-left, and-right, chosen, clash, decide, or-left, or-right, or-split}
+use Rattle.ale.proofs.TableLaws.{not-zero, successor-above, successor-intro, successor-nonzero}
+use Rattle.ale.proofs.Tests.{and-intro, and-left, and-right, chosen, clash, decide, or-left, or-right, or-split, refute}
 
 -- a search that can succeed does
 pub firstFrom-passes : (q : ℕ → Bool) (o n v : ℕ) → T (q v) → o ≤ v → v < o + n → (firstFrom q o n < o + n) × T (q (firstFrom q o n))
@@ -154,14 +154,34 @@ module _ (S : Signature) (p q : Table S) where
         ∙ chosen (λ x. x ≡ nextImage S p q i (image S p q j)) (eqb i 0) 0 (nextImage S p q i (getD (images S p q i) j 0))
         (λ t. absurd (z (eqb→eq i 0 t))) (λ t. ap (λ x. nextImage S p q i x) parent)
 
-    -- below an image that is not ⊥, no lower row could be taken
-    pub image-lowest : (i v : ℕ) → i < q .rows → ¬ (i ≡ 0) → T (not (bottomAt S p (image S p q (q .parent i)))) → v < image S p q i →
-        T (not (edgeJoins S p q i (image S p q (q .parent i)) v && rowMapsTo S p q i v))
-    image-lowest i v b z k l =
+    -- no lower row could be taken: none whose edge agrees and to whose tree the row's tree maps
+    pub image-lowest : (i v : ℕ) → i < q .rows → ¬ (i ≡ 0) → v < p .rows → v < image S p q i →
+        T (not (edgeAgrees S p q i (image S p q (q .parent i)) v && rowMapsTo S p q i v))
+    image-lowest i v b z a l =
         let u = image S p q (q .parent i) in
-        chosen (λ w. v < w → T (not (possible i u v))) (bottomAt S p u) u (firstFrom (possible i u) 0 (p .rows))
-        (λ t. absurd (clash (bottomAt S p u) t k)) (λ t. firstFrom-lowest (possible i u) 0 (p .rows) v (omega arith))
+        chosen (λ w. v < w → T (not (edgeAgrees S p q i u v && rowMapsTo S p q i v))) (bottomAt S p u) u (firstFrom (possible i u) 0 (p .rows))
+        (λ t h. refute (edgeAgrees S p q i u v && rowMapsTo S p q i v) (λ g. not-below u h (and-left (edgeAgrees S p q i u v) (rowMapsTo S p q i v) g)))
+        (λ t h. unagreed u t (firstFrom-lowest (possible i u) 0 (p .rows) v (omega arith) h))
         (subst (λ w. v < w) (image-next i b z) l)
+      where
+        not-below : (u : ℕ) → v < u → T (edgeAgrees S p q i u v) → ⊥
+        not-below u h g =
+            let c = sameKind (q .kind i) (p .kind v) && roleServes S (q .kind i) (p .role v) (q .role i) in
+            ⊎-elim
+            (λ e. let x = eqb→eq v u (and-right (bottomAt S p u) (eqb v u) e) in omega arith)
+            (λ e. let x = successor-above S p up u v a (and-left (successorOf S p u v) c e) in omega arith)
+            (or-split (bottomAt S p u && eqb v u) (edgeJoins S p q i u v) g)
+
+        unagreed : (u : ℕ) → T (not (bottomAt S p u)) → T (not (possible i u v)) → T (not (edgeAgrees S p q i u v && rowMapsTo S p q i v))
+        unagreed u t n =
+            let e = edgeJoins S p q i u v in
+            let r = rowMapsTo S p q i v in
+            let h = bottomAt S p u in
+            refute (edgeAgrees S p q i u v && r) (λ g.
+            ⊎-elim
+            (λ x. clash h (and-left h (eqb v u) x) t)
+            (λ x. clash (e && r) (and-intro e r x (and-right (edgeAgrees S p q i u v) r g)) n)
+            (or-split (h && eqb v u) e (and-left (edgeAgrees S p q i u v) r g)))
 
     -- the invariant: v is a row, and row i's tree maps to its tree
     abbrev Mapped : ℕ → ℕ → Type 0

@@ -19,8 +19,7 @@ use Rattle.ale.specs.RowMap.{IsHomomorphism, image}
 use Rattle.ale.specs.Signature.{Signature}
 use Rattle.ale.specs.Table.{KnownRoles, ParentsFirst, Table, tree}
 use Rattle.ale.specs.Tree.{Tree}
-use Rattle.ale.proofs.Completeness.{encoded-back}
-use Rattle.ale.proofs.Encodings.{encoded-parentsFirst}
+use Rattle.ale.proofs.Encodings.{encoded-back, encoded-parentsFirst}
 use Rattle.ale.proofs.LowestMap.{lowest-homomorphism}
 use Rattle.ale.proofs.RowMaps.{homomorphism-mapsTo}
 use Rattle.ale.proofs.Subsumption.{subsumption-homomorphism}

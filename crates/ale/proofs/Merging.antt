@@ -17,7 +17,7 @@ use mathlib.Core.List.{List, [], _∷_}
 use mathlib.Core.Logic.{⊎-elim}
 use mathlib.Core.Path.{_≡_, refl, subst, sym}
 use Rattle.ale.specs.Forest.{byRole}
-use Rattle.ale.specs.Merged.{existsParts, existsRows, labelOfSet, labelUnion, merged, roleParts, successorOfSet, valuePart, valueRows}
+use Rattle.ale.specs.Merged.{existsParts, existsRows, labelOfSet, labelUnion, merged, roleParts, rowsBelow, successorOfSet, valuePart, valueRows}
 use Rattle.ale.specs.Rows.{filterBelow, member, withRow}
 use Rattle.ale.specs.Signature.{Signature}
 use Rattle.ale.specs.Structure.{Fits, FitsAll, Satisfies, Structure}
@@ -49,11 +49,7 @@ module _ (S : Signature) (p : Table S) where
     pub of-kind : k ≡ p .kind j
     pub of-role : T B
 
-  -- the rows below the set of one kind whose role passes a test
-  abbrev rowsBelow : List ℕ → Kind → (ℕ → Bool) → List ℕ
-  rowsBelow s k q = filterBelow (λ j. successorOfSet S p s j && (sameKind k (p .kind j) && q (p .role j))) (p .rows)
-
-  rowsBelow-in : (s : List ℕ) (k : Kind) (q : ℕ → Bool) (j : ℕ) → SuccessorRow s k j (q (p .role j)) → T (member j (rowsBelow s k q))
+  rowsBelow-in : (s : List ℕ) (k : Kind) (q : ℕ → Bool) (j : ℕ) → SuccessorRow s k j (q (p .role j)) → T (member j (rowsBelow S p s k q))
   rowsBelow-in s k q j w =
       let a = successorOfSet S p s j in
       let b = sameKind k (p .kind j) in
@@ -61,7 +57,7 @@ module _ (S : Signature) (p : Table S) where
       filterBelow-in (λ j. successorOfSet S p s j && (sameKind k (p .kind j) && q (p .role j))) (p .rows) j
       (and-intro a (b && c) (w .hanging) (and-intro b c (subst (λ z. T (sameKind k z)) (w .of-kind) (sameKind-refl k)) (w .of-role))) (w .inside)
 
-  rowsBelow-out : (s : List ℕ) (k : Kind) (q : ℕ → Bool) (j : ℕ) → T (member j (rowsBelow s k q)) → SuccessorRow s k j (q (p .role j))
+  rowsBelow-out : (s : List ℕ) (k : Kind) (q : ℕ → Bool) (j : ℕ) → T (member j (rowsBelow S p s k q)) → SuccessorRow s k j (q (p .role j))
   rowsBelow-out s k q j m =
       let a = successorOfSet S p s j in
       let b = sameKind k (p .kind j) in

@@ -1,13 +1,16 @@
 -- A node that is ⊥ has no names and no successors, in every tidied tree and in the product of two trees where that is so.
 -- Tidying writes ⊥ only as the canonical ⊥; a product node is a node of one side, or is not ⊥.
 use Prim.Native.Nat.{ℕ}
+use mathlib.Core.List.{[], _∷_}
 use mathlib.Core.Path.{refl}
 use Rattle.table.specs.Pick.{pick}
 use Rattle.ale.specs.Forest.{append, consReduced, dropped}
-use Rattle.ale.specs.Normal.{inconsistent, tidy, tidyAll}
+use Rattle.ale.specs.Merged.{merged}
+use Rattle.ale.specs.Normal.{inconsistent, normalTree, tidy, tidyAll}
 use Rattle.ale.specs.NormalForm.{CanonicalBottom, CanonicalBottomAll}
-use Rattle.ale.specs.Product.{edgeCounts, labelIntersection, pairAll, pairEach, product}
+use Rattle.ale.specs.Product.{edgeCounts, labelIntersection, lcs, pairAll, pairEach, product}
 use Rattle.ale.specs.Signature.{Signature}
+use Rattle.ale.specs.Table.{Table}
 use Rattle.ale.specs.Tree.{All, Forest, Kind, Tree, bottomTree, cons, exists, forAll, nil, node}
 use Rattle.ale.proofs.Forests.{All-append, All-byRole, All-consReduced}
 use Rattle.ale.proofs.Products.{pairForest, pairRole}
@@ -66,3 +69,7 @@ module _ (S : Signature) where
         let d = pairAll-canonical f k r g (a .1) b in
         chosen (All S CanonicalEdge) (edgeCounts S k r k′ r′) (append S first later) later
         (λ _. All-append S CanonicalEdge first later (pairEach-canonical k r h (λ e x. product-canonical c e (a .0) x) g b) d) (λ _. d)
+
+  pub lcs-canonical : (p q : Table S) (n m : ℕ) → CanonicalBottom S (lcs S p q n m)
+  lcs-canonical p q n m =
+      product-canonical (normalTree S p n) (normalTree S q m) (tidy-canonical (merged S p n (0 ∷ []))) (tidy-canonical (merged S q m (0 ∷ [])))

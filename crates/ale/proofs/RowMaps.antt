@@ -12,10 +12,10 @@ use Rattle.ale.specs.Homomorphism.{edgeServes, labelWithin, mapsAllTo, m
 use Rattle.ale.specs.RowMap.{IsHomomorphism, bottomAt, edgeAgrees, edgeJoins, labelAgrees}
 use Rattle.ale.specs.Rows.{member}
 use Rattle.ale.specs.Signature.{Signature}
-use Rattle.ale.specs.Table.{ParentsFirst, Table, successorOf, successors, treeOf}
+use Rattle.ale.specs.Table.{ParentsFirst, Table, successorOf, successorRows, successors, treeOf}
 use Rattle.ale.specs.Tree.{Forest, Kind, Tree, any, nil, node, sameKind}
-use Rattle.ale.proofs.Individuals.{successor-above, successor-nonzero, successor-parent, successorRows}
 use Rattle.ale.proofs.RowLists.{filterBelow-in, filterBelow-out, member-head, member-tail}
+use Rattle.ale.proofs.TableLaws.{successor-above, successor-nonzero, successor-parent}
 use Rattle.ale.proofs.Tests.{and-intro, and-left, and-right, clash, decide, or-left, or-right, or-split}
 
 module _ (S : Signature) (p q : Table S) where

@@ -1,18 +1,22 @@
 -- Tidying adds no nodes, and the countermodel of two normal trees stays within its bound.
 -- A countermodel has at most (height of d + 1) * (size of v) individuals; a normal tree of depth n is no higher than n.
 use Prim.Native.Nat.{_*_, _+_, _≤_, suc, ℕ}
-use lib.ListN.{length}
+use lib.Dec.{T}
+use mathlib.Core.Bool.{not}
 use native.Mathlib.Nat.{mul-le-mul}
 use native.Mathlib.Omega.{arith}
-use Rattle.ale.specs.Countermodel.{countermodel}
-use Rattle.ale.specs.Encoding.{encode}
+use Rattle.ale.specs.Countermodel.{countermodel, numbered}
 use Rattle.ale.specs.Forest.{consReduced, dropped}
+use Rattle.ale.specs.Homomorphism.{mapsTo}
+use Rattle.ale.specs.Interpretation.{Interpretation, structureOf}
 use Rattle.ale.specs.Normal.{inconsistent, normalTree, tidy, tidyAll}
 use Rattle.ale.specs.Signature.{Signature}
-use Rattle.ale.specs.Table.{Table}
+use Rattle.ale.specs.Structure.{Fits}
+use Rattle.ale.specs.Table.{KnownRoles, Table, tree}
 use Rattle.ale.specs.Tree.{Forest, Kind, Tree, bottomTree, cons, height, nil, node, size, sizes}
 use Rattle.ale.proofs.Completeness.{countermodel-count}
 use Rattle.ale.proofs.Confined.{confined-height, normal-confined}
+use Rattle.ale.proofs.Subsumption.{not-subsumed}
 use Rattle.ale.proofs.Tests.{chosen}
 
 module _ (S : Signature) where
@@ -33,7 +37,7 @@ module _ (S : Signature) where
 
   -- depth n and b rows: at most (n + 1) * b individuals; in paper 01, 13 * 256 = 3,328
   pub countermodel-bound : (p q : Table S) (n b : ℕ) → size S (normalTree S p n) ≤ b →
-      length (encode S (countermodel S (normalTree S q n) (normalTree S p n))) ≤ suc n * b
+      (numbered S (countermodel S (normalTree S q n) (normalTree S p n))) .count ≤ suc n * b
   countermodel-bound p q n b h =
       let d = normalTree S q n in
       let v = normalTree S p n in
@@ -41,3 +45,11 @@ module _ (S : Signature) where
       let high = confined-height S d n (normal-confined S q n) in
       let m : suc (height S d) * size S v ≤ suc n * b = mul-le-mul (omega arith) h in
       omega arith
+
+  -- so a picture that is not subsumed is refuted by a small interpretation
+  pub small-countermodel : (p q : Table S) → KnownRoles S p → KnownRoles S q → (n b : ℕ) → size S (normalTree S p n) ≤ b →
+      T (not (mapsTo S (normalTree S q n) (normalTree S p n))) →
+      (I : Interpretation S) × (I .count ≤ suc n * b) × Fits S (structureOf S I) (tree S p n) 0 × (Fits S (structureOf S I) (tree S q n) 0 → ⊥)
+  small-countermodel p q kp kq n b h t =
+      let (f, g) = not-subsumed S p q kp kq n n t in
+      (numbered S (countermodel S (normalTree S q n) (normalTree S p n)), countermodel-bound p q n b h, f, g)

@@ -1,5 +1,6 @@
 -- 01, "A merged row stands for a set of file rows": the merged tree of a set of rows of a table.
 --   successorOfSet   row j hangs from a row of the set
+--   rowsBelow        the successors of the set, of one kind, whose role passes a test, in file-row order
 --   valueRows        A: the all-successors of the set for role r (of every role including r)
 --   existsRows       the some-successors of the set by role r
 --   labelOfSet       the unions of the names; ⊥ if any has it
@@ -13,7 +14,7 @@ use Rattle.ale.specs.Forest.{append, byRole}
 use Rattle.ale.specs.Rows.{filterBelow, member, withRow}
 use Rattle.ale.specs.Signature.{Signature}
 use Rattle.ale.specs.Table.{Table}
-use Rattle.ale.specs.Tree.{Forest, Label, Tree, cons, emptyLabel, exists, forAll, nil, node, sameKind}
+use Rattle.ale.specs.Tree.{Forest, Kind, Label, Tree, cons, emptyLabel, exists, forAll, nil, node, sameKind}
 
 module _ (S : Signature) where
   abbrev pub labelUnion : Label S → Label S → Label S
@@ -35,11 +36,14 @@ module _ (S : Signature) (p : Table S) where
   abbrev pub successorOfSet : List ℕ → ℕ → Bool
   successorOfSet s j = not (eqb j 0) && member (p .parent j) s
 
+  abbrev pub rowsBelow : List ℕ → Kind → (ℕ → Bool) → List ℕ
+  rowsBelow s k q = filterBelow (λ j. successorOfSet s j && (sameKind k (p .kind j) && q (p .role j))) (p .rows)
+
   abbrev pub valueRows : List ℕ → ℕ → List ℕ
-  valueRows s r = filterBelow (λ j. successorOfSet s j && (sameKind forAll (p .kind j) && S .subrole r (p .role j))) (p .rows)
+  valueRows s r = rowsBelow s forAll (λ r′. S .subrole r r′)
 
   abbrev pub existsRows : List ℕ → ℕ → List ℕ
-  existsRows s r = filterBelow (λ j. successorOfSet s j && (sameKind exists (p .kind j) && eqb (p .role j) r)) (p .rows)
+  existsRows s r = rowsBelow s exists (λ r′. eqb r′ r)
 
   abbrev pub labelOfSet : List ℕ → Label S
   labelOfSet [] = emptyLabel S

@@ -1,4 +1,4 @@
--- 003, Definition 34 and Lemma 35: what it is for a tree to be normal. No rule has anything left to do:
+-- 003, Definition 34 and Lemma 35: what it is for a tree to be normal. No rule would add to what is said:
 --   NodeSaturated     P ⊓ ¬P is only in ⊥; what an all-successor says is said by the some- and all-successors that it binds
 --   Saturated         that, and no some-successor is ⊥, at every node
 --   Reduced           no successor is one that is dropped: no all-successor is ⊤, at every node

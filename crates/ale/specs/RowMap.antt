@@ -1,5 +1,5 @@
 -- 01, "A map sends each row of the second normal table to one of the first": maps by rows, and the map that we write.
--- p is the first table, q the second.
+-- p is the first table, q the second; a map goes from the rows of q to those of p.
 --   bottomAt         row v of the first is ⊥ (01: marked)
 --   labelAgrees      question 19: the image carries all the row's names and its mark, or is ⊥
 --   edgeJoins        u and v are joined by an edge of row i's kind and role

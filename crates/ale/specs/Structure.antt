@@ -3,7 +3,7 @@
 --   Restriction     some element reached by the role, or every one, has a property: the one place that tells the kinds apart
 --   Satisfies       every wanted name holds, no excluded one does, and the label is not ⊥
 --   Fits            the label is satisfied, and so is each successor's restriction
---   SubsumedInAll   whatever fits the first fits the second, in every structure, of any size
+--   SubsumedInAll   whatever fits the first fits the second, in every structure, of any size (covering itself is `Subsumed`, over finite ones)
 use Prim.Native.Nat.{ℕ}
 use lib.Dec.{T}
 use mathlib.Core.Bool.{Bool, not}

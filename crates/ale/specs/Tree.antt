@@ -1,5 +1,6 @@
 -- 003, Definition 33: description trees. A node has a label and successors, each by a kind and a role.
 --   Kind                    exists: existential restriction ("some"); forAll: value restriction ("all")
+--   sameKind                the same kind
 --   Label                   wanted names P, excluded names ¬P, and whether ⊥ is there (01: the impossible mark)
 --   Tree, Forest            a node; the successors of a node, in order
 --   labelOf, successorsOf   the parts of a tree
