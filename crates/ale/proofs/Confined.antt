@@ -6,20 +6,21 @@
 --   tidy-confined, product-confined         tidying and the product keep it
 --   lcs-confined                            so the least common subsumer at depth n is confined to n
 use Prim.Native.Nat.{_<_, _≤_, suc, zero, ℕ}
+use lib.Dec.{T}
 use mathlib.Core.List.{List, [], _∷_}
 use native.Mathlib.Omega.{arith}
-use Rattle.table.specs.Pick.{pick}
-use Rattle.ale.specs.Forest.{append, byRole, consReduced, dropped}
+use Rattle.ale.specs.Forest.{byRole, dropped}
 use Rattle.ale.specs.Merged.{merged, roleParts}
 use Rattle.ale.specs.Normal.{inconsistent, normalTree, tidy, tidyAll}
-use Rattle.ale.specs.Product.{edgeCounts, labelIntersection, lcs, pairAll, pairEach, product}
+use Rattle.ale.specs.Product.{edgeCounts, lcs, product}
 use Rattle.ale.specs.Signature.{Signature}
 use Rattle.ale.specs.Table.{Table}
-use Rattle.ale.specs.Tree.{All, Forest, Kind, Label, RolesKnown, RolesKnownAll, Tree, bottomTree, cons, exists, forAll, height, heights, nil, node}
-use Rattle.ale.proofs.Forests.{All-append, All-byRole, All-byRole-below, All-consReduced}
+use Rattle.ale.specs.Tree.{All, Forest, Kind, RolesKnown, RolesKnownAll, Tree, bottomTree, cons, height, heights, nil, node}
+use Rattle.ale.proofs.Forests.{All-byRole-below}
 use Rattle.ale.proofs.Orderings.{All-roleParts}
-use Rattle.ale.proofs.Products.{pairForest, pairRole}
+use Rattle.ale.proofs.Pairs.{All-pairForest, Pairs, pairForest, product-elim}
 use Rattle.ale.proofs.Tests.{chosen}
+use Rattle.ale.proofs.Trees.{All-map}
 
 module _ (S : Signature) where
   abbrev mutual
@@ -83,22 +84,9 @@ module _ (S : Signature) where
     pub normal-confined : (n : ℕ) → Confined (normalTree S p n) n
     normal-confined n = tidy-confined (merged S p n (0 ∷ [])) n (merged-confined n (0 ∷ []))
 
-  pairEach-confined : (n : ℕ) (k : Kind) (r : ℕ) (h : Tree S → Tree S) → r < S .roles → ((e : Tree S) → Confined e n → Confined (h e) n) →
-      (g : Forest S) → ConfinedAll g (suc n) → All S (ConfinedEdge n) (pairEach S k r h g)
-  pairEach-confined n k r h b u nil w = tt
-  pairEach-confined n k r h b u (cons k′ r′ e g) w =
-      let later = pairEach S k r h g in
-      let q = pairEach-confined n k r h b u g (w .2) in
-      chosen (All S (ConfinedEdge n)) (edgeCounts S k r k′ r′) (consReduced S k r (h e) later) later
-      (λ t. All-consReduced S (ConfinedEdge n) k r (h e) later (b, u e (w .1)) q) (λ t. q)
-
-  -- a product node is one of the two nodes, or their pair
-  product-node : (l m : Label S) (f g : Forest S) (n : ℕ) → ConfinedAll f n → ConfinedAll g n → ConfinedAll (pairForest S f g) n →
-      Confined (product S (node l f) (node m g)) n
-  product-node l m f g n a b c =
-      let pair = node (labelIntersection S l m) (pairForest S f g) in
-      chosen (λ t. Confined t n) (l .bottom) (node m g) (pick (m .bottom) (node l f) pair) (λ _. b) (λ _.
-      chosen (λ t. Confined t n) (m .bottom) (node l f) pair (λ _. a) (λ _. c))
+  confined-edges : (f : Forest S) (n : ℕ) → ConfinedAll f (suc n) → All S (λ k r t. Confined t n) f
+  confined-edges nil n h = tt
+  confined-edges (cons k r t f) n h = (h .1, confined-edges f n (h .2))
 
   -- a forest without successors is confined to any depth
   empty-confined : (f : Forest S) (n : ℕ) → All S (λ k r t. ⊥) f → ConfinedAll f n
@@ -108,26 +96,21 @@ module _ (S : Signature) where
   mutual
     pub product-confined : (v w : Tree S) (n : ℕ) → Confined v n → Confined w n → Confined (product S v w) n
     product-confined (node l nil) (node m g) zero a b =
-        product-node l m nil g zero a b
-        (empty-confined (pairForest S nil g) zero (All-byRole S (λ k r t. ⊥) (pairRole S nil g) (λ r. tt) (S .roles)))
+        product-elim S (λ t. Confined t zero) l m nil g (λ _. b) (λ _. a) (λ _ _.
+        empty-confined (pairForest S nil g) zero (All-pairForest S (λ k r t. ⊥) nil g (λ k r _. tt)))
     product-confined (node l (cons k r t f)) (node m g) zero a b = absurd a
     product-confined (node l f) (node m g) (suc n) a b =
-        product-node l m f g (suc n) a b
-        (edges-confined (pairForest S f g) n (All-byRole-below S (ConfinedEdge n) (pairRole S f g) (S .roles) (λ r c.
-        All-append S (ConfinedEdge n) (pairAll S f forAll r g) (pairAll S f exists r g)
-        (pairAll-confined f n forAll r g c a b) (pairAll-confined f n exists r g c a b))))
+        product-elim S (λ t. Confined t (suc n)) l m f g (λ _. b) (λ _. a) (λ _ _.
+        edges-confined (pairForest S f g) n (All-pairForest S (ConfinedEdge n) f g (λ k r c. pairs-confined f n k r g c a b)))
 
-    pairAll-confined : (f : Forest S) (n : ℕ) (k : Kind) (r : ℕ) (g : Forest S) → r < S .roles → ConfinedAll f (suc n) → ConfinedAll g (suc n) →
-        All S (ConfinedEdge n) (pairAll S f k r g)
-    pairAll-confined nil n k r g b u w = tt
-    pairAll-confined (cons k′ r′ c f) n k r g b u w =
-        let h : Tree S → Tree S = λ e. product S c e in
-        let first = pairEach S k r h g in
-        let later = pairAll S f k r g in
-        let q = pairAll-confined f n k r g b (u .2) w in
-        chosen (All S (ConfinedEdge n)) (edgeCounts S k r k′ r′) (append S first later) later
-        (λ t. All-append S (ConfinedEdge n) first later (pairEach-confined n k r h b (λ e x. product-confined c e n (u .1) x) g w) q)
-        (λ t. q)
+    pairs-confined : (f : Forest S) (n : ℕ) (k : Kind) (r : ℕ) (g : Forest S) → r < S .roles → ConfinedAll f (suc n) → ConfinedAll g (suc n) →
+        Pairs S (ConfinedEdge n) k r f g
+    pairs-confined nil n k r g b u w = tt
+    pairs-confined (cons k′ r′ c f) n k r g b u w = (
+      λ _. All-map S (λ k″ r″ e. Confined e n) (λ k″ r″ e. T (edgeCounts S k r k″ r″) → ConfinedEdge n k r (product S c e))
+          (λ k″ r″ e x _. (b, product-confined c e n (u .1) x)) g (confined-edges g n w),
+      pairs-confined f n k r g b (u .2) w,
+    )
 
   pub lcs-confined : (p q : Table S) (n : ℕ) → Confined (lcs S p q n n) n
   lcs-confined p q n = product-confined (normalTree S p n) (normalTree S q n) n (normal-confined p n) (normal-confined q n)

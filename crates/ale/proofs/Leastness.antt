@@ -18,7 +18,7 @@ use Rattle.ale.specs.Tree.{Any, Forest, Kind, Label, RolesKnown, RolesKn
 use Rattle.ale.proofs.Forests.{Any-append-left, Any-append-right, Any-byRole, Any-consReduced, Any-consReduced-later}
 use Rattle.ale.proofs.NameLaws.{intersection-intro}
 use Rattle.ale.proofs.NormalForms.{trivial-mapsTo}
-use Rattle.ale.proofs.Products.{pairForest, pairRole}
+use Rattle.ale.proofs.Pairs.{pairForest, pairRole}
 use Rattle.ale.proofs.Tests.{and-intro, and-left, and-right, chosen, chosen-first, clash, or-split, refute}
 use Rattle.ale.proofs.Trees.{Any-any, any-Any, sameKind-refl}
 

@@ -23,6 +23,7 @@ pub mod Encodings
 pub mod ModelChecks
 pub mod Depths
 pub mod Completeness
+pub mod Pairs
 pub mod Products
 pub mod Leastness
 pub mod Subsumption

@@ -1,30 +1,20 @@
 -- The product subsumes both trees (003, Theorem 43, parts 1 and 2): whatever fits one of them fits the product.
 -- By induction on the pair of trees: the intersected label asks for no more than either label, and each edge of the product comes from
 -- two edges, one of each tree, that both serve for it; its end is by induction fitted by whatever fits the end of either.
---   pairRole, pairForest   the successors of a product node, for one role and for all
 --   fits-product           what fits one of the trees, whichever, fits the product
 use Prim.Native.Nat.{ℕ}
 use lib.Dec.{T}
 use mathlib.Core.Logic.{_⊎_, inl, inr, ⊎-elim, ⊎-map}
-use Rattle.table.specs.Pick.{pick}
-use Rattle.ale.specs.Forest.{append, byRole, consReduced}
 use Rattle.ale.specs.Homomorphism.{roleServes}
-use Rattle.ale.specs.Product.{edgeCounts, labelIntersection, pairAll, pairEach, product}
+use Rattle.ale.specs.Product.{edgeCounts, labelIntersection, product}
 use Rattle.ale.specs.Signature.{Signature}
 use Rattle.ale.specs.Structure.{Fits, FitsAll, Satisfies, Structure}
-use Rattle.ale.specs.Tree.{All, Forest, Kind, Label, Tree, cons, exists, forAll, nil, node, sameKind}
-use Rattle.ale.proofs.Forests.{All-append, All-byRole, All-consReduced}
+use Rattle.ale.specs.Tree.{Forest, Kind, Label, Tree, cons, nil, node, sameKind}
 use Rattle.ale.proofs.NameLaws.{intersection-left, intersection-right}
+use Rattle.ale.proofs.Pairs.{All-pairForest, Counted, Pairs, pairForest, product-elim}
 use Rattle.ale.proofs.Soundness.{restriction-along}
 use Rattle.ale.proofs.Structures.{FitsEdge, each-fits}
-use Rattle.ale.proofs.Tests.{and-left, and-right, chosen, clash}
-
-module _ (S : Signature) where
-  abbrev pub pairRole : Forest S → Forest S → ℕ → Forest S
-  pairRole f g r = append S (pairAll S f forAll r g) (pairAll S f exists r g)
-
-  abbrev pub pairForest : Forest S → Forest S → Forest S
-  pairForest f g = byRole S (λ r. pairRole f g r) (S .roles)
+use Rattle.ale.proofs.Tests.{and-left, and-right, clash}
 
 module _ (S : Signature) (M : Structure S) where
   abbrev FitsAt : M .Element → Kind → ℕ → Tree S → Type 0
@@ -42,35 +32,6 @@ module _ (S : Signature) (M : Structure S) where
     possible = tt;
   }
 
-  -- x fits the restriction (k, r) to h e, for the end e of each edge of g that counts for (k, r)
-  abbrev FitsCounted : Kind → ℕ → (Tree S → Tree S) → M .Element → Forest S → Type 0
-  FitsCounted k r h x g = All S (λ k′ r′ e. T (edgeCounts S k r k′ r′) → FitsAt x k r (h e)) g
-
-  fits-pairEach : (k : Kind) (r : ℕ) (h : Tree S → Tree S) (x : M .Element) (g : Forest S) → FitsCounted k r h x g →
-      All S (FitsAt x) (pairEach S k r h g)
-  fits-pairEach k r h x nil p = tt
-  fits-pairEach k r h x (cons k′ r′ e g) p =
-      let later = pairEach S k r h g in
-      let q = fits-pairEach k r h x g (p .1) in
-      chosen (All S (FitsAt x)) (edgeCounts S k r k′ r′) (consReduced S k r (h e) later) later
-      (λ t. All-consReduced S (FitsAt x) k r (h e) later (p .0 t) q) (λ t. q)
-
-  -- x fits a product node where it fits one of the two nodes and every paired successor
-  fits-pair : (l m : Label S) (f g : Forest S) (x : M .Element) → Fits S M (node l f) x ⊎ Fits S M (node m g) x →
-      ((k : Kind) (r : ℕ) → All S (FitsAt x) (pairAll S f k r g)) → Fits S M (product S (node l f) (node m g)) x
-  fits-pair l m f g x p h =
-      let pair = node (labelIntersection S l m) (pairForest S f g) in
-      chosen (λ t. Fits S M t x) (l .bottom) (node m g) (pick (m .bottom) (node l f) pair)
-      (λ a. ⊎-elim (λ q. absurd (clash (l .bottom) a (q .0 .possible))) (λ q. q) p) (λ a.
-      chosen (λ t. Fits S M t x) (m .bottom) (node l f) pair
-      (λ b. ⊎-elim (λ q. q) (λ q. absurd (clash (m .bottom) b (q .0 .possible))) p) (λ b. (
-        satisfies-intersection l m x (⊎-map (λ q. q .0) (λ q. q .0) p),
-        each-fits S M (pairForest S f g) x (All-byRole S (FitsAt x) (pairRole S f g) fits-pairRole (S .roles)),
-      )))
-    where
-      fits-pairRole : (r : ℕ) → All S (FitsAt x) (pairRole S f g r)
-      fits-pairRole r = All-append S (FitsAt x) (pairAll S f forAll r g) (pairAll S f exists r g) (h forAll r) (h exists r)
-
   -- the restriction of an edge that counts for (k, r) implies the restriction (k, r) to whatever subsumes its end
   fits-counted : (k : Kind) (r : ℕ) (k′ : Kind) (r′ : ℕ) (t u : Tree S) → T (edgeCounts S k r k′ r′) →
       ((y : M .Element) → Fits S M t y → Fits S M u y) → (x : M .Element) → FitsAt x k′ r′ t → FitsAt x k r u
@@ -81,34 +42,34 @@ module _ (S : Signature) (M : Structure S) where
 
   -- if x fits the first tree's edge, it fits its pair with every end; if x fits g, it fits the pairs of the edges that count
   counted-always : (k : Kind) (r : ℕ) (x : M .Element) (h : Tree S → Tree S) → ((e : Tree S) → FitsAt x k r (h e)) →
-      (g : Forest S) → FitsCounted k r h x g
+      (g : Forest S) → Counted S (FitsAt x) k r h g
   counted-always k r x h p nil = tt
   counted-always k r x h p (cons k′ r′ e g) = (λ t. p e, counted-always k r x h p g)
 
   counted-subsumed : (k : Kind) (r : ℕ) (x : M .Element) (h : Tree S → Tree S) →
-      ((e : Tree S) (y : M .Element) → Fits S M e y → Fits S M (h e) y) → (g : Forest S) → FitsAll S M g x → FitsCounted k r h x g
+      ((e : Tree S) (y : M .Element) → Fits S M e y → Fits S M (h e) y) → (g : Forest S) → FitsAll S M g x → Counted S (FitsAt x) k r h g
   counted-subsumed k r x h u nil p = tt
   counted-subsumed k r x h u (cons k′ r′ e g) p =
       (λ t. fits-counted k r k′ r′ e (h e) t (u e) x (p .0), counted-subsumed k r x h u g (p .1))
 
   mutual
     pub fits-product : (v w : Tree S) (x : M .Element) → Fits S M v x ⊎ Fits S M w x → Fits S M (product S v w) x
-    fits-product (node l f) (node m g) x p = fits-pair l m f g x p (λ k r. fits-pairAll f k r g x (⊎-map (λ q. q .1) (λ q. q .1) p))
+    fits-product (node l f) (node m g) x p =
+        product-elim S (λ t. Fits S M t x) l m f g
+        (λ a. ⊎-elim (λ q. absurd (clash (l .bottom) a (q .0 .possible))) (λ q. q) p)
+        (λ b. ⊎-elim (λ q. q) (λ q. absurd (clash (m .bottom) b (q .0 .possible))) p)
+        (λ a b. (
+          satisfies-intersection l m x (⊎-map (λ q. q .0) (λ q. q .0) p),
+          each-fits S M (pairForest S f g) x
+              (All-pairForest S (FitsAt x) f g (λ k r _. fits-pairs f k r g x (⊎-map (λ q. q .1) (λ q. q .1) p))),
+        ))
 
-    fits-pairAll : (f : Forest S) (k : Kind) (r : ℕ) (g : Forest S) (x : M .Element) → FitsAll S M f x ⊎ FitsAll S M g x →
-        All S (FitsAt x) (pairAll S f k r g)
-    fits-pairAll nil k r g x p = tt
-    fits-pairAll (cons k′ r′ c f) k r g x p =
-        let h : Tree S → Tree S = λ e. product S c e in
-        let first = pairEach S k r h g in
-        let later = pairAll S f k r g in
-        let fits-later = fits-pairAll f k r g x (⊎-map (λ q. q .1) (λ q. q) p) in
-        chosen (All S (FitsAt x)) (edgeCounts S k r k′ r′) (append S first later) later
-        (λ t. All-append S (FitsAt x) first later
-        (fits-pairEach k r h x g
-        (⊎-elim
-        (λ q. counted-always k r x h (λ e. fits-counted k r k′ r′ c (h e) t (λ y z. fits-product c e y (inl z)) x (q .0)) g)
-        (λ q. counted-subsumed k r x h (λ e y z. fits-product c e y (inr z)) g q)
-        p))
-        fits-later)
-        (λ t. fits-later)
+    fits-pairs : (f : Forest S) (k : Kind) (r : ℕ) (g : Forest S) (x : M .Element) → FitsAll S M f x ⊎ FitsAll S M g x → Pairs S (FitsAt x) k r f g
+    fits-pairs nil k r g x p = tt
+    fits-pairs (cons k′ r′ c f) k r g x p = (
+      λ t. ⊎-elim
+          (λ q. counted-always k r x (λ e. product S c e) (λ e.
+          fits-counted k r k′ r′ c (product S c e) t (λ y z. fits-product c e y (inl z)) x (q .0)) g)
+          (λ q. counted-subsumed k r x (λ e. product S c e) (λ e y z. fits-product c e y (inr z)) g q) p,
+      fits-pairs f k r g x (⊎-map (λ q. q .1) (λ q. q) p),
+    )
