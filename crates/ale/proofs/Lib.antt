@@ -25,6 +25,7 @@ pub mod Depths
 pub mod Completeness
 pub mod Pairs
 pub mod Products
+pub mod ProductOrderings
 pub mod Leastness
 pub mod Subsumption
 pub mod Confined

@@ -34,7 +34,7 @@ module _ (S : Signature) where
   before-lower r exists r′ l = omega arith
   before-lower r forAll r′ l = l
 
-  abbrev RoleIs : ℕ → Kind → ℕ → Tree S → Type 0
+  abbrev pub RoleIs : ℕ → Kind → ℕ → Tree S → Type 0
   RoleIs r k r′ t = r′ ≡ r
 
   abbrev RoleBelow : ℕ → Kind → ℕ → Tree S → Type 0
@@ -98,7 +98,7 @@ module _ (S : Signature) where
   before-kept r (cons k′ r′ t f) h =
       All-consReduced S (λ k′ r′ _. Before S r k′ r′) k′ r′ (tidy S t) (tidyAll S f) (h .0) (before-kept r f (h .1))
 
-  ordered-consReduced : (k : Kind) (r : ℕ) (t : Tree S) (f : Forest S) → BeforeAll S r f → Ordered S t → OrderedAll S f →
+  pub ordered-consReduced : (k : Kind) (r : ℕ) (t : Tree S) (f : Forest S) → BeforeAll S r f → Ordered S t → OrderedAll S f →
       OrderedAll S (consReduced S k r t f)
   ordered-consReduced k r t f b o q = chosen (λ g. OrderedAll S g) (dropped S k t) f (cons k r t f) (λ _. q) (λ _. (b, o, q))
 

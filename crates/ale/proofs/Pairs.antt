@@ -1,7 +1,10 @@
 -- What is true of the successors of a product node, from the pairs of successors that it is made of.
 --   pairRole, pairForest          the successors of a product node, for one role and for all
+--   Counted                       true of h e, for the end e of each edge of g that counts for (k, r)
 --   Pairs                         true of the product of the ends, for each edge of f and each edge of g that count for (k, r)
---   All-pairAll, All-pairForest   then it is true of the successors of one kind and role, and of all successors
+--   counted-always, pairs-always  where it is true of every tree
+--   All-pairEach, All-pairAll, All-pairForest
+--                                 then it is true of the successors of one kind and role, and of all successors
 --   product-elim                  a product node is one of the two nodes, where the other is ⊥, or their pair
 use Prim.Native.Nat.{_<_, ℕ}
 use lib.Dec.{T}
@@ -21,14 +24,22 @@ module _ (S : Signature) where
   abbrev pub pairForest : Forest S → Forest S → Forest S
   pairForest f g = byRole S (λ r. pairRole f g r) (S .roles)
 
-  -- true of h e, for the end e of each edge of g that counts for (k, r)
   abbrev pub Counted {ℓ} : (Kind → ℕ → Tree S → Type ℓ) → Kind → ℕ → (Tree S → Tree S) → Forest S → Type ℓ
   Counted P k r h g = All S (λ k′ r′ e. T (edgeCounts S k r k′ r′) → P k r (h e)) g
 
   abbrev pub Pairs {ℓ} : (Kind → ℕ → Tree S → Type ℓ) → Kind → ℕ → Forest S → Forest S → Type ℓ
   Pairs P k r f g = All S (λ k′ r′ c. T (edgeCounts S k r k′ r′) → Counted P k r (λ e. product S c e) g) f
 
-  All-pairEach {ℓ} : (P : Kind → ℕ → Tree S → Type ℓ) (k : Kind) (r : ℕ) (h : Tree S → Tree S) (g : Forest S) → Counted P k r h g →
+  pub counted-always {ℓ} : (P : Kind → ℕ → Tree S → Type ℓ) (k : Kind) (r : ℕ) (h : Tree S → Tree S) → ((e : Tree S) → P k r (h e)) →
+      (g : Forest S) → Counted P k r h g
+  counted-always P k r h p nil = tt
+  counted-always P k r h p (cons k′ r′ e g) = (λ t. p e, counted-always P k r h p g)
+
+  pub pairs-always {ℓ} : (P : Kind → ℕ → Tree S → Type ℓ) (k : Kind) (r : ℕ) → ((t : Tree S) → P k r t) → (f g : Forest S) → Pairs P k r f g
+  pairs-always P k r p nil g = tt
+  pairs-always P k r p (cons k′ r′ c f) g = (λ t. counted-always P k r (λ e. product S c e) (λ e. p (product S c e)) g, pairs-always P k r p f g)
+
+  pub All-pairEach {ℓ} : (P : Kind → ℕ → Tree S → Type ℓ) (k : Kind) (r : ℕ) (h : Tree S → Tree S) (g : Forest S) → Counted P k r h g →
       All S P (pairEach S k r h g)
   All-pairEach P k r h nil p = tt
   All-pairEach P k r h (cons k′ r′ e g) p =

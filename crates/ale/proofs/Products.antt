@@ -11,7 +11,7 @@ use Rattle.ale.specs.Signature.{Signature}
 use Rattle.ale.specs.Structure.{Fits, FitsAll, Satisfies, Structure}
 use Rattle.ale.specs.Tree.{Forest, Kind, Label, Tree, cons, nil, node, sameKind}
 use Rattle.ale.proofs.NameLaws.{intersection-left, intersection-right}
-use Rattle.ale.proofs.Pairs.{All-pairForest, Counted, Pairs, pairForest, product-elim}
+use Rattle.ale.proofs.Pairs.{All-pairForest, Counted, Pairs, counted-always, pairForest, product-elim}
 use Rattle.ale.proofs.Soundness.{restriction-along}
 use Rattle.ale.proofs.Structures.{FitsEdge, each-fits}
 use Rattle.ale.proofs.Tests.{and-left, and-right, clash}
@@ -40,12 +40,7 @@ module _ (S : Signature) (M : Structure S) where
       let b = roleServes S k r′ r in
       restriction-along S M k k′ r r′ (λ y. Fits S M t y) (λ y. Fits S M u y) (and-left a b c) (and-right a b c) h x p
 
-  -- if x fits the first tree's edge, it fits its pair with every end; if x fits g, it fits the pairs of the edges that count
-  counted-always : (k : Kind) (r : ℕ) (x : M .Element) (h : Tree S → Tree S) → ((e : Tree S) → FitsAt x k r (h e)) →
-      (g : Forest S) → Counted S (FitsAt x) k r h g
-  counted-always k r x h p nil = tt
-  counted-always k r x h p (cons k′ r′ e g) = (λ t. p e, counted-always k r x h p g)
-
+  -- if x fits g, it fits the pairs of the edges that count
   counted-subsumed : (k : Kind) (r : ℕ) (x : M .Element) (h : Tree S → Tree S) →
       ((e : Tree S) (y : M .Element) → Fits S M e y → Fits S M (h e) y) → (g : Forest S) → FitsAll S M g x → Counted S (FitsAt x) k r h g
   counted-subsumed k r x h u nil p = tt
@@ -68,7 +63,7 @@ module _ (S : Signature) (M : Structure S) where
     fits-pairs nil k r g x p = tt
     fits-pairs (cons k′ r′ c f) k r g x p = (
       λ t. ⊎-elim
-          (λ q. counted-always k r x (λ e. product S c e) (λ e.
+          (λ q. counted-always S (FitsAt x) k r (λ e. product S c e) (λ e.
           fits-counted k r k′ r′ c (product S c e) t (λ y z. fits-product c e y (inl z)) x (q .0)) g)
           (λ q. counted-subsumed k r x (λ e. product S c e) (λ e y z. fits-product c e y (inr z)) g q) p,
       fits-pairs f k r g x (⊎-map (λ q. q .1) (λ q. q) p),
