@@ -12,6 +12,10 @@ use Rattle.ale.proofs.CasesTree.{Sig, double, excludes, five, leaf, nam
 abbrev everything : NameSet
 everything = names (2 ^ 64 - 1) tt
 
+-- an individual is a node with its names, no excluded ones, and not ⊥
+individual-node : individual Sig five nil ≡ leaf five
+individual-node = refl
+
 -- {3} does not subsume {5}: 5 holds and 3 does not
 counter-wanted : countermodel Sig (leaf three) (leaf five) ≡ individual Sig five nil
 counter-wanted = refl

@@ -6,7 +6,7 @@ use Prim.Native.Nat.{ℕ}
 use mathlib.Core.Bool.{false}
 use mathlib.Core.List.{List, [], _∷_}
 use mathlib.Core.Path.{_≡_, refl}
-use Rattle.ale.specs.Encoding.{Row, encoded, tableOf}
+use Rattle.ale.specs.Encoding.{Row, encode, encoded, tableOf}
 use Rattle.ale.specs.Normal.{normalTree}
 use Rattle.ale.specs.PictureSignature.{NameSet}
 use Rattle.ale.specs.Table.{Table, tree}
@@ -32,6 +32,10 @@ abbrev pub normal : List (Row Sig) → Tree Sig
 normal w = normalTree Sig (picture w) 2
 
 -- 3 both wanted and excluded: inconsistent
+abbrev parents : List (Row Sig) → List ℕ
+parents [] = []
+parents (w ∷ s) = w .parent ∷ parents s
+
 abbrev clashing : Row Sig
 clashing = record { parent = 0; kind = exists; role = 0; label = record { wanted = three; excluded = three; bottom = false } }
 
@@ -73,3 +77,11 @@ k12 = refl
 -- normalizing again propagates the value restriction once more: a normal tree need not be its own normal tree
 k12-again : size Sig (normalTree Sig (encoded Sig (normal k12-rows)) 2) ≡ 6
 k12-again = refl
+
+-- depth first: its rows' parents
+k12-parents : parents (encode Sig (normal k12-rows)) ≡ 0 ∷ 0 ∷ 1 ∷ 0 ∷ 3 ∷ []
+k12-parents = refl
+
+-- some-successors in file-row order
+file-order : normal (row 0 exists 8 five ∷ row 0 exists 8 three ∷ []) ≡ double exists (leaf five) exists (leaf three)
+file-order = refl

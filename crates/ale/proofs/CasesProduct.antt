@@ -1,8 +1,10 @@
 -- Products, computed: K9 to K11 of paper 01.
+use mathlib.Core.List.{[], _∷_}
 use mathlib.Core.Path.{_≡_, refl}
-use Rattle.ale.specs.Product.{product}
+use Rattle.ale.specs.Product.{lcs, product}
 use Rattle.ale.specs.Tree.{Tree, cons, exists, forAll, nil, node}
-use Rattle.ale.proofs.CasesTree.{Sig, bad, double, five, leaf, names, none, single, three, threeFive, wants}
+use Rattle.ale.proofs.CasesNormal.{k4-rows, picture, row}
+use Rattle.ale.proofs.CasesTree.{Sig, bad, double, five, leaf, names, none, single, three, threeFive, under, wants}
 
 -- {3}, some r {4}
 abbrev pub k9-first : Tree Sig
@@ -28,6 +30,20 @@ k11 : (product Sig (single forAll bad) (single forAll (leaf five)) ≡ single fo
     (product Sig (single forAll (leaf five)) (single forAll bad) ≡ single forAll (leaf five))
 k11 = (refl, refl)
 
--- the product is one of normal trees: all r {3}, some r {5} has the normal tree all r {3}, some r {3,5}, so with some r {3} it has some r {3}
-normal-first : product Sig (double forAll (leaf three) exists (leaf threeFive)) (single exists (leaf three)) ≡ single exists (leaf three)
+-- the normal trees are intersected, not the pictures: all r {3}, some r {5} with some r {3} has some r {3} in common
+normal-first : lcs Sig (picture k4-rows) (picture (row 0 exists 8 three ∷ [])) 2 2 ≡ single exists (leaf three)
 normal-first = refl
+
+-- all before some
+all-before-some : product Sig (double forAll (leaf three) exists (leaf threeFive)) (double forAll (leaf three) exists (leaf threeFive)) ≡
+    double forAll (leaf three) exists (leaf threeFive)
+all-before-some = refl
+
+-- the first's rows in turn, each with the second's in turn
+pairs-in-turn : product Sig (double exists (leaf threeFive) exists (leaf five)) (double exists (leaf three) exists (leaf five)) ≡
+    under (cons exists 8 (leaf three) (cons exists 8 (leaf five) (cons exists 8 (leaf none) (cons exists 8 (leaf five) nil))))
+pairs-in-turn = refl
+
+-- ⊥ with ⊥ is ⊥
+bottom-both : product Sig bad bad ≡ bad
+bottom-both = refl

@@ -77,3 +77,13 @@ loop-product = (refl, refl)
 -- an edge counts for all including roles: an individual with a firing loop fits some loop
 loop-edge : fitsTest Loops some-loop (individual Loops (Loops .none) (cons exists 9 (individual Loops (Loops .none) nil) nil)) ≡ true
 loop-edge = refl
+
+-- an all-edge is served by one of the same role only, and paired with one of the same role only
+abbrev all-of : ℕ → Tree Loops
+all-of r = under (cons forAll r (wanting 8 tt) nil)
+
+all-same : (mapsTo Loops (all-of 9) (all-of 8) ≡ false) × (mapsTo Loops (all-of 8) (all-of 9) ≡ false)
+all-same = (refl, refl)
+
+all-pairs : product Loops (all-of 8) (all-of 9) ≡ top Loops
+all-pairs = refl

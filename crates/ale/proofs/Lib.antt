@@ -40,7 +40,9 @@ pub mod CasesTree
 pub mod CasesConcept
 pub mod CasesMap
 pub mod CasesForest
+pub mod CasesMerged
 pub mod CasesNormal
+pub mod CasesNormalForm
 pub mod CasesRowMap
 pub mod CasesCountermodel
 pub mod CasesProduct
