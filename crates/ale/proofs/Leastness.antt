@@ -16,7 +16,7 @@ use Rattle.ale.specs.Product.{edgeCounts, labelIntersection, pairAll, pa
 use Rattle.ale.specs.Signature.{Signature}
 use Rattle.ale.specs.Tree.{Any, Forest, Kind, Label, RolesKnown, RolesKnownAll, Tree, any, bottomTree, cons, emptyLabel, exists, forAll, nil, node, sameKind}
 use Rattle.ale.proofs.Forests.{Any-append-left, Any-append-right, Any-byRole, Any-consReduced, Any-consReduced-later}
-use Rattle.ale.proofs.NameLaws.{intersection-intro}
+use Rattle.ale.proofs.Labels.{within-intersection, within-possible, within-trans}
 use Rattle.ale.proofs.NormalForms.{trivial-mapsTo}
 use Rattle.ale.proofs.Pairs.{pairForest, pairRole}
 use Rattle.ale.proofs.Tests.{and-intro, and-left, and-right, chosen, chosen-first, clash, or-split, refute}
@@ -26,40 +26,6 @@ module _ (S : Signature) where
   roleServes-refl : (k : Kind) (r : ℕ) → T (roleServes S k r r)
   roleServes-refl exists r = S .subrole-refl r
   roleServes-refl forAll r = eqb-refl r
-
-  -- a label within another, by its three parts
-  within-intro : (l m : Label S) → ((n : ℕ) → T (S .has (l .wanted) n) → T (S .has (m .wanted) n)) →
-      ((n : ℕ) → T (S .has (l .excluded) n) → T (S .has (m .excluded) n)) → T (not (l .bottom)) → T (labelWithin S l m)
-  within-intro l m p q u =
-      let b = S .subset (l .excluded) (m .excluded) in
-      and-intro (S .subset (l .wanted) (m .wanted)) (b && not (l .bottom)) (S .subset-intro (l .wanted) (m .wanted) p)
-      (and-intro b (not (l .bottom)) (S .subset-intro (l .excluded) (m .excluded) q) u)
-
-  module _ (l m : Label S) (h : T (labelWithin S l m)) where
-    within-wanted : (n : ℕ) → T (S .has (l .wanted) n) → T (S .has (m .wanted) n)
-    within-wanted =
-        S .subset-has (l .wanted) (m .wanted) (and-left (S .subset (l .wanted) (m .wanted)) (S .subset (l .excluded) (m .excluded) && not (l .bottom)) h)
-
-    within-rest : T (S .subset (l .excluded) (m .excluded) && not (l .bottom))
-    within-rest = and-right (S .subset (l .wanted) (m .wanted)) (S .subset (l .excluded) (m .excluded) && not (l .bottom)) h
-
-    within-excluded : (n : ℕ) → T (S .has (l .excluded) n) → T (S .has (m .excluded) n)
-    within-excluded = S .subset-has (l .excluded) (m .excluded) (and-left (S .subset (l .excluded) (m .excluded)) (not (l .bottom)) within-rest)
-
-    within-possible : T (not (l .bottom))
-    within-possible = and-right (S .subset (l .excluded) (m .excluded)) (not (l .bottom)) within-rest
-
-  within-intersection : (a l m : Label S) → T (labelWithin S a l) → T (labelWithin S a m) → T (labelWithin S a (labelIntersection S l m))
-  within-intersection a l m p q =
-      within-intro a (labelIntersection S l m)
-      (λ n h. intersection-intro S (l .wanted) (m .wanted) n (within-wanted a l p n h) (within-wanted a m q n h))
-      (λ n h. intersection-intro S (l .excluded) (m .excluded) n (within-excluded a l p n h) (within-excluded a m q n h))
-      (within-possible a l p)
-
-  within-trans : (a l m : Label S) → T (labelWithin S a l) → T (labelWithin S l m) → T (labelWithin S a m)
-  within-trans a l m p q =
-      within-intro a m (λ n h. within-wanted l m q n (within-wanted a l p n h)) (λ n h. within-excluded l m q n (within-excluded a l p n h))
-      (within-possible a l p)
 
   -- a node that maps to a node other than ⊥ has its label within that node's, and its edges map
   mapsTo-parts : (a l : Label S) (h f : Forest S) → T (not (l .bottom)) → T (mapsTo S (node a h) (node l f)) →
@@ -76,8 +42,8 @@ module _ (S : Signature) where
   mapsTo-trivial (node a h) (node l nil) p b =
       let e = emptyLabel S in
       let v : T (labelWithin S l e) = and-left (labelWithin S l e) true b in
-      let (x, y) = mapsTo-parts a l h nil (within-possible l e v) p in
-      subst T (sym (trivial-mapsTo S (node a h))) (and-intro (labelWithin S a e) (mapsAllTo S h nil) (within-trans a l e x v) y)
+      let (x, y) = mapsTo-parts a l h nil (within-possible S l e v) p in
+      subst T (sym (trivial-mapsTo S (node a h))) (and-intro (labelWithin S a e) (mapsAllTo S h nil) (within-trans S a l e x v) y)
 
   mapsTo-kept : (k : Kind) (d t : Tree S) → T (not (dropped S k d)) → T (mapsTo S d t) → T (not (dropped S k t))
   mapsTo-kept exists d t n p = tt
@@ -151,7 +117,7 @@ module _ (S : Signature) where
       chosen (λ t. T (mapsTo S (node a h) t)) (m .bottom) (node l f) both (λ _. p) (λ v.
       let (x, x′) = mapsTo-parts a l h f u p in
       let (y, y′) = mapsTo-parts a m h g v q in
-      and-intro (labelWithin S a (labelIntersection S l m)) (mapsAllTo S h (pairForest S f g)) (within-intersection a l m x y) (edges x′ y′)))
+      and-intro (labelWithin S a (labelIntersection S l m)) (mapsAllTo S h (pairForest S f g)) (within-intersection S a l m x y) (edges x′ y′)))
 
   mutual
     pub mapsTo-product : (d v w : Tree S) → Reduced S d → RolesKnown S d → T (mapsTo S d v) → T (mapsTo S d w) → T (mapsTo S d (product S v w))

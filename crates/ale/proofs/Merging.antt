@@ -26,7 +26,7 @@ use Rattle.ale.specs.Tree.{All, Forest, Kind, Label, Tree, exists, forAl
 use Rattle.ale.proofs.Forests.{All-append, All-append-left, All-append-right, All-byRole, All-byRole-at}
 use Rattle.ale.proofs.NameLaws.{union-elim, union-left, union-right}
 use Rattle.ale.proofs.RowLists.{filterBelow-in, filterBelow-out, member-cons, member-head, member-tail, withRow-each, withRow-self}
-use Rattle.ale.proofs.Structures.{FitsEdge, each-fits, fits-each, satisfies-emptyLabel}
+use Rattle.ale.proofs.Structures.{FitsEdge, each-fits, fits-each, satisfies-emptyLabel, satisfies-narrow}
 use Rattle.ale.proofs.Tests.{and-intro, and-left, and-right, clash, or-left, or-right, or-split, refute}
 use Rattle.ale.proofs.Trees.{sameKind-eq, sameKind-refl}
 
@@ -96,18 +96,12 @@ module _ (S : Signature) (p : Table S) (M : Structure S) where
   }
 
   satisfies-left : (l m : Label S) (x : M .Element) → Satisfies S M (labelUnion S l m) x → Satisfies S M l x
-  satisfies-left l m x c = record {
-    held = λ n h. c .held n (union-left S (l .wanted) (m .wanted) n h);
-    free = λ n h. c .free n (union-left S (l .excluded) (m .excluded) n h);
-    possible = refute (l .bottom) (λ t. clash (l .bottom || m .bottom) (or-left (l .bottom) (m .bottom) t) (c .possible));
-  }
+  satisfies-left l m x c =
+      satisfies-narrow S M l (labelUnion S l m) x (union-left S (l .wanted) (m .wanted)) (union-left S (l .excluded) (m .excluded)) (or-left (l .bottom) (m .bottom)) c
 
   satisfies-right : (l m : Label S) (x : M .Element) → Satisfies S M (labelUnion S l m) x → Satisfies S M m x
-  satisfies-right l m x c = record {
-    held = λ n h. c .held n (union-right S (l .wanted) (m .wanted) n h);
-    free = λ n h. c .free n (union-right S (l .excluded) (m .excluded) n h);
-    possible = refute (m .bottom) (λ t. clash (l .bottom || m .bottom) (or-right (l .bottom) (m .bottom) t) (c .possible));
-  }
+  satisfies-right l m x c =
+      satisfies-narrow S M m (labelUnion S l m) x (union-right S (l .wanted) (m .wanted)) (union-right S (l .excluded) (m .excluded)) (or-right (l .bottom) (m .bottom)) c
 
   labelOfSet-satisfies : (s : List ℕ) (x : M .Element) → Satisfies S M (labelOfSet S p s) x →
       (i : ℕ) → T (member i s) → Satisfies S M (p .label i) x

@@ -13,7 +13,7 @@ use Rattle.ale.specs.Tree.{Forest, Kind, Label, Tree, cons, nil, node, s
 use Rattle.ale.proofs.NameLaws.{intersection-left, intersection-right}
 use Rattle.ale.proofs.Pairs.{All-pairForest, Counted, Pairs, counted-always, pairForest, product-elim}
 use Rattle.ale.proofs.Soundness.{restriction-along}
-use Rattle.ale.proofs.Structures.{FitsEdge, each-fits}
+use Rattle.ale.proofs.Structures.{FitsEdge, each-fits, satisfies-narrow}
 use Rattle.ale.proofs.Tests.{and-left, and-right, clash}
 
 module _ (S : Signature) (M : Structure S) where
@@ -22,15 +22,12 @@ module _ (S : Signature) (M : Structure S) where
 
   satisfies-intersection : (l m : Label S) (x : M .Element) → Satisfies S M l x ⊎ Satisfies S M m x →
       Satisfies S M (labelIntersection S l m) x
-  satisfies-intersection l m x p = record {
-    held = λ n h. ⊎-elim
-        (λ c. c .held n (intersection-left S (l .wanted) (m .wanted) n h))
-        (λ c. c .held n (intersection-right S (l .wanted) (m .wanted) n h)) p;
-    free = λ n h. ⊎-elim
-        (λ c. c .free n (intersection-left S (l .excluded) (m .excluded) n h))
-        (λ c. c .free n (intersection-right S (l .excluded) (m .excluded) n h)) p;
-    possible = tt;
-  }
+  satisfies-intersection l m x p =
+      let both = labelIntersection S l m in
+      ⊎-elim
+      (λ c. satisfies-narrow S M both l x (intersection-left S (l .wanted) (m .wanted)) (intersection-left S (l .excluded) (m .excluded)) (λ t. absurd t) c)
+      (λ c. satisfies-narrow S M both m x (intersection-right S (l .wanted) (m .wanted)) (intersection-right S (l .excluded) (m .excluded)) (λ t. absurd t) c)
+      p
 
   -- the restriction of an edge that counts for (k, r) implies the restriction (k, r) to whatever subsumes its end
   fits-counted : (k : Kind) (r : ℕ) (k′ : Kind) (r′ : ℕ) (t u : Tree S) → T (edgeCounts S k r k′ r′) →

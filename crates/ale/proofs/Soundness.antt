@@ -3,34 +3,23 @@
 -- edge of v: of the same kind, of a role that serves, to an end to which d's end maps; so v's restriction implies d's.
 use Prim.Native.Nat.{ℕ}
 use lib.Dec.{T, eqb→eq}
-use mathlib.Core.Bool.{Bool, _&&_, not}
+use mathlib.Core.Bool.{Bool, _&&_}
 use mathlib.Core.Logic.{⊎-elim}
 use mathlib.Core.Path.{subst, sym}
 use Rattle.ale.specs.Homomorphism.{edgeServes, labelWithin, mapsAllTo, mapsTo, roleServes}
 use Rattle.ale.specs.Signature.{Signature}
 use Rattle.ale.specs.Structure.{Fits, FitsAll, Restriction, Satisfies, Structure, SubsumedInAll}
 use Rattle.ale.specs.Tree.{Forest, Kind, Label, Tree, any, cons, exists, forAll, nil, node, sameKind}
-use Rattle.ale.proofs.Structures.{FitsEdge, fits-each}
+use Rattle.ale.proofs.Labels.{within-excluded, within-possible, within-wanted}
+use Rattle.ale.proofs.Structures.{FitsEdge, fits-each, satisfies-narrow}
 use Rattle.ale.proofs.Tests.{and-left, and-right, clash, or-split}
 use Rattle.ale.proofs.Trees.{All-Any, any-Any}
 
 module _ (S : Signature) (M : Structure S) where
   -- what satisfies a label satisfies every label within it
   pub satisfies-within : (l m : Label S) → T (labelWithin S l m) → (x : M .Element) → Satisfies S M m x → Satisfies S M l x
-  satisfies-within l m h x c = record {
-    held = λ n p. c .held n (S .subset-has (l .wanted) (m .wanted) (and-left a (b && u) h) n p);
-    free = λ n p. c .free n (S .subset-has (l .excluded) (m .excluded) (and-left b u (and-right a (b && u) h)) n p);
-    possible = and-right b u (and-right a (b && u) h);
-  }
-    where
-      a : Bool
-      a = S .subset (l .wanted) (m .wanted)
-
-      b : Bool
-      b = S .subset (l .excluded) (m .excluded)
-
-      u : Bool
-      u = not (l .bottom)
+  satisfies-within l m h x c =
+      satisfies-narrow S M l m x (within-wanted S l m h) (within-excluded S l m h) (λ t. absurd (clash (l .bottom) t (within-possible S l m h))) c
 
   -- the restriction of an edge implies that of an edge it serves for, where its end's property implies the other's
   pub restriction-along : (k k′ : Kind) (r r′ : ℕ) (P Q : M .Element → Type 0) → T (sameKind k k′) → T (roleServes S k r′ r) →

@@ -2,15 +2,18 @@
 --   FitsEdge               an element fits the restriction of one edge
 --   restriction-map        a restriction is kept where what it asks of the ends is
 --   fits-each, each-fits   it fits a forest exactly if it fits the restriction of each edge
+--   satisfies-narrow       what satisfies a label satisfies one with no other names
 --   satisfies-emptyLabel   every element satisfies the empty label
 --   inAll-subsumed         subsumption in all structures implies subsumption in the finite interpretations
 --   subsumed-trans         subsumption is transitive
 use Prim.Native.Nat.{ℕ}
+use lib.Dec.{T}
 use Rattle.ale.specs.Interpretation.{Subsumed, structureOf}
 use Rattle.ale.specs.Signature.{Signature}
 use Rattle.ale.specs.Structure.{Fits, FitsAll, Restriction, Satisfies, Structure, SubsumedInAll}
-use Rattle.ale.specs.Tree.{All, Forest, Kind, Tree, cons, emptyLabel, exists, forAll, nil}
+use Rattle.ale.specs.Tree.{All, Forest, Kind, Label, Tree, cons, emptyLabel, exists, forAll, nil}
 use Rattle.ale.proofs.NameLaws.{none-has}
+use Rattle.ale.proofs.Tests.{clash, refute}
 
 module _ (S : Signature) (M : Structure S) where
   abbrev pub FitsEdge : M .Element → Kind → ℕ → Tree S → Type 0
@@ -28,6 +31,14 @@ module _ (S : Signature) (M : Structure S) where
   pub each-fits : (f : Forest S) (x : M .Element) → All S (FitsEdge x) f → FitsAll S M f x
   each-fits nil x h = tt
   each-fits (cons k r t f) x h = (h .0, each-fits f x (h .1))
+
+  pub satisfies-narrow : (l u : Label S) (x : M .Element) → ((n : ℕ) → T (S .has (l .wanted) n) → T (S .has (u .wanted) n)) →
+      ((n : ℕ) → T (S .has (l .excluded) n) → T (S .has (u .excluded) n)) → (T (l .bottom) → T (u .bottom)) → Satisfies S M u x → Satisfies S M l x
+  satisfies-narrow l u x a b f c = record {
+    held = λ n h. c .held n (a n h);
+    free = λ n h. c .free n (b n h);
+    possible = refute (l .bottom) (λ t. clash (u .bottom) (f t) (c .possible));
+  }
 
   pub satisfies-emptyLabel : (x : M .Element) → Satisfies S M (emptyLabel S) x
   satisfies-emptyLabel x = record { held = λ n h. absurd (none-has S n h); free = λ n h t. none-has S n h; possible = tt }
