@@ -9,20 +9,16 @@ pub mod LowestMap
 pub mod CommonSubsumers
 pub mod Foldings
 pub mod Concepts
-
 -- each used on a case
 pub mod Examples
-
 -- tests as types, sets of names, trees, structures
 pub mod Tests
 pub mod NameLaws
 pub mod Labels
 pub mod Trees
 pub mod Structures
-
 -- a homomorphism gives subsumption
 pub mod Soundness
-
 -- merging and tidying: meaning, and normality
 pub mod RowLists
 pub mod TableLaws
@@ -33,7 +29,6 @@ pub mod NormalForms
 pub mod Normalizing
 pub mod NormalBottoms
 pub mod Orderings
-
 -- no homomorphism gives a countermodel: as a tree, its size, its numbering
 pub mod TreeStructure
 pub mod Countermodels
@@ -42,21 +37,17 @@ pub mod Bisimulations
 pub mod Individuals
 pub mod Encodings
 pub mod ModelChecks
-
 -- depth and roles
 pub mod Depths
 pub mod Confined
 pub mod RoleLaws
-
 -- maps by rows
 pub mod RowMaps
-
 -- the product
 pub mod Pairs
 pub mod Products
 pub mod ProductOrderings
 pub mod Leastness
-
 -- computed cases, by definition
 pub mod CasesTree
 pub mod CasesConcept

@@ -3,13 +3,11 @@
 
 -- what everything is over
 pub mod Signature
-
 -- meaning: description trees, when an individual fits one, finite interpretations and subsumption, Table 1
 pub mod Tree
 pub mod Structure
 pub mod Interpretation
 pub mod Concept
-
 -- pictures: rows by number and their tree; rows merged in sets; inconsistent nodes and what is dropped; the normal tree, and what normal is
 pub mod Rows
 pub mod Table
@@ -17,17 +15,14 @@ pub mod Forest
 pub mod Merged
 pub mod Normal
 pub mod NormalForm
-
 -- evidence: the homomorphism test, maps by rows, tables of trees, countermodels, the test of fitting
 pub mod Homomorphism
 pub mod RowMap
 pub mod Encoding
 pub mod Countermodel
 pub mod ModelCheck
-
 -- common pictures, and folding them
 pub mod Product
 pub mod Folding
-
 -- paper 01's own signature
 pub mod PictureSignature
