@@ -1,16 +1,17 @@
 -- Countermodels, computed: `countermodel d v` fits v and not d.
-use Prim.Native.Nat.{_*_, _-_, _^_, suc}
+use Prim.Native.Nat.{_-_, _^_}
 use mathlib.Core.Bool.{false, true}
 use mathlib.Core.Path.{_≡_, refl}
 use Rattle.table.specs.Bounds.{maxDepth, maxRows}
-use Rattle.ale.specs.Countermodel.{countermodel, individual}
+use Rattle.table.specs.Layout.{nameCount}
+use Rattle.ale.specs.Countermodel.{countermodel, individual, maxIndividuals}
 use Rattle.ale.specs.ModelCheck.{fitsTest}
 use Rattle.ale.specs.PictureSignature.{NameSet}
 use Rattle.ale.specs.Tree.{Tree, cons, exists, forAll, nil, node}
 use Rattle.ale.proofs.CasesTree.{Sig, double, excludes, five, leaf, names, none, single, three, threeFive}
 
 abbrev everything : NameSet
-everything = names (2 ^ 64 - 1) tt
+everything = names (2 ^ nameCount - 1) tt
 
 -- an individual is a node with its names, no excluded ones, and not ⊥
 individual-node : individual Sig five nil ≡ leaf five
@@ -46,5 +47,5 @@ counter-all : countermodel Sig (single forAll (leaf five)) (single forAll (leaf 
 counter-all = refl
 
 -- the bound on the countermodel's individuals, at the limits of paper 01
-counter-limit : suc maxDepth * maxRows ≡ 3328
+counter-limit : maxIndividuals maxDepth maxRows ≡ 3328
 counter-limit = refl

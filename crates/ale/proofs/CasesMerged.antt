@@ -21,7 +21,7 @@ some-alone = refl
 empty-all-merged : mergedRows (row 0 forAll 8 none ∷ []) ≡ single forAll (leaf none)
 empty-all-merged = refl
 
--- a clash is not looked at, nor what is below a mark
+-- merging goes on below a mark
 bottom-merged : size Sig (mergedRows (impossible forAll ∷ row 1 exists 9 three ∷ row 0 exists 8 none ∷ [])) ≡ 5
 bottom-merged = refl
 

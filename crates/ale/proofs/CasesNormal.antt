@@ -31,11 +31,11 @@ meaning w = tree Sig (picture w) 2
 abbrev pub normal : List (Row Sig) → Tree Sig
 normal w = normalTree Sig (picture w) 2
 
--- 3 both wanted and excluded: inconsistent
 abbrev parents : List (Row Sig) → List ℕ
 parents [] = []
 parents (w ∷ s) = w .parent ∷ parents s
 
+-- 3 both wanted and excluded: inconsistent
 abbrev clashing : Row Sig
 clashing = record { parent = 0; kind = exists; role = 0; label = record { wanted = three; excluded = three; bottom = false } }
 

@@ -26,11 +26,14 @@ bottom-successor h = let e = h .0 tt .1 in absurd (let z : _≡_ {A = ℕ} 1 0 =
 bottom-name : CanonicalBottom Sig (node (record { wanted = three; excluded = none; bottom = true }) nil) → ⊥
 bottom-name h = let e = h .0 tt .0 in absurd (let z : _≡_ {A = ℕ} 8 0 = ap (λ l. (l .wanted) .set) e in omega arith)
 
+bottom-excluded : CanonicalBottom Sig (node (record { wanted = none; excluded = three; bottom = true }) nil) → ⊥
+bottom-excluded h = let e = h .0 tt .0 in absurd (let z : _≡_ {A = ℕ} 8 0 = ap (λ l. (l .excluded) .set) e in omega arith)
+
 -- an all-successor that is ⊤
 all-top : Reduced Sig (single forAll (leaf none)) → ⊥
 all-top h = h .0
 
--- a some-successor that is ⊥, a name both wanted and excluded, a some-successor that an all-successor does not reach
+-- a some-successor that is ⊥, or a name both wanted and excluded
 some-bottom : Saturated Sig (single exists bad) → ⊥
 some-bottom h = h .1 .0
 

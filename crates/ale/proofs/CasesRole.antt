@@ -11,13 +11,17 @@ use Rattle.ale.specs.Encoding.{encoded}
 use Rattle.ale.specs.Homomorphism.{mapsTo}
 use Rattle.ale.specs.ModelCheck.{fitsTest}
 use Rattle.ale.specs.Normal.{normalTree}
-use Rattle.ale.specs.PictureSignature.{signatureOf}
+use Rattle.ale.specs.PictureSignature.{pictureSignature, signatureOf}
 use Rattle.ale.specs.Product.{product}
 use Rattle.ale.specs.Signature.{Signature}
 use Rattle.ale.specs.Tree.{Forest, Tree, cons, emptyLabel, exists, forAll, nil, node, top}
 use Rattle.ale.proofs.Tests.{and-left, and-right, or-left, or-split}
 
 -- the inclusion of role 9 in role 8
+-- in paper 01 a role is a subrole of itself only
+equal-roles : (r s : ℕ) → pictureSignature .subrole r s ≡ eqb r s
+equal-roles r s = refl
+
 abbrev narrow : ℕ → ℕ → Bool
 narrow r s = eqb r 9 && eqb s 8
 

@@ -26,11 +26,12 @@ use native.Mathlib.Omega.{arith}
 use Rattle.table.specs.Bounds.{maxDepth, maxRows}
 use Rattle.table.specs.Layout.{roles}
 use Rattle.ale.specs.Concept.{ConceptSubsumed, InExtension, conceptOf}
-use Rattle.ale.specs.Countermodel.{numbered}
+use Rattle.ale.specs.Countermodel.{maxIndividuals, numbered}
 use Rattle.ale.specs.Encoding.{Row, encode, encoded, tableOf}
 use Rattle.ale.specs.Folding.{one, two}
 use Rattle.ale.specs.Homomorphism.{mapsTo}
 use Rattle.ale.specs.Interpretation.{Equivalent, Interpretation, Subsumed, structureOf}
+use Rattle.ale.specs.Merged.{merged}
 use Rattle.ale.specs.Normal.{normalTree}
 use Rattle.ale.specs.NormalForm.{CanonicalBottom, Normal, Ordered}
 use Rattle.ale.specs.Product.{lcs, lcsTable}
@@ -107,10 +108,10 @@ k7-checked = refutation-refutes Sig (encoded Sig k7-counter) (lit< tt) (encoded-
 k7-small : length (encode Sig k7-counter) ≤ 3 * 3
 k7-small = countermodel-bound Sig (picture k7-rows) (picture k7-narrow) 2 3 (lit≤ tt)
 
--- 3,328 individuals are enough at the limits of paper 01, whatever the pictures
-limit : (p q : Table Sig) → KnownRoles Sig p → KnownRoles Sig q → size Sig (normalTree Sig p maxDepth) ≤ maxRows →
+-- 3,328 individuals are enough (CasesCountermodel: `counter-limit`) for pictures of at most 256 merged rows, which is question 14
+limit : (p q : Table Sig) → KnownRoles Sig p → KnownRoles Sig q → size Sig (merged Sig p maxDepth (0 ∷ [])) ≤ maxRows →
     T (not (mapsTo Sig (normalTree Sig q maxDepth) (normalTree Sig p maxDepth))) →
-    (I : Interpretation Sig) × (I .count ≤ 3328) × Fits Sig (structureOf Sig I) (tree Sig p maxDepth) 0 × (Fits Sig (structureOf Sig I) (tree Sig q maxDepth) 0 → ⊥)
+    (I : Interpretation Sig) × (I .count ≤ maxIndividuals maxDepth maxRows) × Fits Sig (structureOf Sig I) (tree Sig p maxDepth) 0 × (Fits Sig (structureOf Sig I) (tree Sig q maxDepth) 0 → ⊥)
 limit p q kp kq h t = small-countermodel Sig p q kp kq maxDepth maxRows h t
 
 -- all r ⊥

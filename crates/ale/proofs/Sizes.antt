@@ -3,12 +3,14 @@
 use Prim.Native.Nat.{_*_, _+_, _≤_, suc, ℕ}
 use lib.Dec.{T}
 use mathlib.Core.Bool.{not}
+use mathlib.Core.List.{[], _∷_}
 use native.Mathlib.Nat.{mul-le-mul}
 use native.Mathlib.Omega.{arith}
-use Rattle.ale.specs.Countermodel.{countermodel, numbered}
+use Rattle.ale.specs.Countermodel.{countermodel, maxIndividuals, numbered}
 use Rattle.ale.specs.Forest.{consReduced, dropped}
 use Rattle.ale.specs.Homomorphism.{mapsTo}
 use Rattle.ale.specs.Interpretation.{Interpretation, structureOf}
+use Rattle.ale.specs.Merged.{merged}
 use Rattle.ale.specs.Normal.{inconsistent, normalTree, tidy, tidyAll}
 use Rattle.ale.specs.Signature.{Signature}
 use Rattle.ale.specs.Structure.{Fits}
@@ -35,9 +37,8 @@ module _ (S : Signature) where
     tidyAll-size nil = omega arith
     tidyAll-size (cons k r t f) = omega (arith, consReduced-size k r (tidy S t) (tidyAll S f), tidy-size t, tidyAll-size f)
 
-  -- depth n and b rows: at most (n + 1) * b individuals; in paper 01, 13 * 256 = 3,328
   pub countermodel-bound : (p q : Table S) (n b : ℕ) → size S (normalTree S p n) ≤ b →
-      (numbered S (countermodel S (normalTree S q n) (normalTree S p n))) .count ≤ suc n * b
+      (numbered S (countermodel S (normalTree S q n) (normalTree S p n))) .count ≤ maxIndividuals n b
   countermodel-bound p q n b h =
       let d = normalTree S q n in
       let v = normalTree S p n in
@@ -46,10 +47,10 @@ module _ (S : Signature) where
       let m : suc (height S d) * size S v ≤ suc n * b = mul-le-mul (omega arith) h in
       omega arith
 
-  -- so a picture that is not subsumed is refuted by a small interpretation
-  pub small-countermodel : (p q : Table S) → KnownRoles S p → KnownRoles S q → (n b : ℕ) → size S (normalTree S p n) ≤ b →
+  -- so a picture of at most b merged rows that is not subsumed is refuted by a small interpretation
+  pub small-countermodel : (p q : Table S) → KnownRoles S p → KnownRoles S q → (n b : ℕ) → size S (merged S p n (0 ∷ [])) ≤ b →
       T (not (mapsTo S (normalTree S q n) (normalTree S p n))) →
-      (I : Interpretation S) × (I .count ≤ suc n * b) × Fits S (structureOf S I) (tree S p n) 0 × (Fits S (structureOf S I) (tree S q n) 0 → ⊥)
+      (I : Interpretation S) × (I .count ≤ maxIndividuals n b) × Fits S (structureOf S I) (tree S p n) 0 × (Fits S (structureOf S I) (tree S q n) 0 → ⊥)
   small-countermodel p q kp kq n b h t =
       let (f, g) = not-subsumed S p q kp kq n n t in
-      (numbered S (countermodel S (normalTree S q n) (normalTree S p n)), countermodel-bound p q n b h, f, g)
+      (numbered S (countermodel S (normalTree S q n) (normalTree S p n)), countermodel-bound p q n b (omega (arith, tidy-size (merged S p n (0 ∷ [])))), f, g)

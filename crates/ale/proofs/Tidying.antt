@@ -4,7 +4,6 @@
 --   tidy-reduced, tidyAll-reduced       a tidied tree is reduced
 --   inconsistent-fits                   nothing fits an inconsistent node
 --   fits-tidyNode, tidyNode-fits        the same elements fit a node and the node tidied
---   restriction-map                     a restriction on P implies that on Q, where P implies Q
 --   fits-tidy, fits-tidyAll             what fits a tree fits it tidied
 --   tidy-fits, tidyAll-fits             and conversely
 use Prim.Native.Nat.{ℕ}

@@ -1,6 +1,8 @@
 -- 003, Table 1: the concept descriptions of ALE and their extensions; and the concept of a description tree.
 --   Concept             the seven lines of Table 1
 --   InExtension         an element is in the extension of a concept: Table 1's third column, line by line
+--   restrictionConcept  an existential or a value restriction, by kind
+--   conjunctionOf, namesOf, labelConcept   the concept of a label
 --   conceptOf           the concept of a tree: the conjunction of its label and of a restriction for each successor
 --   ConceptSubsumed     003, Definition 1, over finite interpretations
 use Prim.Native.Nat.{_<_, ℕ}

@@ -7,8 +7,9 @@
 --   countermodel           individuals that fit v and not d; `countermodel d v`
 --   reached                01, "Evidence": each later individual is reached from its parent by its role, and no other pairs exist
 --   interpretationOf       a table of individuals as an interpretation
+--   maxIndividuals         how many individuals are enough, by depth and rows
 --   numbered               a tree of individuals, numbered depth first
-use Prim.Native.Nat.{_<_, ℕ}
+use Prim.Native.Nat.{_*_, _<_, suc, ℕ}
 use lib.Dec.{T}
 use mathlib.Core.Bool.{Bool, _&&_, false, true}
 use native.Mathlib.Omega.{arith}
@@ -53,7 +54,7 @@ module _ (S : Signature) where
         (individual (S .complement (m .excluded)) (canonicalAll g)))
         (individual (m .wanted) (canonicalAll g))
 
-    -- the first edge that does not map is the one not fitted
+    -- the first edge that does not map is the one not fitted; where every edge maps, d is ⊥ and nothing need be changed
     pub falsifyAll : Forest S → Forest S → Forest S
     falsifyAll nil g = canonicalAll g
     falsifyAll (cons k r d f) g =
@@ -79,6 +80,9 @@ module _ (S : Signature) (p : Table S) where
     edge = reached;
     respects = reached-respects;
   }
+
+abbrev pub maxIndividuals : ℕ → ℕ → ℕ
+maxIndividuals depth rows = suc depth * rows
 
 module _ (S : Signature) where
   pub encoded-inhabited : (b : Tree S) → 0 < (encoded S b) .rows

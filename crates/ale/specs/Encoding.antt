@@ -1,5 +1,6 @@
 -- 01, "Tables are written depth first, a parent before its successors": a tree as rows, and rows as a table.
 --   Row                        a row of a table by value
+--   noRow                      what a list holds past its end
 --   tableOf                    a list of rows as a table
 --   encodeTree, encodeForest   the rows of a tree from place o on, its root hanging from row p by k and r
 --   encode                     the rows of a tree; the root's parent, kind and role say nothing
@@ -18,7 +19,6 @@ module _ (S : Signature) where
     pub role : ℕ
     pub label : Label S
 
-  -- what a list holds past its end
   abbrev pub noRow : Row
   noRow = record { parent = 0; kind = exists; role = 0; label = emptyLabel S }
 

@@ -1,7 +1,8 @@
 -- Forests put together: one after the other, role by role, and without what is dropped.
 --   append         one after the other
---   byRole         what h gives for each role from 0 up to n, in turn
---   trivial        no names (none that is not in the empty set), not ⊥ and no successors
+--   byRole         what h gives for each role below n, in turn
+--   isNil          no successors
+--   trivial        no names, not ⊥ and no successors
 --   dropped        01: an all-successor that is trivial; a some-successor never is
 --   consReduced    one successor more, unless it is dropped
 use Prim.Native.Nat.{suc, zero, ℕ}

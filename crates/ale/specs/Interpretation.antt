@@ -2,7 +2,7 @@
 --   Interpretation   the individuals are the numbers below a positive count; a set of them for each name, a set of pairs for each role
 --   structureOf      the same as a structure. Its elements are all numbers, but its edges end at individuals: so "some" and "all" range over these
 --   Subsumed         `Subsumed v d`: v ⊑ d, d covers v: every individual that fits v fits d, in every interpretation
---                    (over all structures: `SubsumedInAll`, which comes to the same, Subsumption: `subsumed-inAll`)
+--                    (over all structures: `SubsumedInAll`, for pictures the same, Subsumption: `subsumed-inAll`)
 --   Equivalent       each subsumes the other
 use Prim.Native.Nat.{_<_, ℕ}
 use lib.Dec.{T}

@@ -1,5 +1,6 @@
 -- The signature of paper 01: 64 names, a set of them being a number below 2 ^ 64 with bit n for name n; 32 roles, each a subrole of itself only.
 --   NameSet            a number below 2 ^ nameCount: the sets of the format (crate table), with their operations and the laws that are proved there
+--   nameSet            a number below it as a set
 --   signatureOf        over any role inclusion
 --   pictureSignature   where it is equality
 use mathlib.Core.Path.{_≡_, sym, subst}

@@ -2,11 +2,12 @@
 -- p is the first table, q the second; a map goes from the rows of q to those of p.
 --   bottomAt         row v of the first is ⊥ (01: marked)
 --   labelAgrees      question 19: the image carries all the row's names and its mark, or is ⊥
---   edgeJoins        u and v are joined by an edge of row i's kind and role
+--   edgeJoins        u and v are joined by an edge of row i's kind, and of a role that serves for its role (01: the same role)
 --   edgeAgrees       question 20: they are so joined, or u is ⊥ and v is u
 --   IsHomomorphism   questions 17 to 20 for every row
 --   rowMapsTo        row i's tree maps to row v's tree
 --   nextImage        the image of row i where its parent's is u: u itself if it is ⊥, else the lowest row that can be
+--   imageFrom        the image of row i, from those of the rows before it
 --   images, image    our map: the lowest possible row each time, parents first
 use Prim.Native.Nat.{_<_, ℕ}
 use lib.Dec.{T, eqb}

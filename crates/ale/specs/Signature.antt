@@ -2,6 +2,7 @@
 --   Names, names                       sets of names; names are the numbers below `names`
 --   has, none, union, intersection, complement, subset
 --                                      sets by membership, each with its law
+--   subrole-below                      a subrole of one of the roles is one of them: merging goes through the roles by number
 --   roles, subrole                     roles are the numbers below `roles`; `subrole r s`: a pair of r is a pair of s (over all numbers, reflexive and transitive)
 -- In paper 01 a role is a subrole of itself only.
 use Prim.Native.Nat.{_<_, ℕ}

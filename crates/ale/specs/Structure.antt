@@ -1,6 +1,6 @@
 -- 01, "What a picture means": when an individual fits a row, over individuals of any sort.
 --   Structure       elements, the names that hold of each, and its edges by role; a pair of a role is a pair of every role including it
---   Restriction     some element reached by the role, or every one, has a property: the one place that tells the kinds apart
+--   Restriction     some element reached by the role, or every one, has a property: the one place where fitting tells the kinds apart
 --   Satisfies       every wanted name holds, no excluded one does, and the label is not ⊥
 --   Fits            the label is satisfied, and so is each successor's restriction
 --   SubsumedInAll   whatever fits the first fits the second, in every structure, of any size (covering itself is `Subsumed`, over finite ones)

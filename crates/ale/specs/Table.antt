@@ -2,6 +2,7 @@
 --   Table          the number of rows, and for each row its parent, kind, role and label
 --   successorOf    row j hangs from row i (row 0 hangs from none)
 --   successorRows  the rows that hang from row i, in row order
+--   successors     rows as successors, each with the tree that h gives
 --   treeOf         the tree of a row down to a depth; a depth that is large enough cuts nothing off (Depths: `treeOf-deeper`)
 --   tree           the tree of a picture: that of row 0
 --   ParentsFirst   question 11: a parent stands before its row
