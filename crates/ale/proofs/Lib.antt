@@ -33,6 +33,7 @@ pub mod Orderings
 pub mod TreeStructure
 pub mod Countermodels
 pub mod CountermodelSize
+pub mod CountermodelRoles
 pub mod Bisimulations
 pub mod Individuals
 pub mod Encodings
