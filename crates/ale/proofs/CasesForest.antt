@@ -2,7 +2,7 @@
 use mathlib.Core.Path.{_≡_, refl}
 use Rattle.ale.specs.Forest.{consReduced}
 use Rattle.ale.specs.Tree.{cons, exists, forAll, nil}
-use Rattle.ale.proofs.CasesTree.{Sig, bad, leaf, none}
+use Rattle.ale.proofs.CasesTree.{Sig, bottomLeaf, leaf, none}
 
 all-dropped : consReduced Sig forAll 8 (leaf none) nil ≡ nil
 all-dropped = refl
@@ -10,5 +10,5 @@ all-dropped = refl
 some-kept : consReduced Sig exists 8 (leaf none) nil ≡ cons exists 8 (leaf none) nil
 some-kept = refl
 
-bottom-kept : consReduced Sig forAll 8 bad nil ≡ cons forAll 8 bad nil
+bottom-kept : consReduced Sig forAll 8 bottomLeaf nil ≡ cons forAll 8 bottomLeaf nil
 bottom-kept = refl

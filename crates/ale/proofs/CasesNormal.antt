@@ -11,7 +11,7 @@ use Rattle.ale.specs.Normal.{normalTree}
 use Rattle.ale.specs.PictureSignature.{NameSet}
 use Rattle.ale.specs.Table.{Table, tree}
 use Rattle.ale.specs.Tree.{Kind, Tree, bottomLabel, exists, forAll, size}
-use Rattle.ale.proofs.CasesTree.{Sig, bad, double, five, leaf, names, none, single, three, threeFive, wants}
+use Rattle.ale.proofs.CasesTree.{Sig, bottomLeaf, double, five, leaf, names, none, single, three, threeFive, wants}
 
 abbrev pub root : NameSet → Row Sig
 root a = record { parent = 0; kind = exists; role = 0; label = wants a }
@@ -39,7 +39,7 @@ parents (w ∷ s) = w .parent ∷ parents s
 abbrev clashing : Row Sig
 clashing = record { parent = 0; kind = exists; role = 0; label = record { wanted = three; excluded = three; bottom = false } }
 
-k2 : normalTree Sig (tableOf Sig (clashing ∷ [])) 2 ≡ bad
+k2 : normalTree Sig (tableOf Sig (clashing ∷ [])) 2 ≡ bottomLeaf
 k2 = refl
 
 -- all r {3}, all r {5}: one all-successor
@@ -61,10 +61,10 @@ k5 : normal (row 0 forAll 8 none ∷ []) ≡ leaf none
 k5 = refl
 
 -- all r ⊥: kept, and inconsistent only beside a some-successor
-k6 : normal (impossible forAll ∷ []) ≡ single forAll bad
+k6 : normal (impossible forAll ∷ []) ≡ single forAll bottomLeaf
 k6 = refl
 
-k6-some : normal (impossible forAll ∷ row 0 exists 8 none ∷ []) ≡ bad
+k6-some : normal (impossible forAll ∷ row 0 exists 8 none ∷ []) ≡ bottomLeaf
 k6-some = refl
 
 -- all r (some s {1}), some r {2}: the some-successor gets a some-successor of its own

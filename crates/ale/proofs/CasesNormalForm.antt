@@ -6,7 +6,7 @@ use native.Mathlib.Omega.{arith}
 use Rattle.table.specs.NameSet.{has}
 use Rattle.ale.specs.NormalForm.{CanonicalBottom, Ordered, Reduced, Saturated}
 use Rattle.ale.specs.Tree.{bottomLabel, cons, exists, forAll, nil, node, sizes}
-use Rattle.ale.proofs.CasesTree.{Sig, bad, double, five, leaf, none, single, three, under}
+use Rattle.ale.proofs.CasesTree.{Sig, bottomLeaf, double, five, leaf, none, single, three, under}
 
 -- an all-successor after a some-successor of the same role, or after an all-successor of it
 some-before-all : Ordered Sig (double exists (leaf three) forAll (leaf five)) → ⊥
@@ -34,7 +34,7 @@ all-top : Reduced Sig (single forAll (leaf none)) → ⊥
 all-top h = h .0
 
 -- a some-successor that is ⊥, or a name both wanted and excluded
-some-bottom : Saturated Sig (single exists bad) → ⊥
+some-bottom : Saturated Sig (single exists bottomLeaf) → ⊥
 some-bottom h = h .1 .0
 
 both-wanted : Saturated Sig (node (record { wanted = three; excluded = three; bottom = false }) nil) → ⊥

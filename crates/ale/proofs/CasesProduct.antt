@@ -4,7 +4,7 @@ use mathlib.Core.Path.{_≡_, refl}
 use Rattle.ale.specs.Product.{lcs, product}
 use Rattle.ale.specs.Tree.{Tree, cons, exists, forAll, nil, node}
 use Rattle.ale.proofs.CasesNormal.{k4-rows, picture, row}
-use Rattle.ale.proofs.CasesTree.{Sig, bad, double, five, leaf, names, none, single, three, threeFive, under, wants}
+use Rattle.ale.proofs.CasesTree.{Sig, bottomLeaf, double, five, leaf, names, none, single, three, threeFive, under, wants}
 
 -- {3}, some r {4}
 abbrev pub k9-first : Tree Sig
@@ -26,8 +26,8 @@ k10 : product Sig (single forAll (leaf three)) (single forAll (leaf five)) ≡ l
 k10 = refl
 
 -- a pair with a ⊥ side is the other side
-k11 : (product Sig (single forAll bad) (single forAll (leaf five)) ≡ single forAll (leaf five)) ×
-    (product Sig (single forAll (leaf five)) (single forAll bad) ≡ single forAll (leaf five))
+k11 : (product Sig (single forAll bottomLeaf) (single forAll (leaf five)) ≡ single forAll (leaf five)) ×
+    (product Sig (single forAll (leaf five)) (single forAll bottomLeaf) ≡ single forAll (leaf five))
 k11 = (refl, refl)
 
 -- the normal trees are intersected, not the pictures: all r {3}, some r {5} with some r {3} has some r {3} in common
@@ -45,5 +45,5 @@ pairs-in-turn : product Sig (double exists (leaf threeFive) exists (leaf five)) 
 pairs-in-turn = refl
 
 -- ⊥ with ⊥ is ⊥
-bottom-both : product Sig bad bad ≡ bad
+bottom-both : product Sig bottomLeaf bottomLeaf ≡ bottomLeaf
 bottom-both = refl

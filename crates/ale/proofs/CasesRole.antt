@@ -1,4 +1,4 @@
--- Role inclusion, computed: role 9 (firing loop) is a subrole of role 8 (loop), and there is no other inclusion.
+-- Role inclusion, computed: role 9, the narrow one, is a subrole of role 8, the broad one, and there is no other inclusion.
 use Prim.Native.Nat.{_<_, _^_, ℕ}
 use lib.Dec.{T, eqb, eqb-refl, eqb→eq, ltb}
 use mathlib.Core.Bool.{Bool, _&&_, _||_, false, true}
@@ -17,11 +17,11 @@ use Rattle.ale.specs.Signature.{Signature}
 use Rattle.ale.specs.Tree.{Forest, Tree, cons, emptyLabel, exists, forAll, nil, node, top}
 use Rattle.ale.proofs.Tests.{and-left, and-right, or-left, or-split}
 
--- the inclusion of role 9 in role 8
 -- in paper 01 a role is a subrole of itself only
 equal-roles : (r s : ℕ) → pictureSignature .subrole r s ≡ eqb r s
 equal-roles r s = refl
 
+-- the inclusion of role 9 in role 8
 abbrev narrow : ℕ → ℕ → Bool
 narrow r s = eqb r 9 && eqb s 8
 
@@ -49,45 +49,45 @@ within-below r s a l =
     (λ n. let x = eqb→eq r 9 (and-left (eqb r 9) (eqb s 8) n) in omega arith)
     (or-split (eqb r s) (narrow r s) a)
 
-abbrev Loops : Signature
-Loops = signatureOf within within-refl within-trans within-below
+abbrev Nested : Signature
+Nested = signatureOf within within-refl within-trans within-below
 
-abbrev wanting : (n : ℕ) → T (ltb n (2 ^ nameCount)) → Tree Loops
+abbrev wanting : (n : ℕ) → T (ltb n (2 ^ nameCount)) → Tree Nested
 wanting n t = node (record { wanted = record { set = n; fits = t }; excluded = record { set = 0; fits = tt }; bottom = false }) nil
 
-abbrev under : Forest Loops → Tree Loops
-under f = node (emptyLabel Loops) f
+abbrev under : Forest Nested → Tree Nested
+under f = node (emptyLabel Nested) f
 
-abbrev some-loop : Tree Loops
-some-loop = under (cons exists 8 (top Loops) nil)
+abbrev some-broad : Tree Nested
+some-broad = under (cons exists 8 (top Nested) nil)
 
-abbrev some-firing : Tree Loops
-some-firing = under (cons exists 9 (top Loops) nil)
+abbrev some-narrow : Tree Nested
+some-narrow = under (cons exists 9 (top Nested) nil)
 
--- some loop subsumes some firing loop, and not the reverse
-loop-subsumes : (mapsTo Loops some-loop some-firing ≡ true) × (mapsTo Loops some-firing some-loop ≡ false)
-loop-subsumes = (refl, refl)
+-- an existential restriction of the broad role subsumes that of the narrow one, and not the reverse
+broad-subsumes : (mapsTo Nested some-broad some-narrow ≡ true) × (mapsTo Nested some-narrow some-broad ≡ false)
+broad-subsumes = (refl, refl)
 
--- what a value restriction says of all loops is said of each firing loop: all 8 {3}, some 9 {5}
-loop-merged : normalTree Loops (encoded Loops (under (cons forAll 8 (wanting 8 tt) (cons exists 9 (wanting 32 tt) nil)))) 1 ≡
+-- a value restriction of the broad role binds the narrow one: all 8 {3}, some 9 {5}
+broad-merged : normalTree Nested (encoded Nested (under (cons forAll 8 (wanting 8 tt) (cons exists 9 (wanting 32 tt) nil)))) 1 ≡
     under (cons forAll 8 (wanting 8 tt) (cons forAll 9 (wanting 8 tt) (cons exists 9 (wanting 40 tt) nil)))
-loop-merged = refl
+broad-merged = refl
 
 -- in the product a pair appears once for every role that includes both, ordered by that role
-loop-product : (product Loops some-firing some-loop ≡ some-loop) ×
-    (product Loops some-firing some-firing ≡ under (cons exists 8 (top Loops) (cons exists 9 (top Loops) nil)))
-loop-product = (refl, refl)
+common-broader : (product Nested some-narrow some-broad ≡ some-broad) ×
+    (product Nested some-narrow some-narrow ≡ under (cons exists 8 (top Nested) (cons exists 9 (top Nested) nil)))
+common-broader = (refl, refl)
 
--- an edge counts for all including roles: an individual with a firing loop fits some loop
-loop-edge : fitsTest Loops some-loop (individual Loops (Loops .none) (cons exists 9 (individual Loops (Loops .none) nil) nil)) ≡ true
-loop-edge = refl
+-- an edge counts for all including roles: an individual reached by the narrow role is reached by the broad one
+narrow-edge : fitsTest Nested some-broad (individual Nested (Nested .none) (cons exists 9 (individual Nested (Nested .none) nil) nil)) ≡ true
+narrow-edge = refl
 
 -- an all-edge is served by one of the same role only, and paired with one of the same role only
-abbrev all-of : ℕ → Tree Loops
+abbrev all-of : ℕ → Tree Nested
 all-of r = under (cons forAll r (wanting 8 tt) nil)
 
-all-same : (mapsTo Loops (all-of 9) (all-of 8) ≡ false) × (mapsTo Loops (all-of 8) (all-of 9) ≡ false)
+all-same : (mapsTo Nested (all-of 9) (all-of 8) ≡ false) × (mapsTo Nested (all-of 8) (all-of 9) ≡ false)
 all-same = (refl, refl)
 
-all-pairs : product Loops (all-of 8) (all-of 9) ≡ top Loops
+all-pairs : product Nested (all-of 8) (all-of 9) ≡ top Nested
 all-pairs = refl

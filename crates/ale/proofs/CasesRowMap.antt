@@ -11,7 +11,7 @@ use Rattle.ale.specs.RowMap.{IsHomomorphism, edgeAgrees, images, labelAg
 use Rattle.ale.specs.Rows.{firstFrom}
 use Rattle.ale.specs.Table.{Table}
 use Rattle.ale.specs.Tree.{Tree, exists, forAll}
-use Rattle.ale.proofs.CasesTree.{Sig, bad, double, five, leaf, single, three, threeFive}
+use Rattle.ale.proofs.CasesTree.{Sig, bottomLeaf, double, five, leaf, single, three, threeFive}
 
 abbrev rowImages : Tree Sig → Tree Sig → List ℕ
 rowImages v d = images Sig (encoded Sig v) (encoded Sig d) ((encoded Sig d) .rows)
@@ -25,11 +25,11 @@ lowest-map : rowImages (double exists (leaf three) exists (leaf threeFive)) (sin
 lowest-map = refl
 
 -- below a ⊥ image all rows go where their parent goes
-bottom-map : rowImages (single forAll bad) (single forAll (single exists (leaf three))) ≡ 0 ∷ 1 ∷ 1 ∷ []
+bottom-map : rowImages (single forAll bottomLeaf) (single forAll (single exists (leaf three))) ≡ 0 ∷ 1 ∷ 1 ∷ []
 bottom-map = refl
 
 -- and nowhere else: row 2 may not go to row 0
-bottom-elsewhere : edgeAgrees Sig (encoded Sig (single forAll bad)) (encoded Sig (single forAll (single exists (leaf three)))) 2 1 0 ≡ false
+bottom-elsewhere : edgeAgrees Sig (encoded Sig (single forAll bottomLeaf)) (encoded Sig (single forAll (single exists (leaf three)))) 2 1 0 ≡ false
 bottom-elsewhere = refl
 
 -- a map that is not the lowest is one all the same: row 1 goes to row 2

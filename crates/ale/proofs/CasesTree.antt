@@ -3,7 +3,7 @@
 --   names                          a set of names by its number
 --   none, three, five, threeFive   {}, {3}, {5}, {3,5}
 --   wants, excludes                a label with only wanted, with only excluded names
---   leaf, bad                      a node without successors; ⊥
+--   leaf, bottomLeaf                      a node without successors; ⊥
 --   under                          a root without names, and its successors
 --   single, double                 a root with one successor by r, with two
 use Prim.Native.Nat.{_^_, ℕ}
@@ -41,8 +41,8 @@ excludes a = record { wanted = none; excluded = a; bottom = false }
 abbrev pub leaf : NameSet → Tree Sig
 leaf a = node (wants a) nil
 
-abbrev pub bad : Tree Sig
-bad = bottomTree Sig
+abbrev pub bottomLeaf : Tree Sig
+bottomLeaf = bottomTree Sig
 
 abbrev pub under : Forest Sig → Tree Sig
 under f = node (wants none) f

@@ -1,5 +1,5 @@
 -- The theorems used on cases of paper 01, at its signature.
---   k1-covers                                       one empty row subsumes every picture
+--   k1-subsumes                                       one empty row subsumes every picture
 --   k4-concept                                      fitting is membership in the extension of the concept
 --   k4-equivalent, k4-is-normal                     the normal tree is equivalent to the picture's, and is normal
 --   k4-concepts                                     subsumption is inclusion of extensions
@@ -27,7 +27,7 @@ use Rattle.table.specs.Bounds.{maxDepth, maxRows}
 use Rattle.table.specs.Layout.{roles}
 use Rattle.ale.specs.Concept.{ConceptSubsumed, InExtension, conceptOf}
 use Rattle.ale.specs.Countermodel.{maxIndividuals, numbered}
-use Rattle.ale.specs.Encoding.{Row, encode, encoded, tableOf}
+use Rattle.ale.specs.Encoding.{Row, encode, encoded}
 use Rattle.ale.specs.Folding.{one, two}
 use Rattle.ale.specs.Homomorphism.{mapsTo}
 use Rattle.ale.specs.Interpretation.{Equivalent, Interpretation, Subsumed, structureOf}
@@ -41,8 +41,8 @@ use Rattle.ale.specs.Table.{KnownRoles, Table, tree}
 use Rattle.ale.specs.Tree.{Tree, exists, forAll, size}
 use Rattle.ale.proofs.CasesCountermodel.{k7-counter}
 use Rattle.ale.proofs.CasesNormal.{impossible, k4-normal, k4-rows, meaning, normal, picture, root, row}
-use Rattle.ale.proofs.CasesProduct.{k9-common}
-use Rattle.ale.proofs.CasesTree.{Sig, five, leaf, names, none, three, threeFive}
+use Rattle.ale.proofs.CasesProduct.{k9-common, k9-first, k9-second}
+use Rattle.ale.proofs.CasesTree.{Sig, five, leaf, none, three, threeFive}
 use Rattle.ale.proofs.CommonSubsumers.{lcs-least, lcs-left, lcs-right}
 use Rattle.ale.proofs.Concepts.{fits-concept, subsumed-concepts}
 use Rattle.ale.proofs.Encodings.{encoded-parentsFirst}
@@ -53,14 +53,14 @@ use Rattle.ale.proofs.MapExistence.{encoded-homomorphism, lowest-whenev
 use Rattle.ale.proofs.ModelChecks.{refutation-refutes}
 use Rattle.ale.proofs.NormalBottoms.{lcs-canonical}
 use Rattle.ale.proofs.ProductOrderings.{lcs-ordered}
-use Rattle.ale.proofs.RoleLaws.{rows-known}
+use Rattle.ale.proofs.RoleLaws.{encoded-known, rows-known}
 use Rattle.ale.proofs.Sizes.{countermodel-bound, small-countermodel}
 use Rattle.ale.proofs.Soundness.{mapsTo-sound}
 use Rattle.ale.proofs.Structures.{inAll-subsumed}
 use Rattle.ale.proofs.Subsumption.{normal-equivalent, normalTree-normal, not-subsumed, subsumed-decidable, subsumed-inAll, subsumption-homomorphism}
 
-k1-covers : (t : Tree Sig) → SubsumedInAll Sig t (meaning [])
-k1-covers t M x f = trivial-fits Sig M (meaning []) tt x
+k1-subsumes : (t : Tree Sig) → SubsumedInAll Sig t (meaning [])
+k1-subsumes t M x f = trivial-fits Sig M (meaning []) tt x
 
 k4-concept : (M : Structure Sig) (x : M .Element) → Fits Sig M k4-normal x ↔ InExtension Sig M (conceptOf Sig k4-normal) x
 k4-concept M x = fits-concept Sig M k4-normal x
@@ -152,18 +152,17 @@ k8-not-subsumed = subsumption-homomorphism Sig (picture k8-bottom) (picture k8-s
 
 -- {3}, some r {4}
 abbrev first : Table Sig
-first = tableOf Sig (root three ∷ row 0 exists 8 (names 16 tt) ∷ [])
+first = encoded Sig k9-first
 
 -- {3,5}, some r {4,6}, some r {7}
 abbrev second : Table Sig
-second = tableOf Sig (root threeFive ∷ row 0 exists 8 (names 80 tt) ∷ row 0 exists 8 (names 128 tt) ∷ [])
+second = encoded Sig k9-second
 
 first-known : KnownRoles Sig first
-first-known = rows-known Sig (root three ∷ row 0 exists 8 (names 16 tt) ∷ []) (lit< tt, (lit< tt, tt))
+first-known = encoded-known Sig (lit< tt) k9-first (lit< tt, tt, tt)
 
 second-known : KnownRoles Sig second
-second-known =
-    rows-known Sig (root threeFive ∷ row 0 exists 8 (names 80 tt) ∷ row 0 exists 8 (names 128 tt) ∷ []) (lit< tt, (lit< tt, (lit< tt, tt)))
+second-known = encoded-known Sig (lit< tt) k9-second (lit< tt, tt, (lit< tt, tt, tt))
 
 k9-left : Subsumed Sig (tree Sig first 2) k9-common
 k9-left = lcs-left Sig first second 2 2

@@ -8,7 +8,7 @@ use lib.Seq.{getD-at}
 use mathlib.Core.Bool.{Bool, _&&_, _||_, false, not, true}
 use mathlib.Core.List.{List, [], _∷_}
 use mathlib.Core.Logic.{_⊎_, inl, inr, ⊎-elim}
-use mathlib.Core.Path.{_∙_, _≡_, ap, refl, subst, sym}
+use mathlib.Core.Path.{_∙_, _≡_, ap, ap₂, refl, subst, sym}
 use native.Mathlib.Nat.{eq-or-lt-of-le}
 use native.Mathlib.Omega.{arith}
 use Rattle.ale.specs.Homomorphism.{edgeServes, labelWithin, mapsAllTo, mapsTo, roleServes}
@@ -16,10 +16,10 @@ use Rattle.ale.specs.RowMap.{IsHomomorphism, bottomAt, edgeAgrees, edgeJ
 use Rattle.ale.specs.Rows.{course, firstFrom, member}
 use Rattle.ale.specs.Signature.{Signature}
 use Rattle.ale.specs.Table.{ParentsFirst, Table, successorOf, successorRows, successors, treeOf}
-use Rattle.ale.specs.Tree.{Forest, Kind, Tree, any, sameKind}
+use Rattle.ale.specs.Tree.{Forest, Kind, Tree, any, sameKind, successorsOf}
 use Rattle.ale.proofs.Depths.{Ranked, treeOf-settled}
 use Rattle.ale.proofs.RowLists.{filterBelow-in, filterBelow-out, member-cons, member-head, member-tail}
-use Rattle.ale.proofs.TableLaws.{not-zero, successor-above, successor-intro, successor-nonzero}
+use Rattle.ale.proofs.TableLaws.{not-zero, successor-above, successor-intro, successor-nonzero, treeOf-node}
 use Rattle.ale.proofs.Tests.{and-intro, and-left, and-right, chosen, clash, decide, or-left, or-right, or-split, refute}
 
 -- a search that can succeed does
@@ -100,26 +100,24 @@ module _ (S : Signature) (p q : Table S) where
   treeOf-below : (s : Table S) → ParentsFirst S s → (i : ℕ) → ¬ (i ≡ 0) → (n : ℕ) → s .rows ≡ suc n → treeOf S s n i ≡ treeOf S s (s .rows) i
   treeOf-below s u i z n e = treeOf-settled S s (λ i. i) (s .rows) (ranked-by-number s u) n i (omega arith) ∙ ap (λ k. treeOf S s k i) (sym e)
 
+  -- whatever the depths: v is ⊥, or its label carries row i's and each edge is served
+  abbrev nodeMaps : ℕ → ℕ → ℕ → ℕ → Bool
+  nodeMaps n m i v = bottomAt S p v || (labelWithin S (q .label i) (p .label v) && mapsAllTo S (successorsOf S (treeOf S q n i)) (successorsOf S (treeOf S p m v)))
+
+  mapsTo-node : (n m i v : ℕ) → mapsTo S (treeOf S q n i) (treeOf S p m v) ≡ nodeMaps n m i v
+  mapsTo-node n m i v = ap₂ (λ d w. mapsTo S d w) (treeOf-node S q n i) (treeOf-node S p m v)
+
   -- ⊥ takes everything
   bottom-mapsTo : (n m i v : ℕ) → T (bottomAt S p v) → T (mapsTo S (treeOf S q n i) (treeOf S p m v))
-  bottom-mapsTo zero zero i v t = or-left (bottomAt S p v) _ t
-  bottom-mapsTo zero (suc m) i v t = or-left (bottomAt S p v) _ t
-  bottom-mapsTo (suc n) zero i v t = or-left (bottomAt S p v) _ t
-  bottom-mapsTo (suc n) (suc m) i v t = or-left (bottomAt S p v) _ t
+  bottom-mapsTo n m i v t = subst T (sym (mapsTo-node n m i v)) (or-left (bottomAt S p v) _ t)
 
   -- where a row's tree maps, its label agrees
   mapsTo-label : (n m i v : ℕ) → T (mapsTo S (treeOf S q n i) (treeOf S p m v)) → T (labelAgrees S p q i v)
-  mapsTo-label n m i v = go n m
+  mapsTo-label n m i v t = label-only (bottomAt S p v) (labelWithin S (q .label i) (p .label v)) _ (subst T (mapsTo-node n m i v) t)
     where
       label-only : (u a b : Bool) → T (u || (a && b)) → T (u || a)
       label-only true a b t = tt
       label-only false a b t = and-left a b t
-
-      go : (n m : ℕ) → T (mapsTo S (treeOf S q n i) (treeOf S p m v)) → T (labelAgrees S p q i v)
-      go zero zero t = label-only (bottomAt S p v) (labelWithin S (q .label i) (p .label v)) _ t
-      go zero (suc m) t = label-only (bottomAt S p v) (labelWithin S (q .label i) (p .label v)) _ t
-      go (suc n) zero t = label-only (bottomAt S p v) (labelWithin S (q .label i) (p .label v)) _ t
-      go (suc n) (suc m) t = label-only (bottomAt S p v) (labelWithin S (q .label i) (p .label v)) _ t
 
   module _ (up : ParentsFirst S p) (uq : ParentsFirst S q) where
     -- row v can be taken for row i below u

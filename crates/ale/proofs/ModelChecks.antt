@@ -6,20 +6,20 @@
 --   refutation-refutes       a table whose individual 0 passes for t and fails for u refutes that u subsumes t
 use Prim.Native.Nat.{_<_, ℕ}
 use lib.Dec.{T}
-use mathlib.Core.Bool.{Bool, _&&_, _||_, not}
-use mathlib.Core.Logic.{_↔_, _⊎_, inl, inr, ⊎-elim}
-use mathlib.Core.Path.{_≡_, refl, subst, sym}
+use mathlib.Core.Bool.{Bool, _&&_, not}
+use mathlib.Core.Logic.{_↔_, inl, inr, ⊎-elim}
+use mathlib.Core.Path.{refl, subst, sym}
 use Rattle.ale.specs.Countermodel.{interpretationOf}
 use Rattle.ale.specs.Interpretation.{Subsumed, structureOf}
-use Rattle.ale.specs.ModelCheck.{fitsAllTest, fitsTest, restrictionTest, satisfiesTest}
+use Rattle.ale.specs.ModelCheck.{fitsAllTest, fitsTest, reachedTest, restrictionTest, satisfiesTest}
 use Rattle.ale.specs.Signature.{Signature}
 use Rattle.ale.specs.Structure.{Fits, FitsAll, Restriction, Satisfies}
 use Rattle.ale.specs.Table.{ParentsFirst, Table, treeOf}
-use Rattle.ale.specs.Tree.{Forest, Kind, Label, Tree, cons, exists, forAll, nil, node}
+use Rattle.ale.specs.Tree.{Forest, Kind, Label, Tree, any, cons, exists, forAll, nil, node}
 use Rattle.ale.proofs.Individuals.{fits-numbered-table, numbered-table-fits}
 use Rattle.ale.proofs.NameLaws.{intersection-intro, intersection-left, intersection-right, none-has}
-use Rattle.ale.proofs.Tests.{and-intro, and-left, and-right, clash, decide, or-left, or-right, or-split}
-use Rattle.ale.proofs.TreeStructure.{treeStructure}
+use Rattle.ale.proofs.Tests.{and-intro, and-left, and-right, clash, decide, or-left, or-right, or-split, refute}
+use Rattle.ale.proofs.TreeStructure.{Child, treeStructure}
 
 module _ (S : Signature) where
   -- what an individual satisfies, against the names that hold of it
@@ -46,43 +46,40 @@ module _ (S : Signature) where
       (S .subset-intro (S .intersection e s) (S .none) (λ n h. absurd (c .free n (intersection-left S e s n h) (intersection-right S e s n h))))
       (c .possible))
 
+  -- an individual that is reached and passes
+  any-child : (r : ℕ) (q : Tree S → Bool) (g : Forest S) → T (any S (reachedTest S r q) g) → (y : Tree S) × Child S r y g × T (q y)
+  any-child r q nil h = absurd h
+  any-child r q (cons k s b g) h =
+      let i = S .subrole s r in
+      ⊎-elim
+      (λ t. (b, inl (and-left i (q b) t, refl), and-right i (q b) t))
+      (λ t. let (y, c, p) = any-child r q g t in (y, inr c, p))
+      (or-split (i && q b) (any S (reachedTest S r q) g) h)
+
+  child-any : (r : ℕ) (q : Tree S → Bool) (g : Forest S) (y : Tree S) → Child S r y g → T (q y) → T (any S (reachedTest S r q) g)
+  child-any r q nil y c p = c
+  child-any r q (cons k s b g) y c p =
+      let i = S .subrole s r in
+      let later = any S (reachedTest S r q) g in
+      ⊎-elim
+      (λ t. or-left (i && q b) later (and-intro i (q b) (t .0) (subst (λ z. T (q z)) (sym (t .1)) p)))
+      (λ t. or-right (i && q b) later (child-any r q g y t p))
+      c
+
   -- test q decides property P; then the restriction test decides the restriction, at an individual with any label
   module _ (q : Tree S → Bool) (P : Tree S → Type 0) (q-P : (b : Tree S) → T (q b) → P b) (P-q : (b : Tree S) → P b → T (q b)) (m : Label S) where
+    abbrev fails : Tree S → Bool
+    fails b = not (q b)
+
     test-restriction : (k : Kind) (r : ℕ) (g : Forest S) → T (restrictionTest S k r q g) → Restriction S (treeStructure S) k r P (node m g)
-    test-restriction exists r nil h = absurd h
-    test-restriction exists r (cons k s b g) h =
-        let i = S .subrole s r in
-        ⊎-elim
-        (λ t. (b, inl (and-left i (q b) t, refl), q-P b (and-right i (q b) t)))
-        (λ t. let (y, e, w) = test-restriction exists r g t in (y, inr e, w))
-        (or-split (i && q b) (restrictionTest S exists r q g) h)
-    test-restriction forAll r nil h = λ y e. absurd e
-    test-restriction forAll r (cons k s b g) h =
-        let a = not (S .subrole s r) || q b in
-        let later = restrictionTest S forAll r q g in
-        let here = first (or-split (not (S .subrole s r)) (q b) (and-left a later h)) in
-        let there = test-restriction forAll r g (and-right a later h) in
-        λ y e. ⊎-elim (here y) (there y) e
-      where
-        first : T (not (S .subrole s r)) ⊎ T (q b) → (y : Tree S) → T (S .subrole s r) × (b ≡ y) → P y
-        first (inl n) y t = absurd (clash (S .subrole s r) (t .0) n)
-        first (inr w) y t = subst P (t .1) (q-P b w)
+    test-restriction exists r g h = let (y, c, t) = any-child r q g h in (y, c, q-P y t)
+    test-restriction forAll r g h =
+        λ y c. ⊎-elim (q-P y) (λ n. absurd (clash (any S (reachedTest S r fails) g) (child-any r fails g y c n) h)) (decide (q y))
 
     restriction-test : (k : Kind) (r : ℕ) (g : Forest S) → Restriction S (treeStructure S) k r P (node m g) → T (restrictionTest S k r q g)
-    restriction-test exists r nil (y, e, w) = e
-    restriction-test exists r (cons k s b g) (y, e, w) =
-        let i = S .subrole s r in
-        let later = restrictionTest S exists r q g in
-        ⊎-elim
-        (λ t. or-left (i && q b) later (and-intro i (q b) (t .0) (P-q b (subst P (sym (t .1)) w))))
-        (λ t. or-right (i && q b) later (restriction-test exists r g (y, t, w)))
-        e
-    restriction-test forAll r nil h = tt
-    restriction-test forAll r (cons k s b g) h =
-        let i = S .subrole s r in
-        and-intro (not i || q b) (restrictionTest S forAll r q g)
-        (⊎-elim (λ t. or-right (not i) (q b) (P-q b (h b (inl (t, refl))))) (λ n. or-left (not i) (q b) n) (decide i))
-        (restriction-test forAll r g (λ y e. h y (inr e)))
+    restriction-test exists r g (y, c, w) = child-any r q g y c (P-q y w)
+    restriction-test forAll r g h =
+        refute (any S (reachedTest S r fails) g) (λ t. let (y, c, n) = any-child r fails g t in clash (q y) (P-q y (h y c)) n)
 
   mutual
     pub test-fits : (d b : Tree S) → T (fitsTest S d b) → Fits S (treeStructure S) d b

@@ -1,21 +1,23 @@
 -- 01, questions 22 and 23: whether a tree of individuals fits a tree, as a test.
 --   satisfiesTest     the names that hold of an individual, against a label
---   restrictionTest   some individual reached by the role passes, or every one does
+--   reachedTest       an individual reached by role r passes
+--   restrictionTest   some individual reached by the role passes, or none fails
 --   fitsTest          whether the root fits
 use Prim.Native.Nat.{ℕ}
-use mathlib.Core.Bool.{Bool, _&&_, _||_, false, not, true}
+use mathlib.Core.Bool.{Bool, _&&_, not, true}
 use Rattle.ale.specs.Signature.{Signature}
-use Rattle.ale.specs.Tree.{Forest, Kind, Label, Tree, cons, exists, forAll, nil, node}
+use Rattle.ale.specs.Tree.{Forest, Kind, Label, Tree, any, cons, exists, forAll, nil, node}
 
 module _ (S : Signature) where
   abbrev pub satisfiesTest : Label S → S .Names → Bool
   satisfiesTest l s = S .subset (l .wanted) s && (S .subset (S .intersection (l .excluded) s) (S .none) && not (l .bottom))
 
+  abbrev pub reachedTest : ℕ → (Tree S → Bool) → Kind → ℕ → Tree S → Bool
+  reachedTest r q k s b = S .subrole s r && q b
+
   abbrev pub restrictionTest : Kind → ℕ → (Tree S → Bool) → Forest S → Bool
-  restrictionTest exists r q nil = false
-  restrictionTest exists r q (cons k s b g) = (S .subrole s r && q b) || restrictionTest exists r q g
-  restrictionTest forAll r q nil = true
-  restrictionTest forAll r q (cons k s b g) = (not (S .subrole s r) || q b) && restrictionTest forAll r q g
+  restrictionTest exists r q g = any S (reachedTest r q) g
+  restrictionTest forAll r q g = not (any S (reachedTest r (λ b. not (q b))) g)
 
   abbrev mutual
     pub fitsTest : Tree S → Tree S → Bool
