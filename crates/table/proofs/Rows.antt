@@ -5,7 +5,11 @@
 --   impossible-same, wanted-same,
 --   excluded-same                         fields with the same bytes have the same parts
 --   same-take                             the first bytes of a list hold its first rows
---   length-rowBytes, length-endBytes      the sizes of a row and of the end field
+--   same-first, same-after                a list begins with its first part, and the rows of its last part come after those before
+--   length-rowOf, length-rowBytes,
+--   length-endBytes                       the sizes of a row and of the end field
+--   HoldsRow, held-tag .. held-excluded   a field with the bytes of a row, and what it reads as
+--   held-end-tag, held-end-length         what a field with the bytes of the end field reads as
 --   pushed, ended                         the table d with a row, or with the end field, put at n
 --   row-put, row-tag, row-length,
 --   row-parent, row-kind, row-role,
@@ -16,13 +20,13 @@
 --   parent-fits, wanted-fits,
 --   excluded-fits                         of a list of bytes the fields fit their widths
 use mathlib.Core.Path.{_≡_, refl, ap, sym, _∙_}
-use mathlib.Core.List.{List, []}
+use mathlib.Core.List.{List, [], _++_}
 use Prim.Native.Nat.{ℕ, _+_, _*_, _-_, _^_, _≤_, _<_}
 use native.Mathlib.Nat.{add-assoc, zero-add}
 use native.Mathlib.Decide.{decLt}
 use native.Mathlib.Omega.{arith}
-use lib.ListN.{length, take, getD}
-use lib.Seq.{getD-take}
+use lib.ListN.{length, take, getD, List·getD-append}
+use lib.Seq.{getD-take, getD-append-add}
 use Rattle.table.specs.Layout.{numberSize, lengthAt, «place», rowTag, endTag, endLength, endSize, headSize, nameBytes, nameCount, parentAt, kindAt, roleAt, impossibleAt, wantedAt, excludedAt, rowLength, rowSize}
 use Rattle.table.specs.Number.{Bytes, be, beBytes}
 use Rattle.table.specs.NameSet.{setOf}
@@ -70,6 +74,18 @@ module _ {s : List ℕ} {m : ℕ} {t : List ℕ} {n : ℕ} (e : Same rowSize s m
 pub same-take : (s : List ℕ) (m n : ℕ) → place n rowSize ≤ m → Same rowSize (take m s) n s n
 same-take s m n h = record { byte = λ i l. getD-take m s (place n i) 0 (omega arith) }
 
+-- a list of two parts
+pub same-first : (s t : List ℕ) → Same (length s) (s ++ t) 0 s 0
+same-first s t = record { byte = λ i l. List·getD-append s t 0 (place 0 i) (omega arith) }
+
+pub same-after : {k : ℕ} (s : List ℕ) {t : List ℕ} (n : ℕ) {m : ℕ} {u : List ℕ} {o : ℕ} → length s ≡ rowSize * n → Same k t m u o → Same k (s ++ t) (n + m) u o
+same-after s {t} n {m} h e =
+    record {
+      byte = λ i l.
+          let j : place (n + m) i ≡ length s + place m i = omega arith in
+          ap (λ (a : ℕ). getD (s ++ t) a 0) j ∙ getD-append-add s t (place m i) 0 ∙ e .byte i l;
+    }
+
 -- bytes put at a row's place
 
 field-put : (d s : List ℕ) (n i : ℕ) → place n (length s) ≤ length d → i < length s → getD (put d (place n 0) s) (place n i) 0 ≡ getD s i 0
@@ -92,9 +108,49 @@ field-other d s n m h w u = record { byte = keeps }
 
 -- a row
 
-pub length-rowBytes : (r : Row) → length (rowBytes r) ≡ rowSize
+pub length-rowOf : (parent kind role impossible wanted excluded : ℕ) → length (rowOf parent kind role impossible wanted excluded) ≡ rowSize
 unfolding rowOf beBytes
-length-rowBytes r = refl
+length-rowOf parent kind role impossible wanted excluded = refl
+
+pub length-rowBytes : (r : Row) → length (rowBytes r) ≡ rowSize
+length-rowBytes r = length-rowOf (r .parent) (r .kind) (r .role) (r .impossible) (setOf (r .wanted)) (setOf (r .excluded))
+
+-- field n of s has the bytes of a row, which are a table of one row
+pub record HoldsRow (s : List ℕ) (n parent kind role impossible wanted excluded : ℕ) : Type 0 where
+  pub same : Same rowSize s n (rowOf parent kind role impossible wanted excluded) 0
+
+module _ {s : List ℕ} {n parent kind role impossible wanted excluded : ℕ} (e : HoldsRow s n parent kind role impossible wanted excluded) where
+  pub held-tag : tagOf s n ≡ rowTag
+  unfolding rowOf
+  held-tag = tag-same (e .same) (omega arith)
+
+  pub held-length : lengthOf s n ≡ rowLength
+  unfolding rowOf beBytes be
+  held-length = length-same (e .same) (omega arith)
+
+  pub held-parent : parent < 256 ^ numberSize → parentOf s n ≡ parent
+  unfolding rowOf beBytes
+  held-parent f = parent-same (e .same) ∙ be-inside (take parentAt (rowOf parent kind role impossible wanted excluded)) _ numberSize parent f
+
+  pub held-kind : kindOf s n ≡ kind
+  unfolding rowOf beBytes
+  held-kind = kind-same (e .same)
+
+  pub held-role : roleOf s n ≡ role
+  unfolding rowOf beBytes
+  held-role = role-same (e .same)
+
+  pub held-impossible : impossibleOf s n ≡ impossible
+  unfolding rowOf beBytes
+  held-impossible = impossible-same (e .same)
+
+  pub held-wanted : wanted < 2 ^ nameCount → wantedOf s n ≡ wanted
+  unfolding rowOf beBytes
+  held-wanted f = wanted-same (e .same) ∙ be-inside (take wantedAt (rowOf parent kind role impossible wanted excluded)) _ nameBytes wanted f
+
+  pub held-excluded : excluded < 2 ^ nameCount → excludedOf s n ≡ excluded
+  unfolding rowOf beBytes
+  held-excluded f = excluded-same (e .same) ∙ be-inside (take excludedAt (rowOf parent kind role impossible wanted excluded)) [] nameBytes excluded f
 
 abbrev pub pushed : List ℕ → ℕ → Row → List ℕ
 pushed d n r = put d (place n 0) (rowBytes r)
@@ -103,41 +159,32 @@ module _ (d : List ℕ) (n : ℕ) (r : Row) (h : place n rowSize ≤ length d) w
   pub row-put : (i : ℕ) → i < rowSize → getD (pushed d n r) (place n i) 0 ≡ getD (rowBytes r) i 0
   row-put i l = let w = length-rowBytes r in field-put d (rowBytes r) n i (omega arith) (omega arith)
 
-  -- the row's bytes are a table of one row
-  row-same : Same rowSize (pushed d n r) n (rowBytes r) 0
-  row-same = record { byte = λ i l. row-put i l ∙ ap (λ (j : ℕ). getD (rowBytes r) j 0) (sym (zero-add i)) }
+  row-held : HoldsRow (pushed d n r) n (r .parent) (r .kind) (r .role) (r .impossible) (setOf (r .wanted)) (setOf (r .excluded))
+  row-held = record { same = record { byte = λ i l. row-put i l ∙ ap (λ (j : ℕ). getD (rowBytes r) j 0) (sym (zero-add i)) } }
 
   pub row-tag : tagOf (pushed d n r) n ≡ rowTag
-  unfolding rowOf
-  row-tag = tag-same row-same (omega arith)
+  row-tag = held-tag row-held
 
   pub row-length : lengthOf (pushed d n r) n ≡ rowLength
-  unfolding rowOf beBytes be
-  row-length = length-same row-same (omega arith)
+  row-length = held-length row-held
 
   pub row-parent : r .parent < 256 ^ numberSize → parentOf (pushed d n r) n ≡ r .parent
-  unfolding rowOf beBytes
-  row-parent f = parent-same row-same ∙ be-inside (take parentAt (rowBytes r)) _ numberSize (r .parent) f
+  row-parent = held-parent row-held
 
   pub row-kind : kindOf (pushed d n r) n ≡ r .kind
-  unfolding rowOf beBytes
-  row-kind = kind-same row-same
+  row-kind = held-kind row-held
 
   pub row-role : roleOf (pushed d n r) n ≡ r .role
-  unfolding rowOf beBytes
-  row-role = role-same row-same
+  row-role = held-role row-held
 
   pub row-impossible : impossibleOf (pushed d n r) n ≡ r .impossible
-  unfolding rowOf beBytes
-  row-impossible = impossible-same row-same
+  row-impossible = held-impossible row-held
 
   pub row-wanted : setOf (r .wanted) < 2 ^ nameCount → wantedOf (pushed d n r) n ≡ setOf (r .wanted)
-  unfolding rowOf beBytes
-  row-wanted f = wanted-same row-same ∙ be-inside (take wantedAt (rowBytes r)) _ nameBytes (setOf (r .wanted)) f
+  row-wanted = held-wanted row-held
 
   pub row-excluded : setOf (r .excluded) < 2 ^ nameCount → excludedOf (pushed d n r) n ≡ setOf (r .excluded)
-  unfolding rowOf beBytes
-  row-excluded f = excluded-same row-same ∙ be-inside (take excludedAt (rowBytes r)) [] nameBytes (setOf (r .excluded)) f
+  row-excluded = held-excluded row-held
 
   pub row-other : (m : ℕ) → (m ≡ n → ⊥) → Same rowSize (pushed d n r) m d m
   row-other m u = let w = length-rowBytes r in field-other d (rowBytes r) n m (omega arith) (omega arith) u
@@ -147,6 +194,16 @@ module _ (d : List ℕ) (n : ℕ) (r : Row) (h : place n rowSize ≤ length d) w
 pub length-endBytes : length endBytes ≡ endSize
 unfolding endBytes beBytes
 length-endBytes = refl
+
+-- a field with its bytes
+module _ {s : List ℕ} {n : ℕ} (e : Same endSize s n endBytes 0) where
+  pub held-end-tag : tagOf s n ≡ endTag
+  unfolding endBytes
+  held-end-tag = tag-same e (omega arith)
+
+  pub held-end-length : lengthOf s n ≡ endLength
+  unfolding endBytes beBytes be
+  held-end-length = length-same e (omega arith)
 
 abbrev pub ended : List ℕ → ℕ → List ℕ
 ended d n = put d (place n 0) endBytes
@@ -159,12 +216,10 @@ module _ (d : List ℕ) (n : ℕ) (h : place n endSize ≤ length d) where
   end-same = record { byte = λ i l. end-put i l ∙ ap (λ (j : ℕ). getD endBytes j 0) (sym (zero-add i)) }
 
   pub end-tag : tagOf (ended d n) n ≡ endTag
-  unfolding endBytes
-  end-tag = tag-same end-same (omega arith)
+  end-tag = held-end-tag end-same
 
   pub end-length : lengthOf (ended d n) n ≡ endLength
-  unfolding endBytes beBytes be
-  end-length = length-same end-same (omega arith)
+  end-length = held-end-length end-same
 
   pub end-other : (m : ℕ) → (m ≡ n → ⊥) → Same rowSize (ended d n) m d m
   end-other m u = let w = length-endBytes in field-other d endBytes n m (omega arith) (omega arith) u
