@@ -1,1 +1,2 @@
 -- The laws of meaning, by subject.
+pub mod Files

@@ -75,8 +75,8 @@ pub same-take : (s : List ℕ) (m n : ℕ) → place n rowSize ≤ m → Same ro
 same-take s m n h = record { byte = λ i l. getD-take m s (place n i) 0 (omega arith) }
 
 -- a list of two parts
-pub same-first : (s t : List ℕ) → Same (length s) (s ++ t) 0 s 0
-same-first s t = record { byte = λ i l. List·getD-append s t 0 (place 0 i) (omega arith) }
+pub same-first : (k : ℕ) (s t : List ℕ) → k ≤ length s → Same k (s ++ t) 0 s 0
+same-first k s t h = record { byte = λ i l. List·getD-append s t 0 (place 0 i) (omega arith) }
 
 pub same-after : {k : ℕ} (s : List ℕ) {t : List ℕ} (n : ℕ) {m : ℕ} {u : List ℕ} {o : ℕ} → length s ≡ rowSize * n → Same k t m u o → Same k (s ++ t) (n + m) u o
 same-after s {t} n {m} h e =
