@@ -2,23 +2,18 @@
 -- The rank rises from a row to its successors and is bounded, so below that depth there is no row left. It is the row number, or the depth.
 use Prim.Native.Nat.{_+_, _<_, _≤_, suc, zero, ℕ}
 use lib.Dec.{T}
-use mathlib.Core.List.{List, [], _∷_}
-use mathlib.Core.Path.{_∙_, _≡_, ap, ap₂, refl, sym}
+use mathlib.Core.Path.{_∙_, _≡_, ap, refl, sym}
 use native.Mathlib.Omega.{arith}
-use Rattle.ale.specs.Rows.{filterBelow, member}
+use Rattle.ale.specs.Rows.{filterBelow}
 use Rattle.ale.specs.Signature.{Signature}
 use Rattle.ale.specs.Table.{Table, successorOf, successors, treeOf}
-use Rattle.ale.specs.Tree.{Tree, cons, node}
-use Rattle.ale.proofs.RowLists.{filterBelow-out, filterFrom-none, member-head, member-tail}
+use Rattle.ale.specs.Tree.{node}
+use Rattle.ale.proofs.RowLists.{filterBelow-out, filterFrom-none}
+use Rattle.ale.proofs.SameTables.{successors-same}
 use Rattle.ale.proofs.TableLaws.{successor-nonzero, successor-parent}
 use Rattle.ale.proofs.Tests.{refute}
 
 module _ (S : Signature) (p : Table S) where
-  successors-ext : (h h′ : ℕ → Tree S) (s : List ℕ) → ((j : ℕ) → T (member j s) → h j ≡ h′ j) → successors S p h s ≡ successors S p h′ s
-  successors-ext h h′ [] e = refl
-  successors-ext h h′ (j ∷ s) e =
-      ap₂ (λ t f. cons (p .kind j) (p .role j) t f) (e j (member-head j s)) (successors-ext h h′ s (λ i m. e i (member-tail i j s m)))
-
   -- a rank that rises from a row to its successors, and is nowhere above the bound
   pub record Ranked (rank : ℕ → ℕ) (bound : ℕ) : Type 0 where
     pub rises : (i j : ℕ) → j < p .rows → T (successorOf S p i j) → rank i < rank j
@@ -33,10 +28,10 @@ module _ (S : Signature) (p : Table S) where
         refute (successorOf S p i j) (λ c. let x = r .rises i j (omega arith) c in let y = r .capped j (omega arith) in omega arith))))
     treeOf-settled (suc n) i h =
         ap (λ f. node (p .label i) f)
-        (successors-ext (λ j. treeOf S p n j) (λ j. treeOf S p (suc n) j) (filterBelow (successorOf S p i) (p .rows)) (λ j m.
+        (successors-same S p p (λ j. treeOf S p n j) (λ j. treeOf S p (suc n) j) (filterBelow (successorOf S p i) (p .rows)) (λ j m.
         let (c, l) = filterBelow-out (successorOf S p i) (p .rows) j m in
         let x = r .rises i j l c in
-        treeOf-settled n j (omega arith)))
+        (refl, refl, treeOf-settled n j (omega arith))))
 
     -- nor do k levels more
     pub treeOf-deeper : (k n i : ℕ) → bound ≤ rank i + n → treeOf S p n i ≡ treeOf S p (k + n) i

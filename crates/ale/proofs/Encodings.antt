@@ -7,6 +7,7 @@
 --   places                                   where the successors of a node stand
 --   placed-tree                              a tree that stands at row o is the tree of row o
 --   encodeTree-length, encodeForest-length   a row for each node
+--   encoded-placed                           the table of a tree has the tree placed at row 0
 --   encoded-parentsFirst                     in the table of a tree, parents come first
 --   encoded-tree                             the tree of the table of t is t
 --   height-size                              the height of a tree is less than its size
@@ -218,7 +219,7 @@ module _ (S : Signature) where
           )
 
   module _ (t : Tree S) where
-    encoded-placed : Placed S (encoded S t) t 0
+    pub encoded-placed : Placed S (encoded S t) t 0
     encoded-placed = segment-placed (encode S t) t 0 exists 0 0 (λ i j l e. ap (λ q. getD (encode S t) q (noRow S)) (omega arith)) .1
 
     encoded-stands : Stands S (encoded S t) 0 t

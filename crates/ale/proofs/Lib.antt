@@ -22,6 +22,7 @@ pub mod Soundness
 -- merging and tidying: meaning, and normality
 pub mod RowLists
 pub mod TableLaws
+pub mod SameTables
 pub mod Forests
 pub mod Merging
 pub mod Tidying
@@ -40,6 +41,7 @@ pub mod Encodings
 pub mod ModelChecks
 -- depth and roles
 pub mod Depths
+pub mod EncodedDepths
 pub mod Confined
 pub mod RoleLaws
 -- maps by rows

@@ -4,6 +4,7 @@
 --   filterBelow-out, filterBelow-in     the members of a filtered range are the numbers below n that pass
 --   filterFrom-split                    the numbers of a range that pass are those of its first part, then those of the rest
 --   filterFrom-none                     a range in which no number passes gives none
+--   filterFrom-same                     tests that agree on the range give the same numbers
 --   withRow-each                        what is true of the added row and of each row of the set is true of each
 --   withRow-self, withRow-others        the added row is a member, and so is every row of the set
 use Prim.Native.Nat.{_+_, _<_, _≤_, suc, zero, ℕ}
@@ -83,6 +84,11 @@ filterFrom-none q o (suc n) h =
     chosen (λ z. z ≡ []) (q o) (o ∷ s) s
     (λ t. absurd (clash (q o) t (h o (omega arith) (omega arith))))
     (λ t. filterFrom-none q (suc o) n (λ j a b. h j (omega arith) (omega arith)))
+
+pub filterFrom-same : (q r : ℕ → Bool) (o n : ℕ) → ((j : ℕ) → o ≤ j → j < o + n → q j ≡ r j) → filterFrom q o n ≡ filterFrom r o n
+filterFrom-same q r o zero h = refl
+filterFrom-same q r o (suc n) h =
+    rw (h o (omega arith) (omega arith), filterFrom-same q r (suc o) n (λ j a b. h j (omega arith) (omega arith)))
 
 pub withRow-each : (P : ℕ → Type 0) (n c : ℕ) (s : List ℕ) → P c → ((i : ℕ) → T (member i s) → P i) →
     (i : ℕ) → T (member i (withRow n c s)) → P i
