@@ -13,7 +13,6 @@ use Rattle.ale.specs.Encoding.{encode, encoded}
 use Rattle.ale.specs.Signature.{Signature}
 use Rattle.ale.specs.Table.{Table}
 use Rattle.ale.specs.Tree.{Forest, Tree, cons, exists, height, heights, nil, node, size, sizes}
-use Rattle.ale.proofs.CasesNormal.{root}
 use Rattle.ale.proofs.Encodings.{Placed, PlacedAll, encodeTree-length, encoded-placed, height-size}
 
 module _ (S : Signature) (p : Table S) (depth : ℕ → ℕ) (under : (j : ℕ) → j < p .rows → ¬ (j ≡ 0) → depth j ≡ suc (depth (p .parent j))) where
@@ -39,6 +38,6 @@ module _ (S : Signature) (p : Table S) (depth : ℕ → ℕ) (under : (j : ℕ) 
 module _ (S : Signature) (t : Tree S) (depth : ℕ → ℕ) where
   pub encoded-depth : depth 0 ≡ 0 → ((j : ℕ) → j < length (encode S t) → ¬ (j ≡ 0) → depth j ≡ suc (depth ((encoded S t) .parent j))) →
       (y : ℕ) → y < length (encode S t) → depth y ≤ height S t
-  encoded-depth root under y b =
+  encoded-depth z under y b =
       let n = encodeTree-length S t 0 exists 0 0 in
       omega (arith, placed-depth S (encoded S t) depth under t 0 (encoded-placed S t) (omega arith) y (omega arith) (omega arith))

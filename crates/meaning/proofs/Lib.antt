@@ -1,2 +1,4 @@
 -- The laws of meaning, by subject.
 pub mod Files
+pub mod FileTables
+pub mod FileReadings
