@@ -2,3 +2,6 @@
 pub mod Files
 pub mod FileTables
 pub mod FileReadings
+pub mod EncodedFiles
+pub mod Pictures
+pub mod Normals

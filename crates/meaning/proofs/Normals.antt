@@ -1,0 +1,94 @@
+-- The normal table of a picture, as a picture file: within the limits it is readable, means the normal tree, and so what the picture means.
+-- That its roles are known and its nodes not too deep is true of any merged table; how many rows it has is what question 14 asks.
+--   normal-count, normal-height, normal-roles   the normal tree has no more rows than the merged table, is no deeper than the limit, and has known roles
+--   normal-length, normal-size                  the length of the file, and that a picture within the limits may be so long
+--   normal-reads, normal-readable               the file is readable, with a row for each node
+--   normal-meaning                              its tree is the normal tree
+--   normal-means, means-normal                  whatever fits a readable picture fits its normal file, and the reverse, in every structure
+--   normal-same                                 so they are equivalent
+--   normal-normal                               the normal tree of a readable picture is normal
+use Prim.Native.Nat.{_≤_, ℕ}
+use lib.ListN.{length}
+use mathlib.Core.List.{List, [], _∷_}
+use mathlib.Core.Path.{_≡_, subst, sym}
+use native.Mathlib.Omega.{arith}
+use Rattle.ale.proofs.Confined.{Confined, confined-height, confined-rolesKnown, normal-confined}
+use Rattle.ale.proofs.Encodings.{encodeTree-length}
+use Rattle.ale.proofs.Sizes.{tidy-size}
+use Rattle.ale.proofs.Structures.{inAll-subsumed}
+use Rattle.ale.proofs.Subsumption.{normal-tree, normalTree-normal, tree-normal}
+use Rattle.ale.specs.Encoding.{encode}
+use Rattle.ale.specs.Interpretation.{Equivalent}
+use Rattle.ale.specs.Merged.{merged}
+use Rattle.ale.specs.NormalForm.{Normal}
+use Rattle.ale.specs.PictureSignature.{pictureSignature}
+use Rattle.ale.specs.Structure.{SubsumedInAll}
+use Rattle.ale.specs.Tree.{RolesKnown, exists, height, size}
+use Rattle.picture.specs.Read.{readingOf}
+use Rattle.picture.specs.View.{Readable}
+use Rattle.table.specs.Bounds.{Bounded, pictureSize}
+use Rattle.table.specs.Layout.{endSize, place}
+use Rattle.table.specs.declared.layout.Limits.{Limits}
+use Rattle.picture.specs.declared.read.Reading.the-variants.{Rows}
+use Rattle.meaning.specs.Meaning.{pictureTable, pictureTree}
+use Rattle.meaning.specs.NormalTable.{mergedCount, mergedTree, normalFile, normalTreeOf}
+use Rattle.meaning.proofs.EncodedFiles.{encoded-meaning, encoded-reads}
+use Rattle.meaning.proofs.Files.{length-fileOf}
+use Rattle.meaning.proofs.Pictures.{picture-known}
+
+module _ (limits : Limits) (s : List ℕ) where
+  pub normal-count : size pictureSignature (normalTreeOf limits s) ≤ mergedCount limits s
+  unfolding normalTreeOf mergedCount mergedTree
+  normal-count = tidy-size pictureSignature (merged pictureSignature (pictureTable s) (limits .depth) (0 ∷ []))
+
+  normal-within : Confined pictureSignature (normalTreeOf limits s) (limits .depth)
+  unfolding normalTreeOf
+  normal-within = normal-confined pictureSignature (pictureTable s) (limits .depth)
+
+  pub normal-height : height pictureSignature (normalTreeOf limits s) ≤ limits .depth
+  normal-height = confined-height pictureSignature (normalTreeOf limits s) (limits .depth) normal-within
+
+  pub normal-roles : RolesKnown pictureSignature (normalTreeOf limits s)
+  normal-roles = confined-rolesKnown pictureSignature (normalTreeOf limits s) (limits .depth) normal-within
+
+  pub normal-length : length (normalFile limits s) ≡ place (size pictureSignature (normalTreeOf limits s)) endSize
+  unfolding normalFile
+  normal-length =
+      omega (arith, length-fileOf (encode pictureSignature (normalTreeOf limits s)), encodeTree-length pictureSignature (normalTreeOf limits s) 0 exists 0 0)
+
+  module _ (few : mergedCount limits s ≤ limits .rows) where
+    pub normal-size : length (normalFile limits s) ≤ pictureSize limits
+    normal-size = omega (arith, normal-length, normal-count)
+
+    module _ (bounded : Bounded limits) where
+      pub normal-reads : readingOf limits (normalFile limits s) ≡ Rows (size pictureSignature (normalTreeOf limits s))
+      unfolding normalFile
+      normal-reads = encoded-reads (normalTreeOf limits s) limits bounded (omega (arith, normal-count)) normal-height normal-roles
+
+      pub normal-readable : Readable limits (normalFile limits s)
+      normal-readable = record { rows = size pictureSignature (normalTreeOf limits s); reads = normal-reads }
+
+      pub normal-meaning : pictureTree limits (normalFile limits s) ≡ normalTreeOf limits s
+      unfolding normalFile
+      normal-meaning = encoded-meaning (normalTreeOf limits s) limits (omega (arith, normal-count, bounded .0)) normal-height
+
+      pub means-normal : SubsumedInAll pictureSignature (pictureTree limits s) (pictureTree limits (normalFile limits s))
+      unfolding normalTreeOf
+      means-normal = subst (λ t. SubsumedInAll pictureSignature (pictureTree limits s) t) (sym normal-meaning) (tree-normal pictureSignature (pictureTable s) (limits .depth))
+
+      module _ (readable : Readable limits s) where
+        pub normal-means : SubsumedInAll pictureSignature (pictureTree limits (normalFile limits s)) (pictureTree limits s)
+        unfolding normalTreeOf
+        normal-means =
+            subst (λ t. SubsumedInAll pictureSignature t (pictureTree limits s)) (sym normal-meaning)
+            (normal-tree pictureSignature (pictureTable s) (picture-known limits s readable) (limits .depth))
+
+        pub normal-same : Equivalent pictureSignature (pictureTree limits s) (pictureTree limits (normalFile limits s))
+        normal-same =
+            let t = pictureTree limits s in
+            let v = pictureTree limits (normalFile limits s) in
+            (inAll-subsumed pictureSignature t v means-normal, inAll-subsumed pictureSignature v t normal-means)
+
+  pub normal-normal : Readable limits s → Normal pictureSignature (normalTreeOf limits s)
+  unfolding normalTreeOf
+  normal-normal readable = normalTree-normal pictureSignature (pictureTable s) (picture-known limits s readable) (limits .depth)
