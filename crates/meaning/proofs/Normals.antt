@@ -4,8 +4,8 @@
 --   normal-length, normal-size                  the length of the file, and that a picture within the limits may be so long
 --   normal-reads, normal-readable               the file is readable, with a row for each node
 --   normal-meaning                              its tree is the normal tree
---   normal-means, means-normal                  whatever fits a readable picture fits its normal file, and the reverse, in every structure
---   normal-same                                 so they are equivalent
+--   picture-normal, normal-picture              whatever fits a picture fits its normal file, and the reverse if the picture is readable, in every structure
+--   normal-means                                so they are equivalent
 --   normal-normal                               the normal tree of a readable picture is normal
 use Prim.Native.Nat.{_≤_, ℕ}
 use lib.ListN.{length}
@@ -72,22 +72,22 @@ module _ (limits : Limits) (s : List ℕ) where
       unfolding normalFile
       normal-meaning = encoded-meaning (normalTreeOf limits s) limits (omega (arith, normal-count, bounded .0)) normal-height
 
-      pub means-normal : SubsumedInAll pictureSignature (pictureTree limits s) (pictureTree limits (normalFile limits s))
+      pub picture-normal : SubsumedInAll pictureSignature (pictureTree limits s) (pictureTree limits (normalFile limits s))
       unfolding normalTreeOf
-      means-normal = subst (λ t. SubsumedInAll pictureSignature (pictureTree limits s) t) (sym normal-meaning) (tree-normal pictureSignature (pictureTable s) (limits .depth))
+      picture-normal = subst (λ t. SubsumedInAll pictureSignature (pictureTree limits s) t) (sym normal-meaning) (tree-normal pictureSignature (pictureTable s) (limits .depth))
 
       module _ (readable : Readable limits s) where
-        pub normal-means : SubsumedInAll pictureSignature (pictureTree limits (normalFile limits s)) (pictureTree limits s)
+        pub normal-picture : SubsumedInAll pictureSignature (pictureTree limits (normalFile limits s)) (pictureTree limits s)
         unfolding normalTreeOf
-        normal-means =
+        normal-picture =
             subst (λ t. SubsumedInAll pictureSignature t (pictureTree limits s)) (sym normal-meaning)
             (normal-tree pictureSignature (pictureTable s) (picture-known limits s readable) (limits .depth))
 
-        pub normal-same : Equivalent pictureSignature (pictureTree limits s) (pictureTree limits (normalFile limits s))
-        normal-same =
+        pub normal-means : Equivalent pictureSignature (pictureTree limits s) (pictureTree limits (normalFile limits s))
+        normal-means =
             let t = pictureTree limits s in
             let v = pictureTree limits (normalFile limits s) in
-            (inAll-subsumed pictureSignature t v means-normal, inAll-subsumed pictureSignature v t normal-means)
+            (inAll-subsumed pictureSignature t v picture-normal, inAll-subsumed pictureSignature v t normal-picture)
 
   pub normal-normal : Readable limits s → Normal pictureSignature (normalTreeOf limits s)
   unfolding normalTreeOf
