@@ -17,7 +17,8 @@ use Rattle.ale.proofs.RowLists.{filterBelow-out, filterFrom-same, membe
 use Rattle.ale.proofs.TableLaws.{successor-nonzero}
 
 module _ (S : Signature) (p q : Table S) where
-  pub successors-same : (h h′ : ℕ → Tree S) (s : List ℕ) → ((j : ℕ) → T (member j s) → (p .kind j ≡ q .kind j) × (p .role j ≡ q .role j) × (h j ≡ h′ j)) →
+  pub successors-same : (h h′ : ℕ → Tree S) (s : List ℕ) →
+      ((j : ℕ) → T (member j s) → (p .kind j ≡ q .kind j) × (p .role j ≡ q .role j) × (h j ≡ h′ j)) →
       successors S p h s ≡ successors S q h′ s
   successors-same h h′ [] e = refl
   successors-same h h′ (j ∷ s) e =

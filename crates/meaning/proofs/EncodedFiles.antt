@@ -36,11 +36,14 @@ module _ (t : Tree pictureSignature) where
   encoded-under : (j : ℕ) → j < length (encode pictureSignature t) → ¬ (j ≡ 0) →
       depth ((encoded pictureSignature t) .parent) j ≡ suc (depth ((encoded pictureSignature t) .parent) ((encoded pictureSignature t) .parent j))
   encoded-under j l z =
-      let e = depth-under ((encoded pictureSignature t) .parent) j (omega (arith, z)) (λ k a b. encoded-parentsFirst pictureSignature t k (omega arith) (λ e. omega arith)) in
-      omega arith
+      omega (
+        arith,
+        depth-under ((encoded pictureSignature t) .parent) j (omega (arith, z)) (λ k a b.
+            encoded-parentsFirst pictureSignature t k (omega arith) (λ e. omega arith)),
+      )
 
-  pub encoded-writable : (limits : Limits) → size pictureSignature t ≤ limits .rows → height pictureSignature t ≤ limits .depth → RolesKnown pictureSignature t →
-      Writable limits (encode pictureSignature t)
+  pub encoded-writable : (limits : Limits) → size pictureSignature t ≤ limits .rows → height pictureSignature t ≤ limits .depth →
+      RolesKnown pictureSignature t → Writable limits (encode pictureSignature t)
   encoded-writable limits few low known = record {
     some = omega (arith, rows-of, height-size pictureSignature t);
     most = omega (arith, rows-of);
@@ -61,6 +64,7 @@ module _ (t : Tree pictureSignature) where
   pub encoded-meaning : (limits : Limits) → size pictureSignature t ≤ 256 ^ numberSize → height pictureSignature t ≤ limits .depth →
       pictureTree limits (fileOf (encode pictureSignature t)) ≡ t
   encoded-meaning limits few low =
-      file-tree (encode pictureSignature t) (parents-fit (encode pictureSignature t) (encoded-parentsFirst pictureSignature t) (omega (arith, rows-of))) (limits .depth) 0
+      let ws = encode pictureSignature t in
+      file-tree ws (parents-fit ws (encoded-parentsFirst pictureSignature t) (omega (arith, rows-of))) (limits .depth) 0
       (omega (arith, rows-of, height-size pictureSignature t))
       ∙ encoded-tree pictureSignature t (limits .depth) low

@@ -43,13 +43,15 @@ mark-back : (b : Bool) → eqb (markCode b) 1 ≡ b
 mark-back true = refl
 mark-back false = refl
 
-pub label-back : (l : Label pictureSignature) → record { wanted = setAt (l .wanted .set); excluded = setAt (l .excluded .set); bottom = eqb (markCode (l .bottom)) 1 } ≡ l
+pub label-back : (l : Label pictureSignature) →
+    record { wanted = setAt (l .wanted .set); excluded = setAt (l .excluded .set); bottom = eqb (markCode (l .bottom)) 1 } ≡ l
 label-back l = rw (setAt-set (l .wanted), setAt-set (l .excluded), mark-back (l .bottom))
 
 abbrev pub ParentsFit : List (Row pictureSignature) → Type 0
 ParentsFit ws = (j : ℕ) → j < length ws → ¬ (j ≡ 0) → (rowIn ws j) .parent < 256 ^ numberSize
 
-pub parents-fit : (ws : List (Row pictureSignature)) → ParentsFirst pictureSignature (tableOf pictureSignature ws) → length ws ≤ 256 ^ numberSize → ParentsFit ws
+pub parents-fit : (ws : List (Row pictureSignature)) → ParentsFirst pictureSignature (tableOf pictureSignature ws) →
+    length ws ≤ 256 ^ numberSize → ParentsFit ws
 parents-fit ws up few j l z = omega (arith, up j l z)
 
 module _ (ws : List (Row pictureSignature)) (fit : ParentsFit ws) where
@@ -69,5 +71,6 @@ module _ (ws : List (Row pictureSignature)) (fit : ParentsFit ws) where
         roles = λ j b z. file-role ws j (omega arith);
       }
 
-  pub file-tree : (n i : ℕ) → i < length ws → treeOf pictureSignature (pictureTable (fileOf ws)) n i ≡ treeOf pictureSignature (tableOf pictureSignature ws) n i
+  pub file-tree : (n i : ℕ) → i < length ws →
+      treeOf pictureSignature (pictureTable (fileOf ws)) n i ≡ treeOf pictureSignature (tableOf pictureSignature ws) n i
   file-tree n i l = treeOf-same pictureSignature (pictureTable (fileOf ws)) (tableOf pictureSignature ws) file-table n i (rw (file-table .rows) l)

@@ -53,9 +53,9 @@ rows-same y (w ∷ ws) rest zero l =
     rw (append-assoc (rowAt y w) (rowsFrom (suc y) ws) rest, add-zero y) here
 rows-same y (w ∷ ws) rest (suc j) l =
     let later = same-after (rowAt y w) 1 (length-rowAt y w) (rows-same (suc y) ws rest j (omega arith)) in
-    let place : 1 + j ≡ suc j = omega arith in
+    let index : 1 + j ≡ suc j = omega arith in
     let number : suc y + j ≡ y + suc j = omega arith in
-    rw (append-assoc (rowAt y w) (rowsFrom (suc y) ws) rest) (rw (place, number) at later)
+    rw (append-assoc (rowAt y w) (rowsFrom (suc y) ws) rest) (rw (index, number) at later)
 
 module _ (ws : List (Row pictureSignature)) where
   pub end-held : Same endSize (fileOf ws) (length ws) endBytes 0
@@ -64,7 +64,9 @@ module _ (ws : List (Row pictureSignature)) where
       (same-after (rowsFrom 0 ws) (length ws) (length-rowsFrom 0 ws) (record { byte = λ i l. refl }))
 
   module _ (j : ℕ) (l : j < length ws) where
-    pub row-held : HoldsRow (fileOf ws) j ((rowIn ws j) .parent) (codeAt j ((rowIn ws j) .kind)) ((rowIn ws j) .role) (markCode ((rowIn ws j) .label .bottom)) ((rowIn ws j) .label .wanted .set) ((rowIn ws j) .label .excluded .set)
+    pub row-held :
+        let w = rowIn ws j in
+        HoldsRow (fileOf ws) j (w .parent) (codeAt j (w .kind)) (w .role) (markCode (w .label .bottom)) (w .label .wanted .set) (w .label .excluded .set)
     row-held = record { same = subst (λ y. Same rowSize (fileOf ws) j (rowAt y (rowIn ws j)) 0) (zero-add j) (rows-same 0 ws endBytes j l) }
 
     pub file-tag : tagOf (fileOf ws) j ≡ rowTag

@@ -74,7 +74,9 @@ module _ (limits : Limits) (s : List ℕ) where
 
       pub picture-normal : SubsumedInAll pictureSignature (pictureTree limits s) (pictureTree limits (normalFile limits s))
       unfolding normalTreeOf
-      picture-normal = subst (λ t. SubsumedInAll pictureSignature (pictureTree limits s) t) (sym normal-meaning) (tree-normal pictureSignature (pictureTable s) (limits .depth))
+      picture-normal =
+          subst (λ t. SubsumedInAll pictureSignature (pictureTree limits s) t) (sym normal-meaning)
+          (tree-normal pictureSignature (pictureTable s) (limits .depth))
 
       module _ (readable : Readable limits s) where
         pub normal-picture : SubsumedInAll pictureSignature (pictureTree limits (normalFile limits s)) (pictureTree limits s)

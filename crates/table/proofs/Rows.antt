@@ -78,7 +78,8 @@ same-take s m n h = record { byte = λ i l. getD-take m s (place n i) 0 (omega a
 pub same-first : (k : ℕ) (s t : List ℕ) → k ≤ length s → Same k (s ++ t) 0 s 0
 same-first k s t h = record { byte = λ i l. List·getD-append s t 0 (place 0 i) (omega arith) }
 
-pub same-after : {k : ℕ} (s : List ℕ) {t : List ℕ} (n : ℕ) {m : ℕ} {u : List ℕ} {o : ℕ} → length s ≡ rowSize * n → Same k t m u o → Same k (s ++ t) (n + m) u o
+pub same-after : {k : ℕ} (s : List ℕ) {t : List ℕ} (n : ℕ) {m : ℕ} {u : List ℕ} {o : ℕ} → length s ≡ rowSize * n →
+    Same k t m u o → Same k (s ++ t) (n + m) u o
 same-after s {t} n {m} h e =
     record {
       byte = λ i l.
