@@ -2,6 +2,7 @@
 """Lists, for each need of a function's proof, the places on the way to it: how many '.before' lead to which record.
 
     tools/places.py CRATE FUNCTION      as: tools/places.py picture field/row_field
+    tools/places.py CRATE CYCLE FUNCTION    of a function in a cycle of calls, CYCLE being the folder of its proof
 """
 import os
 import re
@@ -12,7 +13,8 @@ import tempfile
 crate, function = sys.argv[1:3]
 out = tempfile.mkdtemp()
 subprocess.run(["rt", "dev", crate, "--generated", out], capture_output=True)
-with open(os.path.join(out, f"Rattle.{crate}.proofs/proofs/{function}/Lts.antt")) as f:
+lts = "Lts-" + sys.argv[3] if len(sys.argv) > 3 else "Lts"
+with open(os.path.join(out, f"Rattle.{crate}.proofs/proofs/{function}/{lts}.antt")) as f:
     text = f.read()
 before = {}
 place = None

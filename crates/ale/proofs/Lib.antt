@@ -24,6 +24,7 @@ pub mod RowLists
 pub mod TableLaws
 pub mod SameTables
 pub mod Forests
+pub mod Appends
 pub mod Merging
 pub mod Tidying
 pub mod NormalForms

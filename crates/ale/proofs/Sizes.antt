@@ -33,7 +33,7 @@ module _ (S : Signature) where
         chosen (λ t. size S t ≤ suc (sizes S f)) (inconsistent S l (tidyAll S f)) (bottomTree S) (node l (tidyAll S f))
         (λ _. omega arith) (λ _. omega arith)
 
-    tidyAll-size : (f : Forest S) → sizes S (tidyAll S f) ≤ sizes S f
+    pub tidyAll-size : (f : Forest S) → sizes S (tidyAll S f) ≤ sizes S f
     tidyAll-size nil = omega arith
     tidyAll-size (cons k r t f) = omega (arith, consReduced-size k r (tidy S t) (tidyAll S f), tidy-size t, tidyAll-size f)
 

@@ -1,17 +1,20 @@
--- Laws of `put`.
+-- Laws of `put` and of `zeros`.
 --   put-paste                       what a copying loop makes is a `put`
 --   put-nil                         nothing put changes nothing
 --   length-put                      the length stays
 --   put-put, put-three              runs put one after the other
 --   put-before, put-in, put-after   what stands before the run, in it and after it
-use mathlib.Core.Path.{_≡_, ap, sym, _∙_}
+--   length-zeros, getD-zeros        a run of zeros: its length, and that it has only zeros
+--   clear-start, clear-step,
+--   clear-end                       what a clearing loop makes: before its first turn, by each, and when it is done
+use mathlib.Core.Path.{_≡_, refl, ap, sym, _∙_}
 use mathlib.Core.List.{List, [], _++_, append-assoc, append-nil}
-use Prim.Native.Nat.{ℕ, _+_, _-_, _≤_, _<_}
+use Prim.Native.Nat.{ℕ, zero, suc, _+_, _-_, _≤_, _<_}
 use native.Mathlib.Nat.{add-assoc, add-zero}
 use native.Mathlib.Omega.{arith}
-use lib.ListN.{length, take, drop, getD, length-append, take-append-drop, List·getD-append}
-use lib.Seq.{paste, length-paste, drop-append-add, drop-drop, take-at, take-length, length-take-le, getD-take, getD-drop, getD-append-add}
-use Rattle.table.specs.Put.{put}
+use lib.ListN.{length, take, drop, set, getD, length-append, take-append-drop, length-replicate, List·getD-append}
+use lib.Seq.{paste, paste-zero, paste-suc, length-paste, drop-append-add, drop-drop, take-at, take-length, length-take-le, getD-take, getD-drop, getD-append-add}
+use Rattle.table.specs.Put.{put, zeros}
 
 -- what a copying loop makes, when it is done
 pub put-paste : (d : List ℕ) (at : ℕ) (s : List ℕ) → paste d at s (length s) ≡ put d at s
@@ -61,3 +64,38 @@ unfolding put
 put-after d at s i h =
     let e : length (take at d ++ s) ≡ at + length s = simp (length-append, length-take-le at d h) in
     ap (λ (k : ℕ). getD (take at d ++ s ++ drop (at + length s) d) (k + i) 0) (sym e) ∙ getD-append-add (take at d ++ s) (drop (at + length s) d) i 0 ∙ getD-drop (at + length s) d i 0
+
+-- a run of zeros
+
+pub length-zeros : (n : ℕ) → length (zeros n) ≡ n
+unfolding zeros
+length-zeros n = length-replicate n 0
+
+pub getD-zeros : (n i : ℕ) → getD (zeros n) i 0 ≡ 0
+unfolding zeros
+getD-zeros zero i = refl
+getD-zeros (suc n) zero = refl
+getD-zeros (suc n) (suc i) = getD-zeros n i
+
+module _ (d : List ℕ) (from to : ℕ) where
+  pub clear-start : d ≡ paste d from (zeros (to - from)) (from - from)
+  clear-start =
+      let none : 0 ≡ from - from = omega arith in
+      paste-zero d from (zeros (to - from)) ∙ ap (λ (i : ℕ). paste d from (zeros (to - from)) i) none
+
+  pub clear-step : (j : ℕ) → from ≤ j → j < to → to ≤ length d → set (paste d from (zeros (to - from)) (j - from)) j 0 ≡ paste d from (zeros (to - from)) (j + 1 - from)
+  clear-step j a b h =
+      let z : List ℕ = zeros (to - from) in
+      let k : ℕ = j - from in
+      let at : j ≡ from + k = omega arith in
+      let next : suc k ≡ j + 1 - from = omega arith in
+      ap (λ (i : ℕ). set (paste d from z k) i 0) at
+      ∙ ap (λ (v : ℕ). set (paste d from z k) (from + k) v) (sym (getD-zeros (to - from) k))
+      ∙ paste-suc d from z k 0 (omega arith) (omega (arith, length-zeros (to - from)))
+      ∙ ap (λ (i : ℕ). paste d from z i) next
+
+  pub clear-end : (j : ℕ) → j ≡ to → paste d from (zeros (to - from)) (j - from) ≡ put d from (zeros (to - from))
+  clear-end j e =
+      let z : List ℕ = zeros (to - from) in
+      let k : j - from ≡ length z = omega (arith, length-zeros (to - from)) in
+      ap (λ (i : ℕ). paste d from z i) k ∙ put-paste d from z

@@ -1,9 +1,9 @@
 // Numbers of several bytes, the high byte first; bytes put into a lent part.
 ghost use mathlib.Core.Path.{_≡_};
-ghost use Prim.Native.Nat.{ℕ, _+_, _≤_, _<_, _^_};
+ghost use Prim.Native.Nat.{ℕ, _+_, _-_, _≤_, _<_, _^_};
 ghost use lib.ListN.{length};
 ghost use Rattle.table.specs.Number.{be};
-ghost use Rattle.table.specs.Put.{put};
+ghost use Rattle.table.specs.Put.{put, zeros};
 
 pub fn wide(x: u8) -> u64
     ensures { λ r. ⌜ (r ≡ x) × (r < 256) ⌝ }
@@ -40,6 +40,18 @@ pub fn copy_in(dst: &mut [u8], at: usize, src: &[u8])
     let mut j = 0;
     while j < src.len() {
         dst[at + j] = src[j];
+        j += 1;
+    }
+}
+
+// Writes zeros from one place to before another.
+pub fn clear(dst: &mut [u8], from: usize, to: usize)
+    requires { ⌜ (from ≤ to) × (to ≤ length (now dst)) ⌝ }
+    ensures { λ _. ⌜ now (dst .exit) ≡ put (now (dst .entry)) from (zeros (to - from)) ⌝ }
+{
+    let mut j = from;
+    while j < to {
+        dst[j] = 0;
         j += 1;
     }
 }

@@ -1,0 +1,126 @@
+-- Laws of the labels of sets of rows.
+--   filter-same    tests that agree give the same rows
+--   part-with      a part of the label of a set with row c is that of row c joined with that of the set: a union has no order and takes a row once
+--   part-joined    the same of what is equal to those parts
+--   label-with     so the label of the flagged rows, joined with that of row c, is the label of the set
+--   valued-none    the values of no rows
+--   valued-with    and of the flagged rows with row c
+use Prim.Native.Nat.{_+_, _<_, _≤_, suc, zero, ℕ}
+use borrow.Author.Tests.{eqb-false, eqb-true, ne-eqb}
+use lib.Dec.{eqb}
+use lib.ListN.{length, set}
+use mathlib.Core.Bool.{Bool, _||_, false, false≢true, true}
+use mathlib.Core.List.{List, _∷_}
+use mathlib.Core.Path.{_∙_, _≡_, ap, refl, subst, sym}
+use native.Mathlib.Nat.{mod-eq-of-lt}
+use native.Mathlib.Omega.{arith}
+use Rattle.ale.proofs.RowLists.{filterFrom-none}
+use Rattle.ale.specs.Merged.{labelOfSet, labelUnion}
+use Rattle.ale.specs.PictureSignature.{pictureSignature}
+use Rattle.ale.specs.Rows.{filterBelow, filterFrom}
+use Rattle.ale.specs.Signature.{Signature}
+use Rattle.ale.specs.Table.{Table}
+use Rattle.ale.specs.Tree.{Label, emptyLabel}
+use Rattle.meaning.specs.Meaning.{pictureTable}
+use Rattle.picture.specs.View.{viewOf}
+use Rattle.table.proofs.Bools.{false-is}
+use Rattle.table.proofs.NameSets.{has-union, set-ext}
+use Rattle.table.specs.Fields.{impossibleOf, parentOf}
+use Rattle.table.specs.NameSet.{has, union}
+use Rattle.table.specs.Pick.{pick}
+use Rattle.normal.specs.declared.label.Label as code
+use Rattle.normal.specs.declared.values.Values.{Values}
+use Rattle.normal.specs.Labels.{Added, Joined, LabelIs, Valued}
+use Rattle.normal.specs.Rows.{Blank, Highs, Lows, flagged, inSet, setRows}
+use Rattle.normal.proofs.RowSets.{blank-flagged}
+use Rattle.normal.proofs.Spans.{span-inside, span-with}
+use Rattle.normal.proofs.Stores.{flagged-stored}
+use Rattle.normal.proofs.Tests.{by-test, or-again, or-swap}
+
+pub filter-same : (q q′ : ℕ → Bool) (o n : ℕ) → ((j : ℕ) → o ≤ j → q j ≡ q′ j) → filterFrom q o n ≡ filterFrom q′ o n
+filter-same q q′ o zero h = refl
+filter-same q q′ o (suc n) h =
+    rw (h o (omega arith)) (ap (λ t. pick (q′ o) (o ∷ t) t) (filter-same q q′ (suc o) n (λ j l. h j (omega arith))))
+
+module _ (S : Signature) (p : Table S) {A : Type 0} (part : Label S → A) (op : A → A → A)
+    (joins : (l m : Label S) → part (labelUnion S l m) ≡ op (part l) (part m)) (swap : (a b c : A) → op a (op b c) ≡ op b (op a c))
+    (again : (a b : A) → op a (op a b) ≡ op a b) where
+  abbrev whole : List ℕ → A
+  whole t = part (labelOfSet S p t)
+
+  abbrev row : ℕ → A
+  row j = part (p .label j)
+
+  at-row : (o : ℕ) (t : List ℕ) (b : Bool) → whole (o ∷ t) ≡ op (row o) (whole (pick b (o ∷ t) t))
+  at-row o t true = joins (p .label o) (labelOfSet S p t) ∙ sym (ap (op (row o)) (joins (p .label o) (labelOfSet S p t)) ∙ again (row o) (whole t))
+  at-row o t false = joins (p .label o) (labelOfSet S p t)
+
+  before-row : (c o : ℕ) (t t′ : List ℕ) (b : Bool) → whole t′ ≡ op (row c) (whole t) →
+      whole (pick b (o ∷ t′) t′) ≡ op (row c) (whole (pick b (o ∷ t) t))
+  before-row c o t t′ true h =
+      joins (p .label o) (labelOfSet S p t′)
+      ∙ ap (op (row o)) h
+      ∙ swap (row o) (row c) (whole t)
+      ∙ ap (op (row c)) (sym (joins (p .label o) (labelOfSet S p t)))
+  before-row c o t t′ false h = h
+
+  pub part-with : (q : ℕ → Bool) (c o n : ℕ) → o ≤ c → c < o + n →
+      whole (filterFrom (λ j. eqb j c || q j) o n) ≡ op (row c) (whole (filterFrom q o n))
+  part-with q c o zero a b = absurd (omega arith)
+  part-with q c o (suc n) a b =
+      let t = filterFrom q (suc o) n in
+      by-test (eqb o c)
+      (λ e. let same = eqb-true o c e in
+      rw (e, filter-same (λ j. eqb j c || q j) q (suc o) n (λ j l. rw (ne-eqb j c (λ z. omega arith))))
+      (at-row o t (q o) ∙ ap (λ i. op (row i) (whole (pick (q o) (o ∷ t) t))) same))
+      (λ e. let other = eqb-false o c e in rw e (before-row c o t _ (q o) (part-with q c (suc o) n (omega (arith, other)) (omega arith))))
+
+  pub part-joined : (q : ℕ → Bool) (c n : ℕ) (x a b : A) → c < n → x ≡ op a b → a ≡ row c → b ≡ whole (filterBelow q n) →
+      x ≡ whole (filterBelow (λ j. eqb j c || q j) n)
+  part-joined q c n x a b l e f g =
+      e ∙ ap (λ z. op z b) f ∙ ap (op (row c)) g ∙ sym (part-with q c 0 n (omega arith) (omega arith))
+
+union-swap : (a b c : ℕ) → union a (union b c) ≡ union b (union a c)
+union-swap a b c =
+    set-ext (union a (union b c)) (union b (union a c))
+    (λ n. rw (has-union a (union b c) n, has-union b c n, has-union b (union a c) n, has-union a c n) (or-swap (has a n) (has b n) (has c n)))
+
+union-again : (a b : ℕ) → union a (union a b) ≡ union a b
+union-again a b =
+    set-ext (union a (union a b)) (union a b) (λ n. rw (has-union a (union a b) n, has-union a b n) (or-again (has a n) (has b n)))
+
+pub label-with : (s : List ℕ) (rows : ℕ) (flags : List ℕ) (values : Values) (c : ℕ) (r : code.Label) → c < rows →
+    Valued s rows flags values → Joined s c (values .label) r →
+    LabelIs r (labelOfSet pictureSignature (pictureTable s) (setRows rows flags c))
+unfolding inSet viewOf
+label-with s rows flags values c r l valued joined =
+    record {
+      wanted-is = part-joined pictureSignature (pictureTable s) (λ m. m .wanted .set) union (λ m n. refl) union-swap union-again (flagged flags) c rows
+          _ _ _ l (joined .wanted-joins) (sym (mod-eq-of-lt (joined .wanted-fits))) (valued .label-is .wanted-is);
+      excluded-is = part-joined pictureSignature (pictureTable s) (λ m. m .excluded .set) union (λ m n. refl) union-swap union-again (flagged flags) c rows
+          _ _ _ l (joined .excluded-joins) (sym (mod-eq-of-lt (joined .excluded-fits))) (valued .label-is .excluded-is);
+      bottom-is = part-joined pictureSignature (pictureTable s) (λ m. m .bottom) _||_ (λ m n. refl) or-swap or-again (flagged flags) c rows
+          _ (eqb (impossibleOf s c) 1) _ l (joined .bottom-joins) refl (valued .label-is .bottom-is);
+    }
+
+pub valued-none : (s : List ℕ) (rows : ℕ) (flags : List ℕ) (v : Values) → Blank flags → LabelIs (v .label) (emptyLabel pictureSignature) →
+    v .to ≡ 0 → Valued s rows flags v
+valued-none s rows flags v empty label end =
+    record {
+      label-is = subst (λ t. LabelIs (v .label) (labelOfSet pictureSignature (pictureTable s) t))
+          (sym (filterFrom-none (flagged flags) 0 rows (λ j a b. false-is (flagged flags j) (blank-flagged flags empty j)))) label;
+      inside = omega arith;
+      spans = λ j z b e. absurd (false≢true (sym (blank-flagged flags empty (parentOf s j)) ∙ e));
+    }
+
+pub valued-with : (s : List ℕ) (rows : ℕ) (flags lows highs : List ℕ) (values : Values) (c : ℕ) (r : Values) → c < rows → c < length flags →
+    Lows s rows lows → Highs s rows highs → Valued s rows flags values → Added s lows highs c values r → Valued s rows (set flags c 1) r
+valued-with s rows flags lows highs values c r l room low high valued added =
+    record {
+      label-is = subst (λ t. LabelIs (r .label) (labelOfSet pictureSignature (pictureTable s) t))
+          (filter-same (inSet flags c) (flagged (set flags c 1)) 0 rows (λ j a. sym (flagged-stored flags c j room)))
+          (label-with s rows flags values c (r .label) l valued (added .label-joins));
+      inside = span-inside s rows flags lows highs values c (r .from) (r .to) low high valued (added .from-is) (added .to-is);
+      spans = λ j z b e. span-with s rows flags lows highs values c (r .from) (r .to) low high valued (added .from-is) (added .to-is)
+          j z b (sym (flagged-stored flags c (parentOf s j) room) ∙ e);
+    }

@@ -1,0 +1,37 @@
+-- The three ways in which a row is left, by the two tests.
+--   left-broken, left-dropped, left-whole
+use Prim.Native.Nat.{_+_, ℕ}
+use lib.Dec.{eqb}
+use mathlib.Core.Bool.{Bool, _||_, false, not, true}
+use mathlib.Core.List.{List}
+use mathlib.Core.Path.{_≡_, ap, refl, _∙_}
+use Rattle.table.specs.Fields.{rowOf}
+use Rattle.table.specs.Layout.{kindForAll, «place»}
+use Rattle.table.specs.NameSet.{none}
+use Rattle.table.specs.Put.{put}
+use Rattle.normal.specs.Grown.{Left, broken, «given-up»}
+use Rattle.normal.specs.declared.grow.Branch.{Branch}
+use Rattle.normal.specs.declared.grow.Edge.{Edge}
+use Rattle.normal.specs.declared.label.Label.{Label}
+
+or-none : (a : Bool) → a ≡ (a || false)
+or-none true = refl
+or-none false = refl
+
+module _ (b : Branch) (edge : Edge) (label : Label) (below r : Branch) (out end : List ℕ) where
+  pub left-broken : (w e : ℕ) → broken label below ≡ true → r .merged ≡ below .merged → r .table .rows ≡ b .table .rows + 1 → r .bottom ≡ (b .bottom || not (eqb (edge .kind) kindForAll)) → w ≡ none → e ≡ none → end ≡ put out (place (b .table .rows) 0) (rowOf (edge .parent) (edge .kind) (edge .role) 1 w e) → Left b edge label below out r end
+  left-broken w e β m n z ew ee p = record {
+    counted = m;
+    rows-are = rw β n;
+    bottom-is = rw β z;
+    bytes-are =
+        rw β
+        (p ∙ ap (λ (x : ℕ). put out (place (b .table .rows) 0) (rowOf (edge .parent) (edge .kind) (edge .role) 1 x e)) ew
+        ∙ ap (λ (x : ℕ). put out (place (b .table .rows) 0) (rowOf (edge .parent) (edge .kind) (edge .role) 1 none x)) ee);
+  }
+
+  pub left-dropped : broken label below ≡ false → «given-up» b edge label below ≡ true → r .merged ≡ below .merged → r .table .rows ≡ b .table .rows → r .bottom ≡ b .bottom → end ≡ out → Left b edge label below out r end
+  left-dropped β δ m n z p = record { counted = m; rows-are = rw (β, δ) n; bottom-is = rw β (z ∙ or-none (b .bottom)); bytes-are = rw β p }
+
+  pub left-whole : broken label below ≡ false → «given-up» b edge label below ≡ false → r .merged ≡ below .merged → r .table .rows ≡ below .table .rows → r .bottom ≡ b .bottom → end ≡ out → Left b edge label below out r end
+  left-whole β δ m n z p = record { counted = m; rows-are = rw (β, δ) n; bottom-is = rw β (z ∙ or-none (b .bottom)); bytes-are = rw β p }

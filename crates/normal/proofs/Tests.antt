@@ -1,0 +1,22 @@
+-- Laws of tests, as equations.
+--   by-test            a fact that follows from either answer
+--   refuted            a test that cannot pass fails
+--   or-swap, or-again  a disjunction has no order, and takes a test once
+use mathlib.Core.Bool.{Bool, _||_, false, true}
+use mathlib.Core.Path.{_≡_, refl}
+
+pub by-test : {A : Type 0} (b : Bool) → (b ≡ true → A) → (b ≡ false → A) → A
+by-test true p q = p refl
+by-test false p q = q refl
+
+pub refuted : (b : Bool) → (b ≡ true → ⊥) → b ≡ false
+refuted b h = by-test b (λ e. absurd (h e)) (λ e. e)
+
+pub or-swap : (a b c : Bool) → (a || (b || c)) ≡ (b || (a || c))
+or-swap true true c = refl
+or-swap true false c = refl
+or-swap false b c = refl
+
+pub or-again : (a b : Bool) → (a || (a || b)) ≡ (a || b)
+or-again true b = refl
+or-again false b = refl
