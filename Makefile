@@ -1,7 +1,7 @@
 # make        prove the library and write target/staticlib/libzuvaropy.a
 # make test   prove everything, then run the C tests; the last line is 'N passed, M failed'
-# make demo   validate the sample pictures
-# make bench  time the library beside a scan hand-written in C
+# make demo   validate the sample pictures and print their normal tables
+# make bench  time the library beside the same calls hand-written in C
 # make clean  remove what the others made
 
 CC = gcc
@@ -27,13 +27,18 @@ gate: tools
 
 demo: library
 	@mkdir -p build/examples
-	@$(CC) $(CFLAGS) -Iinclude examples/validate.c $(LIBRARY) -o build/examples/validate
+	@$(CC) $(CFLAGS) -Iinclude examples/validate.c examples/input.c $(LIBRARY) -o build/examples/validate
+	@$(CC) $(CFLAGS) -Iinclude examples/normalize.c examples/input.c $(LIBRARY) -o build/examples/normalize
 	@build/examples/validate samples/*.pic
+	@build/examples/normalize samples/*.pic
 
 bench: library
 	@mkdir -p build/bench
-	@$(CC) $(CFLAGS) -Iinclude -Ibench bench/validate.c bench/scan.c $(LIBRARY) -o build/bench/validate
+	@$(CC) $(CFLAGS) -Iinclude bench/validate.c bench/scan.c bench/timing.c $(LIBRARY) -o build/bench/validate
+	@$(CC) $(CFLAGS) -Iinclude -Itests bench/normalize.c bench/merge.c bench/scan.c bench/timing.c tests/picture.c \
+	    tests/random.c tests/check.c $(LIBRARY) -o build/bench/normalize
 	@build/bench/validate
+	@build/bench/normalize
 
 clean:
 	rm -rf build target

@@ -4,17 +4,14 @@
  * median of the rounds is printed, so that both see the same machine.
  */
 
-#define _POSIX_C_SOURCE 199309L /* clock_gettime */
-
 #include "scan.h"
+#include "timing.h"
 #include "zuvaropy.h"
 
 #include <stdio.h>
 #include <stdlib.h>
-#include <time.h>
 
 #define PICTURES 8 /* different ones of each size, so that no branch is learned by heart */
-#define ROUNDS 21
 #define ROUND_ROWS 2000000ul /* rows read by each side in a round */
 
 typedef uint64_t validate_function(const uint8_t *, size_t);
@@ -68,38 +65,25 @@ static double time_round(validate_function *validate, unsigned int rows)
 {
     const unsigned long calls = ROUND_ROWS / (rows + 4);
     const size_t length = ZUVAROPY_PICTURE_BYTES((size_t)rows);
-    struct timespec start, stop;
     uint64_t sum = 0;
     unsigned long i;
+    double start, stop;
 
-    clock_gettime(CLOCK_MONOTONIC, &start);
+    start = timing_now();
     for (i = 0; i < calls; i++)
         sum += zuvaropy_value(validate(pictures[i % PICTURES], length));
-    clock_gettime(CLOCK_MONOTONIC, &stop);
+    stop = timing_now();
     if (sum != (uint64_t)calls * rows) {
         fprintf(stderr, "bench: a picture of %u rows was refused\n", rows);
         exit(EXIT_FAILURE);
     }
-    return ((double)(stop.tv_sec - start.tv_sec) * 1e9 + (double)(stop.tv_nsec - start.tv_nsec)) / (double)calls;
-}
-
-static int compare(const void *a, const void *b)
-{
-    const double x = *(const double *)a, y = *(const double *)b;
-
-    return (x > y) - (x < y);
-}
-
-static double median(double *times)
-{
-    qsort(times, ROUNDS, sizeof times[0], compare);
-    return times[ROUNDS / 2];
+    return (stop - start) / (double)calls;
 }
 
 int main(void)
 {
     static const unsigned int sizes[] = {1, 16, ZUVAROPY_MAX_ROWS};
-    double library[ROUNDS], scan[ROUNDS];
+    double library[TIMING_ROUNDS], scan[TIMING_ROUNDS];
     unsigned int i, k;
 
     printf("validate, ns per call\nrows    library       scan      ratio\n");
@@ -110,12 +94,12 @@ int main(void)
             make_picture(pictures[k], sizes[i]);
         time_round(zuvaropy_validate, sizes[i]); /* warm up */
         time_round(scan_validate, sizes[i]);
-        for (k = 0; k < ROUNDS; k++) {
+        for (k = 0; k < TIMING_ROUNDS; k++) {
             library[k] = time_round(zuvaropy_validate, sizes[i]);
             scan[k] = time_round(scan_validate, sizes[i]);
         }
-        library_ns = median(library);
-        scan_ns = median(scan);
+        library_ns = timing_median(library);
+        scan_ns = timing_median(scan);
         printf("%4u %10.1f %10.1f %10.2f\n", sizes[i], library_ns, scan_ns, library_ns / scan_ns);
     }
     return 0;

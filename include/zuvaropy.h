@@ -107,9 +107,15 @@ extern "C" {
 #define ZUVAROPY_INPUT_CARD      5  /* a card of the book */
 
 /*
- * Questions asked of a picture: field by field, those of one field in the
- * order of their numbers. The first one whose answer is no refuses the
- * picture.
+ * Questions. The first one whose answer is no refuses the input.
+ */
+
+/* Asked before anything else is looked at. */
+#define ZUVAROPY_QUESTION_BUFFER       1  /* is each buffer lent for writing long enough? */
+
+/*
+ * Asked of a picture: field by field, those of one field in the order of their
+ * numbers.
  */
 #define ZUVAROPY_QUESTION_HEAD         2  /* are the bytes of the head there? */
 #define ZUVAROPY_QUESTION_TAG          3  /* is the tag that of a row or of the end? */
@@ -123,6 +129,9 @@ extern "C" {
 #define ZUVAROPY_QUESTION_PARENT      11  /* row: is the parent below the row's number (0 in row 0)? */
 #define ZUVAROPY_QUESTION_DEPTH       12  /* row: is the depth at most ZUVAROPY_MAX_DEPTH? */
 #define ZUVAROPY_QUESTION_IMPOSSIBLE  13  /* row: is the impossible byte 0 or 1? */
+
+/* Asked when all pictures have been read. */
+#define ZUVAROPY_QUESTION_MERGED      14  /* has the merged table at most ZUVAROPY_MAX_ROWS rows? */
 
 /*
  * The answer word
@@ -175,8 +184,9 @@ static inline unsigned int zuvaropy_card(uint64_t word)
  *
  * The library's functions want a pointer that is not NULL even where the
  * length is 0. Each call is therefore also a macro of the same name that puts
- * zuvaropy_lent around its pointers; every argument is evaluated once. The
- * function itself is reached by its address or as (zuvaropy_validate)(..).
+ * zuvaropy_lent or zuvaropy_lent_writable around its pointers; every argument
+ * is evaluated once. The function itself is reached by its address or as
+ * (zuvaropy_validate)(..).
  */
 
 /* The pointer itself, or one to a byte that is never read where it is NULL. */
@@ -184,6 +194,13 @@ static inline const uint8_t *zuvaropy_lent(const uint8_t *buffer)
 {
     static const uint8_t unread = 0;
     return buffer != NULL ? buffer : &unread;
+}
+
+/* The same for a buffer lent for writing: the byte is not written either. */
+static inline uint8_t *zuvaropy_lent_writable(uint8_t *buffer)
+{
+    static uint8_t unwritten = 0;
+    return buffer != NULL ? buffer : &unwritten;
 }
 
 /*
@@ -201,6 +218,47 @@ static inline const uint8_t *zuvaropy_lent(const uint8_t *buffer)
 uint64_t zuvaropy_validate(const uint8_t *picture, size_t picture_len);
 #define zuvaropy_validate(picture, picture_len) \
     zuvaropy_validate(zuvaropy_lent(picture), (picture_len))
+
+/*
+ * Write the normal table of a picture: a picture with the same instances, in
+ * which what is said of all successors by a role is also said of each one by
+ * that role.
+ *
+ * In the merged table a row stands for a set of rows of the picture, the root
+ * for row 0 alone, and has the names and the mark of them all. For each role,
+ * the value restrictions of the set become one successor, and each existential
+ * restriction becomes one that stands for it and all those value restrictions.
+ * Then, from the leaves up, a row becomes impossible, without names or
+ * successors, if it is marked, if a name is both wanted and excluded, or if an
+ * existential restriction of it is impossible; and a value restriction that
+ * says nothing is dropped. Rows are written depth first: successors by role,
+ * the value restriction before the existential ones, these in the order of the
+ * picture.
+ *
+ * Reads:   picture, at most picture_len bytes.
+ * Writes:  result, as many bytes as the value says; the bytes after them keep
+ *          their contents. A refusal writes nothing.
+ * Returns: ZUVAROPY_OUTCOME_YES, value: the length of the normal table in
+ *          bytes, ZUVAROPY_PICTURE_BYTES(rows) for a table of so many rows; or
+ *          ZUVAROPY_OUTCOME_REFUSAL, in this order:
+ *          question 1, input ZUVAROPY_INPUT_BUFFER, if result_len is below
+ *          ZUVAROPY_MAX_PICTURE_BYTES, however short the table would be;
+ *          question 2 to 13, input ZUVAROPY_INPUT_FIRST, as zuvaropy_validate;
+ *          question 14, input ZUVAROPY_INPUT_FIRST, if the merged table has
+ *          more than ZUVAROPY_MAX_ROWS rows, however few the normal table would
+ *          have. It can be far larger than the picture, but is not built
+ *          further than that.
+ *
+ * Any bytes of any length may be given as the picture. The two buffers must
+ * not overlap.
+ *
+ * A normal table is a picture, and can be given to any call. Its own normal
+ * table has the same instances, but need not be the same bytes, and its merged
+ * table may be too large.
+ */
+uint64_t zuvaropy_normalize(const uint8_t *picture, size_t picture_len, uint8_t *result, size_t result_len);
+#define zuvaropy_normalize(picture, picture_len, result, result_len) \
+    zuvaropy_normalize(zuvaropy_lent(picture), (picture_len), zuvaropy_lent_writable(result), (result_len))
 
 #ifdef __cplusplus
 }

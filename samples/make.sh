@@ -46,7 +46,26 @@ chain() {
     done
 }
 
+# 15 children, and all children have 15 pets: merged, these stand below each child.
+spread() {
+    row 0 $root 0 0 0 0
+    row 0 $all $child 0 0 0
+    for names in 1 2 3 4 5 6 7 8 9 10 11 12 13 14 15; do
+        row 1 $some $pet 0 "$names" 0
+        row 0 $some $child 0 "$names" 0
+    done
+}
+
+# A child who is a doctor, and no children.
+none() {
+    row 0 $root 0 0 $woman 0
+    row 0 $all $child 1 0 0
+    row 0 $some $child 0 $doctor 0
+}
+
 { family; end; } >"$folder/family.pic"
 { row 0 $root 0 0 0 0; end; } >"$folder/top.pic"     # what everything is an instance of
+{ none; end; } >"$folder/none.pic"                   # what nothing is an instance of
 { family; bytes 16 0 21 0 1 2; } >"$folder/cut.pic"  # a sixth row, cut off
 { chain 13; end; } >"$folder/deep.pic"               # one edge more than allowed
+{ spread; end; } >"$folder/spread.pic"               # one merged row more than allowed

@@ -37,6 +37,23 @@ void picture_row(struct picture *p, unsigned int parent, unsigned int kind, unsi
         picture_byte(p, 0);
 }
 
+static void put_set(uint8_t *at, uint64_t set)
+{
+    unsigned int i;
+
+    for (i = 0; i < ZUVAROPY_NAME_SET_BYTES; i++)
+        at[i] = (uint8_t)(set >> 8 * (ZUVAROPY_NAME_SET_BYTES - 1 - i));
+}
+
+void picture_label(struct picture *p, uint64_t wanted, uint64_t excluded, unsigned int impossible)
+{
+    uint8_t *value = picture_value(p, (unsigned int)(p->length / ZUVAROPY_ROW_BYTES) - 1);
+
+    put_set(value + ZUVAROPY_WANTED_AT, wanted);
+    put_set(value + ZUVAROPY_EXCLUDED_AT, excluded);
+    value[ZUVAROPY_IMPOSSIBLE_AT] = (uint8_t)impossible;
+}
+
 void picture_end(struct picture *p)
 {
     picture_head(p, ZUVAROPY_TAG_END, ZUVAROPY_END_VALUE_BYTES);
@@ -137,7 +154,17 @@ uint64_t word_rows(unsigned int rows)
     return (uint64_t)1 << 56 | rows;
 }
 
+uint64_t word_length(unsigned int rows)
+{
+    return (uint64_t)1 << 56 | (24 * rows + 3);
+}
+
 uint64_t word_refusal(unsigned int question)
 {
     return (uint64_t)question << 48 | (uint64_t)1 << 40;
+}
+
+uint64_t word_short(void)
+{
+    return (uint64_t)1 << 48;
 }

@@ -1,6 +1,6 @@
 /*
  * Pictures for the tests: built row by row, damaged on purpose, and validated
- * with a look at whether the input stayed as it was.
+ * with a look at whether the input stayed as it was. The answer words.
  */
 
 #ifndef PICTURE_H
@@ -20,6 +20,9 @@ void picture_clear(struct picture *p);
 void picture_byte(struct picture *p, unsigned int byte);
 void picture_row(struct picture *p, unsigned int parent, unsigned int kind, unsigned int role);
 void picture_end(struct picture *p);
+
+/* The names and the impossible byte of the last row; a new one has none of them. */
+void picture_label(struct picture *p, uint64_t wanted, uint64_t excluded, unsigned int impossible);
 
 /* A root and its successors; a chain of so many edges. Neither has an end
  * field yet, so that rows can follow. */
@@ -41,8 +44,11 @@ void picture_damage(struct picture *p, unsigned int row, unsigned int question);
 /* The call, with a check that it left the input as it was. */
 uint64_t picture_validate(const struct picture *p);
 
-/* The answer words of the call. */
+/* The answer words: a number of rows, the length of so many rows in bytes, a
+ * refusal of the first input, and one of a buffer. */
 uint64_t word_rows(unsigned int rows);
+uint64_t word_length(unsigned int rows);
 uint64_t word_refusal(unsigned int question);
+uint64_t word_short(void);
 
 #endif

@@ -65,7 +65,8 @@ program() {
     failed=$((failed + ${counts#* }))
 }
 
-shared='tests/check.c tests/picture.c tests/reference.c tests/second_unit.c'
+shared="tests/check.c tests/picture.c tests/random.c tests/pages.c tests/reference.c tests/normal_reference.c
+    tests/normalize.c tests/second_unit.c"
 for source in tests/test_*.c; do
     name=$(basename "$source" .c)
     program "$name" $c "$source" $shared
@@ -83,13 +84,13 @@ symbols() {
         ! grep -vE '^$|:$| (memset|memcpy|memmove|memcmp)$' "$out/symbols.log"
 }
 
-# The samples are what their script makes, and the example says of them what it should.
+# The samples are what their script makes, and each example says of them what it should.
 samples() {
-    sh samples/make.sh "$out/samples" && diff -r -x make.sh -x validate.stdout samples "$out/samples"
+    sh samples/make.sh "$out/samples" && diff -r -x make.sh -x '*.stdout' samples "$out/samples"
 }
 example() {
-    $c examples/validate.c "$archive" -o "$out/validate" && "$out/validate" samples/*.pic >"$out/validate.log" &&
-        diff samples/validate.stdout "$out/validate.log"
+    $c "examples/$1.c" examples/input.c "$archive" -o "$out/$1" && "$out/$1" samples/*.pic >"$out/$1.log" &&
+        diff "samples/$1.stdout" "$out/$1.log"
 }
 
 # The program of the README builds and runs as it stands there.
@@ -105,7 +106,8 @@ else
     echo "symbols: not tested, no nm"
 fi
 one samples samples
-one example example
+one 'example validate' example validate
+one 'example normalize' example normalize
 one readme readme
 
 echo "$failed" >"$out/failed"

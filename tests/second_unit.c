@@ -11,3 +11,8 @@ uint64_t second_unit_validate(const uint8_t *picture, size_t picture_len)
 {
     return zuvaropy_validate(picture, picture_len);
 }
+
+uint64_t second_unit_normalize(const uint8_t *picture, size_t picture_len, uint8_t *result, size_t result_len)
+{
+    return zuvaropy_normalize(picture, picture_len, result, result_len);
+}

@@ -8,5 +8,6 @@
 
 unsigned int second_unit_question(uint64_t word);
 uint64_t second_unit_validate(const uint8_t *picture, size_t picture_len);
+uint64_t second_unit_normalize(const uint8_t *picture, size_t picture_len, uint8_t *result, size_t result_len);
 
 #endif

@@ -4,49 +4,22 @@
  * too far, or any byte written, ends the program by a signal.
  */
 
-#define _DEFAULT_SOURCE /* MAP_ANONYMOUS */
-
 #include "check.h"
+#include "pages.h"
 #include "picture.h"
 
-#include <stdio.h>
-#include <stdlib.h>
 #include <string.h>
-#include <sys/mman.h>
-#include <unistd.h>
 
 static struct picture p;
-
-/* Pages that can be used, with one before and one after that cannot. */
-static uint8_t *pages;
-static size_t pages_length;
-
-static void must(int ok, const char *what)
-{
-    if (!ok) {
-        perror(what);
-        exit(EXIT_FAILURE);
-    }
-}
-
-static void map_pages(void)
-{
-    const size_t page = (size_t)sysconf(_SC_PAGESIZE);
-    uint8_t *all;
-
-    pages_length = (sizeof p.bytes + page - 1) / page * page;
-    all = mmap(NULL, pages_length + 2 * page, PROT_NONE, MAP_PRIVATE | MAP_ANONYMOUS, -1, 0);
-    must(all != MAP_FAILED, "mmap");
-    pages = all + page;
-}
+static struct pages pages;
 
 static uint64_t validate_at(uint8_t *place)
 {
     uint64_t word;
 
-    must(mprotect(pages, pages_length, PROT_READ | PROT_WRITE) == 0, "mprotect");
+    pages_allow_writing(&pages);
     memcpy(place, p.bytes, p.length);
-    must(mprotect(pages, pages_length, PROT_READ) == 0, "mprotect");
+    pages_forbid_writing(&pages);
     word = zuvaropy_validate(place, p.length);
     CHECK(memcmp(place, p.bytes, p.length) == 0);
     return word;
@@ -54,8 +27,8 @@ static uint64_t validate_at(uint8_t *place)
 
 static void check_bounds(uint64_t wanted)
 {
-    CHECK_WORD(validate_at(pages + pages_length - p.length), wanted, p.length);
-    CHECK_WORD(validate_at(pages), wanted, p.length);
+    CHECK_WORD(validate_at(pages_last(&pages, p.length)), wanted, p.length);
+    CHECK_WORD(validate_at(pages.first), wanted, p.length);
 }
 
 /* A good picture, and all that is left of it when it is cut off. */
@@ -99,7 +72,7 @@ static void test_too_many_rows(void)
 
 int main(void)
 {
-    map_pages();
+    pages_map(&pages, sizeof p.bytes);
     test_rows(1);
     test_rows(2);
     test_rows(16);

@@ -56,6 +56,7 @@ static void test_codes(void)
     CHECK(ZUVAROPY_INPUT_BOOK == 4);
     CHECK(ZUVAROPY_INPUT_CARD == 5);
 
+    CHECK(ZUVAROPY_QUESTION_BUFFER == 1);
     CHECK(ZUVAROPY_QUESTION_HEAD == 2);
     CHECK(ZUVAROPY_QUESTION_TAG == 3);
     CHECK(ZUVAROPY_QUESTION_LENGTH == 4);
@@ -68,6 +69,7 @@ static void test_codes(void)
     CHECK(ZUVAROPY_QUESTION_PARENT == 11);
     CHECK(ZUVAROPY_QUESTION_DEPTH == 12);
     CHECK(ZUVAROPY_QUESTION_IMPOSSIBLE == 13);
+    CHECK(ZUVAROPY_QUESTION_MERGED == 14);
 }
 
 static void test_word(void)
@@ -93,24 +95,33 @@ static void test_word(void)
 static void test_lent(void)
 {
     const uint8_t byte = 7;
+    uint8_t writable = 7;
 
     CHECK(zuvaropy_lent(&byte) == &byte);
     CHECK(zuvaropy_lent(NULL) != NULL);
+    CHECK(zuvaropy_lent_writable(&writable) == &writable);
+    CHECK(zuvaropy_lent_writable(NULL) != NULL);
 }
 
-/* The least picture: one row that is all zero, and the end field. */
-static void test_call(void)
-{
-    uint64_t (*function)(const uint8_t *, size_t) = zuvaropy_validate;
-    const uint64_t one_row = (uint64_t)1 << 56 | 1;
-    uint8_t bytes[ZUVAROPY_PICTURE_BYTES(1)];
-    const uint8_t *next = bytes;
+static uint8_t bytes[ZUVAROPY_PICTURE_BYTES(1)];
+static uint8_t result[ZUVAROPY_MAX_PICTURE_BYTES];
 
+/* The least picture: one row that is all zero, and the end field. */
+static void make_picture(void)
+{
     memset(bytes, 0, sizeof bytes);
     bytes[0] = ZUVAROPY_TAG_ROW;
     bytes[2] = ZUVAROPY_ROW_VALUE_BYTES;
     bytes[ZUVAROPY_ROW_BYTES] = ZUVAROPY_TAG_END;
+}
 
+static void test_validate(void)
+{
+    uint64_t (*function)(const uint8_t *, size_t) = zuvaropy_validate;
+    const uint64_t one_row = (uint64_t)1 << 56 | 1;
+    const uint8_t *next = bytes;
+
+    make_picture();
     CHECK_WORD(zuvaropy_validate(bytes, sizeof bytes), one_row, 0);
     CHECK_WORD((zuvaropy_validate)(bytes, sizeof bytes), one_row, 0);
     CHECK_WORD(function(bytes, sizeof bytes), one_row, 0);
@@ -121,13 +132,39 @@ static void test_call(void)
     CHECK(next == bytes + 1);
 }
 
+static void test_normalize(void)
+{
+    uint64_t (*function)(const uint8_t *, size_t, uint8_t *, size_t) = zuvaropy_normalize;
+    const uint64_t one_row = (uint64_t)1 << 56 | ZUVAROPY_PICTURE_BYTES(1);
+    const uint64_t no_buffer = (uint64_t)1 << 48, no_head = (uint64_t)2 << 48 | (uint64_t)1 << 40;
+    const uint8_t *next = bytes;
+    uint8_t *next_result = result;
+
+    make_picture();
+    CHECK_WORD(zuvaropy_normalize(bytes, sizeof bytes, result, sizeof result), one_row, 0);
+    CHECK(memcmp(result, bytes, sizeof bytes) == 0);
+    CHECK_WORD((zuvaropy_normalize)(bytes, sizeof bytes, result, sizeof result), one_row, 0);
+    CHECK_WORD(function(bytes, sizeof bytes, result, sizeof result), one_row, 0);
+    CHECK_WORD(second_unit_normalize(bytes, sizeof bytes, result, sizeof result), one_row, 0);
+
+    CHECK_WORD(zuvaropy_normalize(bytes, sizeof bytes, NULL, 0), no_buffer, 0);
+    CHECK_WORD(zuvaropy_normalize(NULL, 0, result, sizeof result), no_head, 0);
+    CHECK_WORD(zuvaropy_normalize(NULL, 0, NULL, 0), no_buffer, 0);
+
+    /* The macro evaluates its arguments once. */
+    zuvaropy_normalize(next++, 0, next_result++, 0);
+    CHECK(next == bytes + 1);
+    CHECK(next_result == result + 1);
+}
+
 int main(void)
 {
     test_sizes();
     test_codes();
     test_word();
     test_lent();
-    test_call();
+    test_validate();
+    test_normalize();
 #ifdef __cplusplus
     return check_summary("header as C++");
 #else

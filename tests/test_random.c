@@ -5,28 +5,12 @@
 
 #include "check.h"
 #include "picture.h"
+#include "random.h"
 #include "reference.h"
-
-#include <string.h>
 
 #define PICTURES 300000
 
 static struct picture p;
-
-static uint64_t random_next(void)
-{
-    static uint64_t state = UINT64_C(0x9E3779B97F4A7C15);
-
-    state ^= state << 13;
-    state ^= state >> 7;
-    state ^= state << 17;
-    return state >> 16;
-}
-
-static unsigned int random_below(unsigned int limit)
-{
-    return (unsigned int)(random_next() % limit);
-}
 
 /* Mostly short, at times longer than allowed. */
 static unsigned int random_rows(void)
@@ -75,75 +59,6 @@ static void make_random(void)
     picture_end(&p);
 }
 
-/* A number next to one that a question compares with. */
-static uint8_t random_byte_at_a_limit(void)
-{
-    static const uint8_t limits[] = {
-        0, 1, 2, 3, ZUVAROPY_MAX_DEPTH, ZUVAROPY_TAG_ROW, ZUVAROPY_ROW_VALUE_BYTES, ZUVAROPY_ROLES, ZUVAROPY_TAG_END,
-        0xFF,
-    };
-
-    return (uint8_t)(limits[random_below(sizeof limits)] + random_below(3) - 1);
-}
-
-static void insert_bytes(size_t at, unsigned int count)
-{
-    if (p.length + count > sizeof p.bytes)
-        return;
-    memmove(p.bytes + at + count, p.bytes + at, p.length - at);
-    p.length += count;
-    while (count-- > 0)
-        p.bytes[at + count] = (uint8_t)random_next();
-}
-
-static void remove_bytes(size_t at, size_t count)
-{
-    if (count > p.length - at)
-        count = p.length - at;
-    memmove(p.bytes + at, p.bytes + at + count, p.length - at - count);
-    p.length -= count;
-}
-
-/* One change at random to a file that is not empty. */
-static void damage_random(void)
-{
-    const unsigned int length = (unsigned int)p.length;
-    const unsigned int at = random_below(length);
-    const unsigned int field = at - at % ZUVAROPY_ROW_BYTES;
-    const unsigned int checked = ZUVAROPY_HEAD_BYTES + ZUVAROPY_WANTED_AT;
-    unsigned int i;
-
-    switch (random_below(9)) {
-    case 0:
-        p.bytes[at] = (uint8_t)random_next();
-        break;
-    case 1:
-    case 2:
-    case 3:
-        i = field + random_below(checked);
-        p.bytes[i < length ? i : at] = random_byte_at_a_limit();
-        break;
-    case 4:
-        p.length = at;
-        break;
-    case 5:
-        insert_bytes(length, 1 + random_below(2 * ZUVAROPY_ROW_BYTES));
-        break;
-    case 6:
-        insert_bytes(at, 1 + random_below(3));
-        break;
-    case 7:
-        remove_bytes(at, 1 + random_below(3));
-        break;
-    default:
-        if (random_below(2))
-            remove_bytes(field, ZUVAROPY_ROW_BYTES);
-        else if (length - field >= ZUVAROPY_HEAD_BYTES)
-            memcpy(p.bytes + field, "\x2F\0\0", ZUVAROPY_HEAD_BYTES);
-        break;
-    }
-}
-
 int main(void)
 {
     unsigned long met[ZUVAROPY_QUESTION_IMPOSSIBLE + 1] = {0};
@@ -155,7 +70,7 @@ int main(void)
 
         make_random();
         for (damages = random_below(4); damages > 0 && p.length > 0; damages--)
-            damage_random();
+            random_damage(&p);
         wanted = reference_read(p.bytes, p.length);
         met[wanted.question]++;
         CHECK_WORD(picture_validate(&p), wanted.question == 0 ? word_rows(wanted.rows) : word_refusal(wanted.question),

@@ -1,0 +1,51 @@
+#include "input.h"
+
+#include <stdio.h>
+
+static const char *const question_text[] = {
+    [ZUVAROPY_QUESTION_BUFFER] = "is the buffer long enough?",
+    [ZUVAROPY_QUESTION_HEAD] = "are three head bytes there?",
+    [ZUVAROPY_QUESTION_TAG] = "is the tag 10 or 2F?",
+    [ZUVAROPY_QUESTION_LENGTH] = "is the length 21 or 0 to match?",
+    [ZUVAROPY_QUESTION_ROWS] = "have fewer than 256 rows been read?",
+    [ZUVAROPY_QUESTION_VALUE] = "is the whole value there?",
+    [ZUVAROPY_QUESTION_NONEMPTY] = "was there a row?",
+    [ZUVAROPY_QUESTION_STOP] = "does the file stop there?",
+    [ZUVAROPY_QUESTION_KIND] = "is the kind 0 in row 0, else 1 or 2?",
+    [ZUVAROPY_QUESTION_ROLE] = "is the role below 32, and 0 in row 0?",
+    [ZUVAROPY_QUESTION_PARENT] = "is the parent below the row's number?",
+    [ZUVAROPY_QUESTION_DEPTH] = "is the depth at most 12?",
+    [ZUVAROPY_QUESTION_IMPOSSIBLE] = "is the impossible byte 0 or 1?",
+    [ZUVAROPY_QUESTION_MERGED] = "has the merged table at most 256 rows?",
+};
+
+static const char *const input_text[] = {
+    [ZUVAROPY_INPUT_BUFFER] = "buffer",
+    [ZUVAROPY_INPUT_FIRST] = "first input",
+};
+
+int input_read(const char *name, uint8_t *bytes, size_t *length)
+{
+    int unread;
+    FILE *file = fopen(name, "rb");
+
+    if (file == NULL) {
+        perror(name);
+        return -1;
+    }
+    *length = fread(bytes, 1, INPUT_ROOM, file);
+    unread = ferror(file);
+    fclose(file);
+    if (unread) {
+        fprintf(stderr, "%s: cannot be read\n", name);
+        return -1;
+    }
+    return 0;
+}
+
+void input_print_refusal(const char *name, uint64_t word)
+{
+    const unsigned int question = zuvaropy_question(word), input = zuvaropy_input(word);
+
+    printf("%s: refused, question %u: %s (%s)\n", name, question, question_text[question], input_text[input]);
+}

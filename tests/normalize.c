@@ -1,0 +1,47 @@
+#include "normalize.h"
+
+#include "check.h"
+
+#include <assert.h>
+#include <string.h>
+
+#define MARGIN 64
+
+const uint8_t normalize_fills[3] = {0x00, 0xA5, 0xFF};
+
+static uint8_t area[MARGIN + NORMALIZE_ROOM + MARGIN];
+static uint8_t *const lent = area + MARGIN;
+
+static int is_filled(const uint8_t *from, const uint8_t *to, unsigned int fill)
+{
+    while (from < to && *from == fill)
+        from++;
+    return from == to;
+}
+
+void normalize_check(const struct picture *p, size_t room, unsigned int fill, uint64_t wanted, const uint8_t *table,
+                     unsigned long at)
+{
+    static uint8_t before[PICTURE_ROOM];
+    const uint32_t length = zuvaropy_outcome(wanted) == ZUVAROPY_OUTCOME_REFUSAL ? 0 : zuvaropy_value(wanted);
+
+    assert(room <= NORMALIZE_ROOM);
+    memset(area, (int)fill, sizeof area);
+    memcpy(before, p->bytes, sizeof before);
+    CHECK_WORD(zuvaropy_normalize(p->bytes, p->length, lent, room), wanted, at);
+    CHECK(memcmp(before, p->bytes, sizeof before) == 0);
+    CHECK(is_filled(area, lent, fill));
+    CHECK(is_filled(lent + length, area + sizeof area, fill));
+    if (length > 0) {
+        CHECK(memcmp(lent, table, length) == 0);
+        CHECK_WORD(zuvaropy_validate(lent, length), word_rows((length - 3) / 24), at);
+    }
+}
+
+void normalize_check_fills(const struct picture *p, uint64_t wanted, const uint8_t *table, unsigned long at)
+{
+    unsigned int i;
+
+    for (i = 0; i < sizeof normalize_fills; i++)
+        normalize_check(p, ZUVAROPY_MAX_PICTURE_BYTES, normalize_fills[i], wanted, table, at);
+}
