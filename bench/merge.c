@@ -88,7 +88,7 @@ static void read_rows(struct merge *m, const uint8_t *picture, unsigned int rows
         part->wanted = load_set(value + ZUVAROPY_WANTED_AT);
         part->excluded = load_set(value + ZUVAROPY_EXCLUDED_AT);
         part->impossible = value[ZUVAROPY_IMPOSSIBLE_AT];
-        for (i = 0; i < m->words; i++)
+        for (i = 0; i < WORDS; i++)
             part->successors[i] = 0;
         m->group[at] = (uint8_t)group_of(value);
         if (row > 0) {
@@ -99,14 +99,14 @@ static void read_rows(struct merge *m, const uint8_t *picture, unsigned int rows
     }
 }
 
-static void add(const struct merge *m, struct part *to, const struct part *part)
+static void add(struct part *to, const struct part *part)
 {
     unsigned int i;
 
     to->wanted |= part->wanted;
     to->excluded |= part->excluded;
     to->impossible |= part->impossible;
-    for (i = 0; i < m->words; i++)
+    for (i = 0; i < WORDS; i++)
         to->successors[i] |= part->successors[i];
 }
 
@@ -154,7 +154,7 @@ static int merge_rows(struct merge *m, unsigned int parent, unsigned int kind, u
 
         if (m->group[at] == all_group) {
             do {
-                add(m, &all, &m->part[at]);
+                add(&all, &m->part[at]);
                 at = next_row(m, part->successors, at + 1);
             } while (at < m->rows && m->group[at] == all_group);
             if (!merge_rows(m, n, ZUVAROPY_KIND_FORALL, successor_role, &all))
@@ -163,7 +163,7 @@ static int merge_rows(struct merge *m, unsigned int parent, unsigned int kind, u
         while (at < m->rows && m->group[at] == some_group) {
             struct part some = all;
 
-            add(m, &some, &m->part[at]);
+            add(&some, &m->part[at]);
             if (!merge_rows(m, n, ZUVAROPY_KIND_EXISTS, successor_role, &some))
                 return 0;
             at = next_row(m, part->successors, at + 1);

@@ -65,11 +65,13 @@ program() {
     failed=$((failed + ${counts#* }))
 }
 
-shared="tests/check.c tests/picture.c tests/random.c tests/pages.c tests/reference.c tests/normal_reference.c
-    tests/normalize.c tests/second_unit.c"
+# What the tests share is built once. Without a part of it no test builds, and each says so.
+for source in check picture random pages reference normal_reference normalize second_unit; do
+    $c -c "tests/$source.c" -o "$out/$source.o"
+done
 for source in tests/test_*.c; do
     name=$(basename "$source" .c)
-    program "$name" $c "$source" $shared
+    program "$name" $c "$source" "$out"/*.o
 done
 if command -v "$cxx" >/dev/null; then
     program test_header_cxx "$cxx" -x c++ -std=c++11 $warnings -Iinclude tests/test_header.c tests/check.c \

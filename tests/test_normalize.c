@@ -262,7 +262,7 @@ static void make_growth(unsigned int depth, unsigned int width, uint64_t names)
         picture_label(&p, names, 0, 0);
         for (i = 0; i < width; i++) {
             picture_row(&p, parent, ZUVAROPY_KIND_EXISTS, R);
-            picture_label(&p, NAME(i), 0, 0);
+            picture_label(&p, NAME(i % ZUVAROPY_NAMES), 0, 0);
         }
         parent = link;
     }
