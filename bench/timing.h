@@ -3,7 +3,8 @@
 #ifndef TIMING_H
 #define TIMING_H
 
-#define TIMING_ROUNDS 21
+/* Many short rounds: one that is interrupted does not count. */
+#define TIMING_ROUNDS 101
 
 /* Nanoseconds since some moment. */
 double timing_now(void);

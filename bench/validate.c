@@ -12,7 +12,7 @@
 #include <stdlib.h>
 
 #define PICTURES 8 /* different ones of each size, so that no branch is learned by heart */
-#define ROUND_ROWS 2000000ul /* rows read by each side in a round */
+#define ROUND_ROWS 400000ul /* rows read by each side in a round */
 
 typedef uint64_t validate_function(const uint8_t *, size_t);
 
