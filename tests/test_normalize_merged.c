@@ -140,7 +140,7 @@ static unsigned int growth_rows(unsigned int depth, unsigned int width)
     return sum <= ZUVAROPY_MAX_ROWS ? sum : ZUVAROPY_MAX_ROWS + 1;
 }
 
-/* Merged tables of up to 21^12 rows are refused at once. */
+/* Merged tables of as many as 19^12 rows are refused at once. */
 static void test_growth(void)
 {
     unsigned int depth, width, rows;
