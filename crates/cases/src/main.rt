@@ -1,15 +1,21 @@
-// Runs the reader's cases of paper 01 that are too large to compute in a proof, each question at least once, and a good
-// picture cut at every byte. A line for each: what the picture is, and the answer.
+// Runs the cases of paper 01 that are too large to compute in a proof: of the reader, each question at least once and a good
+// picture cut at every byte, and of the normal-table writer. A line for each: what the picture is, and the answer.
 mod make;
 mod tell;
 
+use crate::make::alls;
 use crate::make::end;
+use crate::make::nested;
 use crate::make::row;
 use crate::make::rows;
 use crate::make::set;
+use crate::make::shared;
 use crate::make::small;
 use crate::tell::tell;
 use crate::tell::tell_cut;
+use crate::tell::tell_nested;
+use crate::tell::tell_normal;
+use crate::tell::tell_short;
 use table::layout::END_SIZE;
 use table::layout::HEAD_SIZE;
 use table::layout::IMPOSSIBLE_AT;
@@ -52,7 +58,7 @@ fn sizes() {
     counted(b"257 rows", 257, false);
     let mut s = [0u8; SPACE];
     let n = rows(&mut s, 256, false);
-    row(&mut s, n, 0, 1, 8);
+    row(&mut s, n, 0, 1, 8, 0);
     tell(b"257 rows, the last cut after its head", &s, n + HEAD_SIZE);
     counted(b"depth 12", 13, true);
     counted(b"depth 13", 14, true);
@@ -100,9 +106,68 @@ fn cuts() {
     }
 }
 
+// The normal table of a picture of so many rows, in a chain or under one root.
+fn normal_counted(label: &[u8], count: usize, chain: bool) {
+    let mut s = [0u8; SPACE];
+    let m = rows(&mut s, count, chain);
+    let n = end(&mut s, m);
+    tell_normal(label, &s, n);
+}
+
+// That of one all r with so many some s, and so many some r.
+fn normal_shared(label: &[u8], below: usize, beside: usize) {
+    let mut s = [0u8; SPACE];
+    let m = shared(&mut s, below, beside);
+    let n = end(&mut s, m);
+    tell_normal(label, &s, n);
+}
+
+// 1, before the reading; the reading's questions; a picture of 256 rows.
+fn normals() {
+    let mut s = [0u8; SPACE];
+    tell_short(b"an empty file", &s, 0);
+    tell_normal(b"an empty file", &s, 0);
+    let n = small(&mut s);
+    tell_short(b"the small picture", &s, n);
+    tell_normal(b"the small picture", &s, n);
+    normal_counted(b"one empty row", 1, false);
+    normal_counted(b"256 rows", 256, false);
+    normal_counted(b"257 rows", 257, false);
+    normal_counted(b"depth 12", 13, true);
+    normal_counted(b"depth 13", 14, true);
+    let m = alls(&mut s, 255);
+    let k = end(&mut s, m);
+    tell_normal(b"255 all r", &s, k);
+}
+
+// 14: what is shared by an all-successor is counted for each some-successor, before dropping.
+fn merged() {
+    normal_shared(b"one all r with 16 some s, and 14 some r", 16, 14);
+    normal_shared(b"one all r with 15 some s, and 15 some r", 15, 15);
+    normal_shared(b"one all r, and 254 some r", 0, 254);
+}
+
+// That of 003, Example 26, so many edges deep.
+fn normal_nested(depth: u8) {
+    let mut s = [0u8; SPACE];
+    let m = nested(&mut s, depth);
+    let n = end(&mut s, m);
+    tell_nested(depth, &s, n);
+}
+
+// 14: merged, each depth has three times the rows of the one before and one more.
+fn nestings() {
+    for depth in 1..13u8 {
+        normal_nested(depth);
+    }
+}
+
 fn main() {
     sizes();
     heads();
     values();
     cuts();
+    normals();
+    merged();
+    nestings();
 }

@@ -22,7 +22,8 @@ pub fn set(out: &mut [u8], at: usize, value: u8) {
     }
 }
 
-pub fn row(out: &mut [u8], at: usize, parent: usize, kind: u8, role: u8) -> usize
+// A row whose wanted names are among names 0 to 7.
+pub fn row(out: &mut [u8], at: usize, parent: usize, kind: u8, role: u8, wanted: u8) -> usize
     requires { ⌜ at ≤ length (now out) ⌝ }
     ensures { λ r. ⌜ r ≤ length (now (out .exit)) ⌝ }
 {
@@ -37,6 +38,15 @@ pub fn row(out: &mut [u8], at: usize, parent: usize, kind: u8, role: u8) -> usiz
         (parent % 256) as u8,
         kind,
         role,
+        0,
+        0,
+        0,
+        0,
+        0,
+        0,
+        0,
+        0,
+        wanted,
     ];
     copy_in(out, at, &head);
     at + ROW_SIZE
@@ -63,9 +73,62 @@ fn parent_of(n: usize, chain: bool) -> usize {
 pub fn rows(out: &mut [u8], count: usize, chain: bool) -> usize
     ensures { λ r. ⌜ r ≤ length (now (out .exit)) ⌝ }
 {
-    let mut at = row(out, 0, 0, 0, 0);
+    let mut at = row(out, 0, 0, KIND_ROOT, 0, 0);
     for n in 1..count {
-        at = row(out, at, parent_of(n, chain), 1, 8);
+        at = row(out, at, parent_of(n, chain), KIND_EXISTS, 8, 0);
+    }
+    at
+}
+
+// So many successors of one row, by an edge of a kind and role.
+fn successors(out: &mut [u8], at: usize, parent: usize, kind: u8, role: u8, count: usize) -> usize
+    requires { ⌜ at ≤ length (now out) ⌝ }
+    ensures { λ r. ⌜ r ≤ length (now (out .exit)) ⌝ }
+{
+    let mut to = at;
+    for _ in 0..count {
+        to = row(out, to, parent, kind, role, 0);
+    }
+    to
+}
+
+// So many all r.
+pub fn alls(out: &mut [u8], count: usize) -> usize
+    ensures { λ r. ⌜ r ≤ length (now (out .exit)) ⌝ }
+{
+    let at = row(out, 0, 0, KIND_ROOT, 0, 0);
+    successors(out, at, 0, KIND_FOR_ALL, 8, count)
+}
+
+// One all r with so many some s, and so many some r.
+pub fn shared(out: &mut [u8], below: usize, beside: usize) -> usize
+    ensures { λ r. ⌜ r ≤ length (now (out .exit)) ⌝ }
+{
+    let root = row(out, 0, 0, KIND_ROOT, 0, 0);
+    let all = row(out, root, 0, KIND_FOR_ALL, 8, 0);
+    let at = successors(out, all, 1, KIND_EXISTS, 9, below);
+    successors(out, at, 0, KIND_EXISTS, 8, beside)
+}
+
+// some r{0}, some r{1}.
+fn pair(out: &mut [u8], at: usize, parent: usize) -> usize
+    requires { ⌜ at ≤ length (now out) ⌝ }
+    ensures { λ r. ⌜ r ≤ length (now (out .exit)) ⌝ }
+{
+    let first = row(out, at, parent, KIND_EXISTS, 8, 1);
+    row(out, first, parent, KIND_EXISTS, 8, 2)
+}
+
+// 003, Example 26: some r{0}, some r{1}, and all r with the same one edge deeper, so many edges deep.
+pub fn nested(out: &mut [u8], depth: u8) -> usize
+    ensures { λ r. ⌜ r ≤ length (now (out .exit)) ⌝ }
+{
+    let root = row(out, 0, 0, KIND_ROOT, 0, 0);
+    let mut at = pair(out, root, 0);
+    for level in 1..depth {
+        let parent = 3 * (level as usize);
+        let all = row(out, at, parent - 3, KIND_FOR_ALL, 8, 0);
+        at = pair(out, all, parent);
     }
     at
 }

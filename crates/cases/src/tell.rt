@@ -1,9 +1,17 @@
-// What reading a picture answers, as a line.
+// What reading a picture and writing its normal table answer, as a line.
 use libc::STDOUT_FILENO;
+use normal::normalize::Normalized;
+use normal::normalize::normalize;
 use picture::answer::Answer;
 use picture::answer::Input;
 use picture::read::read;
+use table::layout::END_SIZE;
 use table::layout::Limits;
+use table::layout::MAX_ROWS;
+use table::layout::ROW_SIZE;
+
+// The length laid down for a result buffer.
+const RESULT: usize = ROW_SIZE * MAX_ROWS + END_SIZE;
 
 fn tell_answer(s: &[u8]) {
     match read(s, Limits::bench(), Input::First) {
@@ -35,4 +43,47 @@ pub fn tell_cut(s: &[u8], n: usize) {
     io::write_all(STDOUT_FILENO, b"cut at ");
     io::print_decimal(STDOUT_FILENO, n as u64);
     tell_first(s, n);
+}
+
+fn tell_normalized(s: &[u8], out: &mut [u8]) {
+    match normalize(s, Limits::bench(), out) {
+        Normalized::Length(n) => {
+            io::write_all(STDOUT_FILENO, b": length ");
+            io::print_decimal(STDOUT_FILENO, n as u64);
+        }
+        Normalized::Refused(refusal) => {
+            io::write_all(STDOUT_FILENO, b": refused ");
+            io::print_decimal(STDOUT_FILENO, refusal.number as u64);
+        }
+    }
+    io::write_all(STDOUT_FILENO, b"\n");
+}
+
+// The picture is the first n bytes of s.
+fn tell_first_normal(s: &[u8], n: usize, out: &mut [u8]) {
+    if n <= s.len() {
+        tell_normalized(&s[..n], out);
+    }
+}
+
+pub fn tell_normal(label: &[u8], s: &[u8], n: usize) {
+    let mut out = [0u8; RESULT];
+    io::write_all(STDOUT_FILENO, b"normal table of ");
+    io::write_all(STDOUT_FILENO, label);
+    tell_first_normal(s, n, &mut out);
+}
+
+pub fn tell_nested(depth: u8, s: &[u8], n: usize) {
+    let mut out = [0u8; RESULT];
+    io::write_all(STDOUT_FILENO, b"normal table of 003, Example 26, depth ");
+    io::print_decimal(STDOUT_FILENO, depth as u64);
+    tell_first_normal(s, n, &mut out);
+}
+
+// With a result buffer that is a byte too short.
+pub fn tell_short(label: &[u8], s: &[u8], n: usize) {
+    let mut out = [0u8; RESULT - 1];
+    io::write_all(STDOUT_FILENO, b"normal table, into 6146 bytes, of ");
+    io::write_all(STDOUT_FILENO, label);
+    tell_first_normal(s, n, &mut out);
 }

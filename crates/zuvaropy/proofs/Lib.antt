@@ -1,2 +1,4 @@
--- Laws of the answer word.
+-- Laws of the answer word and of the calls, and the starred cases.
 pub mod Words
+pub mod NormalWords
+pub mod StarredHold

@@ -2,6 +2,7 @@
 --   outcome, question, input, card, value   the parts, as include/zuvaropy.h takes them
 --   refusal-outcome .. refusal-card         those of a refusal
 --   value-outcome, value-value              those of an answer
+--   refused                                 the word of a refusal by its number and input
 --   codes-agree                             the words of a refusal of each input, computed
 --   validate-readable, readable-validate    the plain test answers with a row count exactly when the picture is readable
 use mathlib.Core.Path.{_≡_, refl}
@@ -64,7 +65,7 @@ module _ (o v : ℕ) (small : v < 2 ^ 32) where
   pub value-value : value (valueWord o v) ≡ v
   value-value = omega arith
 
-abbrev refused : ℕ → Input → ℕ
+abbrev pub refused : ℕ → Input → ℕ
 refused number input = refusalWord (record { number = number; input = input })
 
 abbrev pub words : List ℕ

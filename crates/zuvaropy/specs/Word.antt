@@ -7,7 +7,9 @@ use Rattle.picture.specs.declared.answer.Input.{Input}
 use Rattle.picture.specs.declared.answer.Input.the-variants.{Buffer, First, Second, Evidence, Book, Card}
 use Rattle.picture.specs.declared.answer.Refusal.{Refusal}
 use Rattle.picture.specs.declared.answer.Answer.{Answer}
-use Rattle.picture.specs.declared.answer.Answer.the-variants.{Rows, Refused}
+use Rattle.picture.specs.declared.answer.Answer.the-variants as answer
+use Rattle.normal.specs.declared.normalize.Normalized.{Normalized}
+use Rattle.normal.specs.declared.normalize.Normalized.the-variants as normalized
 
 abbrev pub outcomeYes : ℕ
 outcomeYes = 1
@@ -39,5 +41,10 @@ refusalWord r = r .number * 2 ^ 48 + inputCode (r .input) * 2 ^ 40 + cardOf (r .
 
 -- the plain test: the row count, or the refusal
 abbrev pub readWord : Answer → ℕ
-readWord (Rows n) = valueWord outcomeYes n
-readWord (Refused r) = refusalWord r
+readWord (answer.Rows n) = valueWord outcomeYes n
+readWord (answer.Refused r) = refusalWord r
+
+-- the normal table: its length in bytes, or the refusal
+abbrev pub normalizedWord : Normalized → ℕ
+normalizedWord (normalized.Length n) = valueWord outcomeYes n
+normalizedWord (normalized.Refused r) = refusalWord r

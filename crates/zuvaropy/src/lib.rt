@@ -2,12 +2,15 @@
 use crate::word::YES;
 use crate::word::refusal_word;
 use crate::word::value_word;
+use normal::normalize::Normalized;
+use normal::normalize::normalize;
 use picture::answer::Answer;
 use picture::answer::Input;
 use picture::read::read;
 use table::layout::Limits;
 ghost use mathlib.Core.Path.{_≡_};
-ghost use Rattle.zuvaropy.specs.Calls.{validateWord};
+ghost use lib.ListN.{length};
+ghost use Rattle.zuvaropy.specs.Calls.{validateWord, normalizeWord, normalizeBuffer};
 
 mod word;
 
@@ -19,5 +22,16 @@ pub extern "C" fn zuvaropy_validate(picture: &[u8]) -> u64
     match read(picture, Limits::bench(), Input::First) {
         Answer::Rows(n) => value_word(YES, n as u64),
         Answer::Refused(refusal) => refusal_word(refusal),
+    }
+}
+
+// Writes the normal table of a picture, and gives its length in bytes.
+#[no_mangle]
+pub extern "C" fn zuvaropy_normalize(picture: &[u8], result: &mut [u8]) -> u64
+    ensures { λ r. ⌜ (r ≡ normalizeWord (now (picture .entry)) (length (now (result .entry)))) × (now (result .exit) ≡ normalizeBuffer (now (picture .entry)) (now (result .entry))) ⌝ }
+{
+    match normalize(picture, Limits::bench(), result) {
+        Normalized::Length(n) => value_word(YES, n as u64),
+        Normalized::Refused(refusal) => refusal_word(refusal),
     }
 }
