@@ -5,3 +5,5 @@ pub mod FileReadings
 pub mod EncodedFiles
 pub mod Pictures
 pub mod Normals
+-- computed
+pub mod Cases
