@@ -6,23 +6,19 @@
 --   encodeForest-append           rows
 --   byRole-more, byRole-same      further roles add nodes; roles without successors add nothing
 use Prim.Native.Nat.{_+_, _<_, _≤_, suc, zero, ℕ}
-use lib.ListN.{length}
 use mathlib.Core.Bool.{Bool, _||_, false, true}
-use mathlib.Core.List.{List, _++_, append-assoc}
-use mathlib.Core.Path.{_≡_, ap, refl, sym, _∙_}
-use native.Mathlib.Nat.{add-assoc, eq-or-lt-of-le}
-use native.Mathlib.Omega.{arith}
+use mathlib.Core.List.{_++_, append-assoc}
 use mathlib.Core.Logic.{⊎-elim}
+use mathlib.Core.Path.{_∙_, _≡_, ap, refl, sym}
+use native.Mathlib.Nat.{eq-or-lt-of-le}
+use native.Mathlib.Omega.{arith}
+use Rattle.table.proofs.Bools.{or-assoc}
 use Rattle.table.specs.Pick.{pick}
-use Rattle.ale.specs.Encoding.{Row, encodeForest, encodeTree}
+use Rattle.ale.specs.Encoding.{encodeForest, encodeTree}
 use Rattle.ale.specs.Forest.{append, byRole, consReduced, dropped}
 use Rattle.ale.specs.Normal.{tidy, tidyAll}
 use Rattle.ale.specs.Signature.{Signature}
 use Rattle.ale.specs.Tree.{Forest, Kind, Tree, any, cons, nil, size, sizes}
-
-or-assoc : (a b c : Bool) → ((a || b) || c) ≡ (a || (b || c))
-or-assoc true b c = refl
-or-assoc false b c = refl
 
 module _ (S : Signature) where
   pub forest-nil : (f : Forest S) → append S f nil ≡ f

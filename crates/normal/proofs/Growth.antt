@@ -22,20 +22,13 @@ use Rattle.meaning.specs.File.{rowsFrom}
 use Rattle.meaning.proofs.Files.{rowsFrom-append}
 use Rattle.table.specs.Layout.{«place»}
 use Rattle.table.specs.NameSet.{setOf}
+use Rattle.table.proofs.Bools.{or-assoc, or-none}
 use Rattle.table.proofs.Puts.{length-put}
 use Rattle.table.proofs.Rows.{length-rowOf}
 use Rattle.normal.specs.Grown.{Entered, Grown, Room, Written, prefix}
 use Rattle.normal.specs.declared.grow.Edge.{Edge}
 use Rattle.normal.specs.declared.label.Label.{Label}
 use Rattle.normal.specs.declared.grow.Branch.{Branch}
-
-or-none : (a : Bool) → a ≡ (a || false)
-or-none true = refl
-or-none false = refl
-
-or-assoc : (a b c : Bool) → ((a || b) || c) ≡ (a || (b || c))
-or-assoc true b c = refl
-or-assoc false b c = refl
 
 -- the rows of two forests, one after the other
 rows-append : (f g : Forest pictureSignature) (p o : ℕ) → rowsFrom o (encodeForest pictureSignature (append pictureSignature f g) p o) ≡ rowsFrom o (encodeForest pictureSignature f p o) ++ rowsFrom (o + sizes pictureSignature f) (encodeForest pictureSignature g p (o + sizes pictureSignature f))
@@ -49,7 +42,7 @@ module _ (parent : ℕ) where
   written-nil b out = record {
     rows-are = omega arith;
     bytes-are = sym (append-nil (prefix (b .table .rows) out));
-    bottom-is = or-none (b .bottom);
+    bottom-is = sym (or-none (b .bottom));
   }
 
   written-append : (b m r : Branch) (out mid end : List ℕ) (f g : Forest pictureSignature) → Written parent b out f m mid → Written parent m mid g r end → Written parent b out (append pictureSignature f g) r end

@@ -4,19 +4,16 @@ use Prim.Native.Nat.{_+_, ℕ}
 use lib.Dec.{eqb}
 use mathlib.Core.Bool.{Bool, _||_, false, not, true}
 use mathlib.Core.List.{List}
-use mathlib.Core.Path.{_≡_, ap, refl, _∙_}
+use mathlib.Core.Path.{_≡_, ap, sym, _∙_}
 use Rattle.table.specs.Fields.{rowOf}
 use Rattle.table.specs.Layout.{kindForAll, «place»}
 use Rattle.table.specs.NameSet.{none}
 use Rattle.table.specs.Put.{put}
+use Rattle.table.proofs.Bools.{or-none}
 use Rattle.normal.specs.Grown.{Left, broken, «given-up»}
 use Rattle.normal.specs.declared.grow.Branch.{Branch}
 use Rattle.normal.specs.declared.grow.Edge.{Edge}
 use Rattle.normal.specs.declared.label.Label.{Label}
-
-or-none : (a : Bool) → a ≡ (a || false)
-or-none true = refl
-or-none false = refl
 
 module _ (b : Branch) (edge : Edge) (label : Label) (below r : Branch) (out end : List ℕ) where
   pub left-broken : (w e : ℕ) → broken label below ≡ true → r .merged ≡ below .merged → r .table .rows ≡ b .table .rows + 1 → r .bottom ≡ (b .bottom || not (eqb (edge .kind) kindForAll)) → w ≡ none → e ≡ none → end ≡ put out (place (b .table .rows) 0) (rowOf (edge .parent) (edge .kind) (edge .role) 1 w e) → Left b edge label below out r end
@@ -31,7 +28,7 @@ module _ (b : Branch) (edge : Edge) (label : Label) (below r : Branch) (out end 
   }
 
   pub left-dropped : broken label below ≡ false → «given-up» b edge label below ≡ true → r .merged ≡ below .merged → r .table .rows ≡ b .table .rows → r .bottom ≡ b .bottom → end ≡ out → Left b edge label below out r end
-  left-dropped β δ m n z p = record { counted = m; rows-are = rw (β, δ) n; bottom-is = rw β (z ∙ or-none (b .bottom)); bytes-are = rw β p }
+  left-dropped β δ m n z p = record { counted = m; rows-are = rw (β, δ) n; bottom-is = rw β (z ∙ sym (or-none (b .bottom))); bytes-are = rw β p }
 
   pub left-whole : broken label below ≡ false → «given-up» b edge label below ≡ false → r .merged ≡ below .merged → r .table .rows ≡ below .table .rows → r .bottom ≡ b .bottom → end ≡ out → Left b edge label below out r end
-  left-whole β δ m n z p = record { counted = m; rows-are = rw (β, δ) n; bottom-is = rw β (z ∙ or-none (b .bottom)); bytes-are = rw β p }
+  left-whole β δ m n z p = record { counted = m; rows-are = rw (β, δ) n; bottom-is = rw β (z ∙ sym (or-none (b .bottom))); bytes-are = rw β p }

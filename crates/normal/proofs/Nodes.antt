@@ -15,6 +15,7 @@ use Rattle.table.specs.Layout.{kindForAll, «place», rowSize}
 use Rattle.table.specs.NameSet.{none, overlap, setOf}
 use Rattle.table.specs.Pick.{pick}
 use Rattle.table.specs.Put.{put}
+use Rattle.table.proofs.Bools.{or-assoc}
 use Rattle.table.proofs.Puts.{length-put}
 use Rattle.table.proofs.Rows.{length-rowOf}
 use Rattle.ale.specs.Encoding.{Row, encodeForest}
@@ -42,10 +43,6 @@ eqb-swap a b false e = ne-eqb b a (λ z. eqb-false a b e (sym z))
 -- within the empty set is empty
 within-none : (x : ℕ) → eqb (bitAnd x 0) x ≡ eqb x 0
 within-none x = rw (and-zero-r x) (eqb-swap x 0 (eqb x 0) refl)
-
-or-assoc : (a b c : Bool) → ((a || b) || c) ≡ (a || (b || c))
-or-assoc true b c = refl
-or-assoc false b c = refl
 
 broken-is : (label : Label) (l : tree.Label pictureSignature) (below : Branch) (g : Forest pictureSignature) → LabelIs label l → below .bottom ≡ any pictureSignature (bottomExists pictureSignature) g → broken label below ≡ inconsistent pictureSignature l g
 broken-is label l below g is e =
@@ -92,10 +89,6 @@ bottom-spoils false = refl
 kept-spoils : (k : Kind) → false ≡ ((sameKind k exists && false) || false)
 kept-spoils exists = refl
 kept-spoils forAll = refl
-
-or-none : (a : Bool) → (a || false) ≡ a
-or-none true = refl
-or-none false = refl
 
 -- what tidying makes of one successor, by the two tests
 abbrev left-as : Kind → ℕ → tree.Label pictureSignature → Forest pictureSignature → Bool → Bool → Forest pictureSignature

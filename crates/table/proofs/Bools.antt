@@ -2,6 +2,7 @@
 --   either, both          a test made of two
 --   is-true, is-false     from the type to the equation
 --   true-is, false-is     and back
+--   or-none, or-assoc     a test that fails adds nothing; in which order tests are made
 use mathlib.Core.Logic.{_⊎_, inl, inr}
 use mathlib.Core.Path.{_≡_, refl, sym, subst}
 use mathlib.Core.Bool.{Bool, true, false, not, _&&_, _||_, false≢true}
@@ -28,3 +29,11 @@ true-is b e = subst T (sym e) tt
 
 pub false-is : (b : Bool) → b ≡ false → T (not b)
 false-is b e = subst (λ c. T (not c)) (sym e) tt
+
+pub or-none : (a : Bool) → (a || false) ≡ a
+or-none true = refl
+or-none false = refl
+
+pub or-assoc : (a b c : Bool) → ((a || b) || c) ≡ (a || (b || c))
+or-assoc true b c = refl
+or-assoc false b c = refl
