@@ -6,7 +6,7 @@
 --   normal-table                                its table is the table of the normal tree
 --   normal-meaning-at, normal-meaning           so its tree is the normal tree, at any depth that reaches its nodes, as the limit does
 --   picture-normal, normal-picture              whatever fits a picture fits its normal file, and the reverse if the picture is readable, in every structure
---   normal-means                                so they are equivalent
+--   normalFile-equivalent                       so they are equivalent
 --   normal-normal                               the normal tree of a readable picture is normal
 use Prim.Native.Nat.{_^_, _≤_, ℕ}
 use lib.ListN.{length}
@@ -99,8 +99,8 @@ module _ (limits : Limits) (s : List ℕ) where
             subst (λ t. SubsumedInAll pictureSignature t (pictureTree limits s)) (sym normal-meaning)
             (normal-tree pictureSignature (pictureTable s) (picture-known limits s readable) (limits .depth))
 
-        pub normal-means : Equivalent pictureSignature (pictureTree limits s) (pictureTree limits (normalFile limits s))
-        normal-means =
+        pub normalFile-equivalent : Equivalent pictureSignature (pictureTree limits s) (pictureTree limits (normalFile limits s))
+        normalFile-equivalent =
             let t = pictureTree limits s in
             let v = pictureTree limits (normalFile limits s) in
             (inAll-subsumed pictureSignature t v picture-normal, inAll-subsumed pictureSignature v t normal-picture)

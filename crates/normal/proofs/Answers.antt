@@ -5,10 +5,11 @@
 --   many-answer, few-answer       14, or the length of the normal table
 --   Accepted, length-accepted     a length is given in no other case, and is that of the normal table
 --   answer-size                   so it is at most that of the longest picture
-use Prim.Native.Nat.{_<_, _≤_, ℕ}
+--   result-past, result-kept      bytes past the normal table keep their contents, whatever the answer; so does the buffer's length
+use Prim.Native.Nat.{_+_, _-_, _<_, _≤_, ℕ}
 use borrow.Author.Tests.{le-leb, leb-true, lt-leb}
 use lib.Dec.{leb}
-use lib.ListN.{length}
+use lib.ListN.{getD, length}
 use mathlib.Core.Bool.{Bool, false, true}
 use mathlib.Core.List.{List}
 use mathlib.Core.Path.{_∙_, _≡_, ap, refl}
@@ -17,6 +18,7 @@ use Rattle.meaning.proofs.Normals.{normal-size}
 use Rattle.meaning.specs.NormalTable.{mergedCount, normalFile}
 use Rattle.picture.specs.Read.{answerOf, answered, readingOf}
 use Rattle.picture.specs.View.{Readable}
+use Rattle.table.proofs.Puts.{length-put, put-after}
 use Rattle.table.specs.Bounds.{pictureSize}
 use Rattle.table.specs.Pick.{pick}
 use Rattle.table.specs.declared.layout.Limits.{Limits}
@@ -85,3 +87,24 @@ module _ (limits : Limits) (s : List ℕ) (room : ℕ) where
 
   pub answer-size : (n : ℕ) → normalizeAnswer limits s room ≡ Length n → n ≤ pictureSize limits
   answer-size n h = let a = length-accepted n h in rw (a .1) (normal-size limits s (a .0 .few))
+
+module _ (limits : Limits) (s out : List ℕ) where
+  past-at : (a : Normalized) (i : ℕ) → length (normalFile limits s) ≤ i → getD (onAnswer a (normalFile limits s) out) i 0 ≡ getD out i 0
+  past-at (Length n) i h =
+      let k : 0 + length (normalFile limits s) + (i - length (normalFile limits s)) ≡ i = omega arith in
+      rw k at (put-after out 0 (normalFile limits s) (i - length (normalFile limits s)) (omega arith))
+  past-at (Refused r) i h = refl
+
+  pub result-past : (i : ℕ) → length (normalFile limits s) ≤ i → getD (normalizeResult limits s out) i 0 ≡ getD out i 0
+  unfolding normalizeResult
+  result-past i h = past-at (normalizeAnswer limits s (length out)) i h
+
+  kept-at : (a : Normalized) → normalizeAnswer limits s (length out) ≡ a → length (onAnswer a (normalFile limits s) out) ≡ length out
+  kept-at (Length n) e =
+      let a = length-accepted limits s (length out) n e .0 in
+      length-put out 0 (normalFile limits s) (omega (arith, a .enough, normal-size limits s (a .few)))
+  kept-at (Refused r) e = refl
+
+  pub result-kept : length (normalizeResult limits s out) ≡ length out
+  unfolding normalizeResult
+  result-kept = kept-at (normalizeAnswer limits s (length out)) refl

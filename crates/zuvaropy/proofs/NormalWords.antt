@@ -8,9 +8,10 @@
 --   normalize-accepted                    an answer with outcome 1 is given in no other case
 --   normalize-value                       the length reported is that of the normal table
 --   normalize-result                      the buffer's bytes up to that length are the normal table
---   normalize-readable, normalize-means   so they are a readable picture that means what the first one means
+--   normalize-readable,
+--   normalize-equivalent                  so they are a readable picture that means what the first one means
 --   normalize-past, normalize-kept        bytes past the normal table keep their contents, whatever the answer; so does the buffer's length
-use Prim.Native.Nat.{ℕ, _+_, _-_, _<_, _≤_}
+use Prim.Native.Nat.{ℕ, _+_, _<_, _≤_}
 use native.Mathlib.Omega.{arith}
 use borrow.Author.Tests.{leb-false, leb-true}
 use lib.Dec.{leb}
@@ -21,7 +22,6 @@ use mathlib.Core.List.{List}
 use mathlib.Core.Path.{_≡_, refl, subst, sym}
 use Rattle.table.specs.Bounds.{benchLimits, maxRows, pictureSize}
 use Rattle.table.specs.Put.{put}
-use Rattle.table.proofs.Puts.{length-put, put-after}
 use Rattle.picture.specs.Read.{readingOf}
 use Rattle.picture.specs.View.{Readable}
 use Rattle.picture.specs.declared.answer.Input.{Input}
@@ -33,11 +33,9 @@ use Rattle.meaning.specs.NormalTable.{mergedCount, normalFile}
 use Rattle.ale.specs.Interpretation.{Equivalent}
 use Rattle.ale.specs.PictureSignature.{pictureSignature}
 use Rattle.meaning.specs.Meaning.{pictureTree}
-use Rattle.meaning.proofs.Normals.{normal-means, normal-readable, normal-size}
-use Rattle.normal.specs.Call.{normalizeAnswer, normalizeResult, onAnswer}
-use Rattle.normal.specs.declared.normalize.Normalized.{Normalized}
-use Rattle.normal.specs.declared.normalize.Normalized.the-variants.{Length, Refused}
-use Rattle.normal.proofs.Answers.{Accepted, few-answer, length-accepted, many-answer, short-answer, unreadable-answer}
+use Rattle.meaning.proofs.Normals.{normal-readable, normal-size, normalFile-equivalent}
+use Rattle.normal.specs.Call.{normalizeResult}
+use Rattle.normal.proofs.Answers.{Accepted, few-answer, many-answer, result-kept, result-past, short-answer, unreadable-answer}
 use Rattle.zuvaropy.specs.Word.{outcomeYes, valueWord}
 use Rattle.zuvaropy.specs.Calls.{normalizeBuffer, normalizeWord}
 use Rattle.zuvaropy.proofs.Words.{outcome, refused, value, value-value}
@@ -81,12 +79,12 @@ module _ (s out : List ℕ) where
         pub normalize-readable : Readable benchLimits (take (value (normalizeWord s (length out))) (normalizeBuffer s out))
         normalize-readable = rw normalize-result (normal-readable benchLimits s few (omega arith, omega arith))
 
-        pub normalize-means :
+        pub normalize-equivalent :
             Equivalent pictureSignature (pictureTree benchLimits s)
             (pictureTree benchLimits (take (value (normalizeWord s (length out))) (normalizeBuffer s out)))
-        normalize-means =
+        normalize-equivalent =
             subst (λ t. Equivalent pictureSignature (pictureTree benchLimits s) (pictureTree benchLimits t)) (sym normalize-result)
-            (normal-means benchLimits s few (omega arith, omega arith) readable)
+            (normalFile-equivalent benchLimits s few (omega arith, omega arith) readable)
 
   yes-few : (b : Bool) → leb (mergedCount benchLimits s) maxRows ≡ b → pictureSize benchLimits ≤ length out → Readable benchLimits s → outcome (normalizeWord s (length out)) ≡ outcomeYes → Accepted benchLimits s (length out)
   yes-few true e enough readable h = record { enough = enough; readable = readable; few = leb-true (mergedCount benchLimits s) maxRows e }
@@ -109,22 +107,10 @@ module _ (s out : List ℕ) where
   pub normalize-accepted : outcome (normalizeWord s (length out)) ≡ outcomeYes → Accepted benchLimits s (length out)
   normalize-accepted h = yes-room (leb (pictureSize benchLimits) (length out)) refl h
 
-  past-at : (a : Normalized) → normalizeAnswer benchLimits s (length out) ≡ a → (i : ℕ) → length (normalFile benchLimits s) ≤ i → getD (onAnswer a (normalFile benchLimits s) out) i 0 ≡ getD out i 0
-  past-at (Length n) e i h =
-      let k : 0 + length (normalFile benchLimits s) + (i - length (normalFile benchLimits s)) ≡ i = omega arith in
-      rw k at (put-after out 0 (normalFile benchLimits s) (i - length (normalFile benchLimits s)) (omega arith))
-  past-at (Refused r) e i h = refl
-
   pub normalize-past : (i : ℕ) → length (normalFile benchLimits s) ≤ i → getD (normalizeBuffer s out) i 0 ≡ getD out i 0
-  unfolding normalizeBuffer normalizeResult
-  normalize-past i h = past-at (normalizeAnswer benchLimits s (length out)) refl i h
-
-  kept-at : (a : Normalized) → normalizeAnswer benchLimits s (length out) ≡ a → length (onAnswer a (normalFile benchLimits s) out) ≡ length out
-  kept-at (Length n) e =
-      let a = length-accepted benchLimits s (length out) n e .0 in
-      length-put out 0 (normalFile benchLimits s) (omega (arith, a .enough, normal-size benchLimits s (a .few)))
-  kept-at (Refused r) e = refl
+  unfolding normalizeBuffer
+  normalize-past i h = result-past benchLimits s out i h
 
   pub normalize-kept : length (normalizeBuffer s out) ≡ length out
-  unfolding normalizeBuffer normalizeResult
-  normalize-kept = kept-at (normalizeAnswer benchLimits s (length out)) refl
+  unfolding normalizeBuffer
+  normalize-kept = result-kept benchLimits s out
