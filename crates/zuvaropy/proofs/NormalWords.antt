@@ -9,7 +9,7 @@
 --   normalize-value                       the length reported is that of the normal table
 --   normalize-result                      the buffer's bytes up to that length are the normal table
 --   normalize-readable,
---   normalize-equivalent                  so they are a readable picture that means what the first one means
+--   normalize-equivalent                  so they are a readable picture, equivalent to the first one
 --   normalize-past, normalize-kept        bytes past the normal table keep their contents, whatever the answer; so does the buffer's length
 use Prim.Native.Nat.{ℕ, _+_, _<_, _≤_}
 use native.Mathlib.Omega.{arith}
