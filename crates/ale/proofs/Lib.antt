@@ -42,6 +42,7 @@ pub mod Encodings
 pub mod ModelChecks
 -- depth and roles
 pub mod Depths
+pub mod MergedDepths
 pub mod EncodedDepths
 pub mod Confined
 pub mod RoleLaws

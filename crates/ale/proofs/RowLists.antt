@@ -1,5 +1,6 @@
 -- Laws of sets of row numbers.
 --   member-head, member-tail            the members of a list: its first, and those of the rest
+--   no-members                          a list without members is empty
 --   member-cons                         what is true of the first and of each of the rest is true of each
 --   filterBelow-out, filterBelow-in     the members of a filtered range are the numbers below n that pass
 --   filterFrom-split                    the numbers of a range that pass are those of its first part, then those of the rest
@@ -24,6 +25,10 @@ member-head i s = or-left (eqb i i) (member i s) (eqb-refl i)
 
 pub member-tail : (i j : ℕ) (s : List ℕ) → T (member i s) → T (member i (j ∷ s))
 member-tail i j s h = or-right (eqb i j) (member i s) h
+
+pub no-members : (s : List ℕ) → ((i : ℕ) → ¬ T (member i s)) → s ≡ []
+no-members [] n = refl
+no-members (i ∷ s) n = absurd (n i (member-head i s))
 
 pub member-cons : (P : ℕ → Type 0) (j : ℕ) (s : List ℕ) → P j → ((i : ℕ) → T (member i s) → P i) →
     (i : ℕ) → T (member i (j ∷ s)) → P i

@@ -7,7 +7,7 @@
 --   valuePart, existsParts   the successors for A, and for each c
 --   labelOfSet       the unions of the names; ⊥ if any has it
 --   roleParts        one all-successor standing for A if A is not empty, then for each some-successor c one standing for c with A
---   merged           the merged tree of a set, down to a depth
+--   merged           the merged tree of a set, down to a depth; a depth that is large enough cuts nothing off (MergedDepths: `merged-deeper`)
 use Prim.Native.Nat.{suc, zero, ℕ}
 use lib.Dec.{eqb}
 use mathlib.Core.Bool.{Bool, _&&_, _||_, not}

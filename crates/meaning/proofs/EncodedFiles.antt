@@ -1,7 +1,9 @@
 -- A tree as a picture file: within the limits it is readable, and it means that tree.
---   encoded-writable   the rows of a tree within the limits may be written
---   encoded-reads      so the file of a tree reads as a row for each node
---   encoded-meaning    the tree of the file is the tree, if no row number is too wide for its field and no node too deep
+--   encoded-writable     the rows of a tree within the limits may be written
+--   encoded-reads        so the file of a tree reads as a row for each node
+--   encoded-table        the table of the file is the table of the tree, if no row number is too wide for its field
+--   encoded-meaning-at   so the tree of the file is the tree, at any depth that reaches its nodes
+--   encoded-meaning      and at the limit of the depth
 use Prim.Native.Nat.{_<_, _^_, _≤_, suc, ℕ}
 use lib.ListN.{length}
 use mathlib.Core.Path.{_∙_, _≡_, ap, refl}
@@ -9,8 +11,10 @@ use native.Mathlib.Omega.{arith}
 use Rattle.ale.proofs.EncodedDepths.{encoded-depth}
 use Rattle.ale.proofs.Encodings.{encodeTree-length, encoded-parentsFirst, encoded-tree, height-size}
 use Rattle.ale.proofs.RoleLaws.{encoded-known}
+use Rattle.ale.proofs.SameTables.{SameTable}
 use Rattle.ale.specs.Encoding.{encode, encoded}
 use Rattle.ale.specs.PictureSignature.{pictureSignature}
+use Rattle.ale.specs.Table.{tree}
 use Rattle.ale.specs.Tree.{RolesKnown, Tree, exists, height, node, size}
 use Rattle.picture.proofs.Depths.{depth-root, depth-under}
 use Rattle.picture.specs.Depth.{depth}
@@ -20,9 +24,9 @@ use Rattle.table.specs.Layout.{numberSize}
 use Rattle.table.specs.declared.layout.Limits.{Limits}
 use Rattle.picture.specs.declared.read.Reading.the-variants.{Rows}
 use Rattle.meaning.specs.File.{fileOf}
-use Rattle.meaning.specs.Meaning.{pictureTree}
+use Rattle.meaning.specs.Meaning.{pictureTable, pictureTree}
 use Rattle.meaning.proofs.FileReadings.{Writable, file-readable}
-use Rattle.meaning.proofs.FileTables.{file-tree, parents-fit}
+use Rattle.meaning.proofs.FileTables.{ParentsFit, file-table, file-tree, parents-fit}
 use Rattle.meaning.proofs.Files.{rowIn}
 
 -- row 0 hangs from none: its parent and its role are written as 0
@@ -61,10 +65,18 @@ module _ (t : Tree pictureSignature) where
   encoded-reads limits bounded few low known =
       file-readable limits (encode pictureSignature t) bounded (encoded-writable limits few low known) ∙ ap Rows rows-of
 
+  module _ (few : size pictureSignature t ≤ 256 ^ numberSize) where
+    encoded-fit : ParentsFit (encode pictureSignature t)
+    encoded-fit = parents-fit (encode pictureSignature t) (encoded-parentsFirst pictureSignature t) (omega (arith, rows-of))
+
+    pub encoded-table : SameTable pictureSignature (pictureTable (fileOf (encode pictureSignature t))) (encoded pictureSignature t)
+    encoded-table = file-table (encode pictureSignature t) encoded-fit
+
+    pub encoded-meaning-at : (n : ℕ) → height pictureSignature t ≤ n → tree pictureSignature (pictureTable (fileOf (encode pictureSignature t))) n ≡ t
+    encoded-meaning-at n low =
+        file-tree (encode pictureSignature t) encoded-fit n 0 (omega (arith, rows-of, height-size pictureSignature t))
+        ∙ encoded-tree pictureSignature t n low
+
   pub encoded-meaning : (limits : Limits) → size pictureSignature t ≤ 256 ^ numberSize → height pictureSignature t ≤ limits .depth →
       pictureTree limits (fileOf (encode pictureSignature t)) ≡ t
-  encoded-meaning limits few low =
-      let ws = encode pictureSignature t in
-      file-tree ws (parents-fit ws (encoded-parentsFirst pictureSignature t) (omega (arith, rows-of))) (limits .depth) 0
-      (omega (arith, rows-of, height-size pictureSignature t))
-      ∙ encoded-tree pictureSignature t (limits .depth) low
+  encoded-meaning limits few low = encoded-meaning-at few (limits .depth) low

@@ -3,36 +3,39 @@
 --   normal-count, normal-height, normal-roles   the normal tree has no more rows than the merged table, is no deeper than the limit, and has known roles
 --   normal-length, normal-size                  the length of the file, and that a picture within the limits may be so long
 --   normal-reads, normal-readable               the file is readable, with a row for each node
---   normal-meaning                              its tree is the normal tree
+--   normal-table                                its table is the table of the normal tree
+--   normal-meaning-at, normal-meaning           so its tree is the normal tree, at any depth that reaches its nodes, as the limit does
 --   picture-normal, normal-picture              whatever fits a picture fits its normal file, and the reverse if the picture is readable, in every structure
---   normal-means                                so they are equivalent
+--   normalFile-equivalent                       so they are equivalent
 --   normal-normal                               the normal tree of a readable picture is normal
-use Prim.Native.Nat.{_≤_, ℕ}
+use Prim.Native.Nat.{_^_, _≤_, ℕ}
 use lib.ListN.{length}
 use mathlib.Core.List.{List, [], _∷_}
 use mathlib.Core.Path.{_≡_, subst, sym}
 use native.Mathlib.Omega.{arith}
 use Rattle.ale.proofs.Confined.{Confined, confined-height, confined-rolesKnown, normal-confined}
 use Rattle.ale.proofs.Encodings.{encodeTree-length}
+use Rattle.ale.proofs.SameTables.{SameTable}
 use Rattle.ale.proofs.Sizes.{tidy-size}
 use Rattle.ale.proofs.Structures.{inAll-subsumed}
 use Rattle.ale.proofs.Subsumption.{normal-tree, normalTree-normal, tree-normal}
-use Rattle.ale.specs.Encoding.{encode}
+use Rattle.ale.specs.Encoding.{encode, encoded}
 use Rattle.ale.specs.Interpretation.{Equivalent}
 use Rattle.ale.specs.Merged.{merged}
 use Rattle.ale.specs.NormalForm.{Normal}
 use Rattle.ale.specs.PictureSignature.{pictureSignature}
 use Rattle.ale.specs.Structure.{SubsumedInAll}
+use Rattle.ale.specs.Table.{tree}
 use Rattle.ale.specs.Tree.{RolesKnown, exists, height, size}
 use Rattle.picture.specs.Read.{readingOf}
 use Rattle.picture.specs.View.{Readable}
 use Rattle.table.specs.Bounds.{Bounded, pictureSize}
-use Rattle.table.specs.Layout.{endSize, place}
+use Rattle.table.specs.Layout.{endSize, numberSize, place}
 use Rattle.table.specs.declared.layout.Limits.{Limits}
 use Rattle.picture.specs.declared.read.Reading.the-variants.{Rows}
 use Rattle.meaning.specs.Meaning.{pictureTable, pictureTree}
 use Rattle.meaning.specs.NormalTable.{mergedCount, mergedTree, normalFile, normalTreeOf}
-use Rattle.meaning.proofs.EncodedFiles.{encoded-meaning, encoded-reads}
+use Rattle.meaning.proofs.EncodedFiles.{encoded-meaning-at, encoded-reads, encoded-table}
 use Rattle.meaning.proofs.Files.{length-fileOf}
 use Rattle.meaning.proofs.Pictures.{picture-known}
 
@@ -68,9 +71,20 @@ module _ (limits : Limits) (s : List ℕ) where
       pub normal-readable : Readable limits (normalFile limits s)
       normal-readable = record { rows = size pictureSignature (normalTreeOf limits s); reads = normal-reads }
 
-      pub normal-meaning : pictureTree limits (normalFile limits s) ≡ normalTreeOf limits s
+      normal-fits : size pictureSignature (normalTreeOf limits s) ≤ 256 ^ numberSize
+      normal-fits = omega (arith, normal-count, bounded .0)
+
+      pub normal-table : SameTable pictureSignature (pictureTable (normalFile limits s)) (encoded pictureSignature (normalTreeOf limits s))
       unfolding normalFile
-      normal-meaning = encoded-meaning (normalTreeOf limits s) limits (omega (arith, normal-count, bounded .0)) normal-height
+      normal-table = encoded-table (normalTreeOf limits s) normal-fits
+
+      pub normal-meaning-at : (n : ℕ) → height pictureSignature (normalTreeOf limits s) ≤ n →
+          tree pictureSignature (pictureTable (normalFile limits s)) n ≡ normalTreeOf limits s
+      unfolding normalFile
+      normal-meaning-at n low = encoded-meaning-at (normalTreeOf limits s) normal-fits n low
+
+      pub normal-meaning : pictureTree limits (normalFile limits s) ≡ normalTreeOf limits s
+      normal-meaning = normal-meaning-at (limits .depth) normal-height
 
       pub picture-normal : SubsumedInAll pictureSignature (pictureTree limits s) (pictureTree limits (normalFile limits s))
       unfolding normalTreeOf
@@ -85,8 +99,8 @@ module _ (limits : Limits) (s : List ℕ) where
             subst (λ t. SubsumedInAll pictureSignature t (pictureTree limits s)) (sym normal-meaning)
             (normal-tree pictureSignature (pictureTable s) (picture-known limits s readable) (limits .depth))
 
-        pub normal-means : Equivalent pictureSignature (pictureTree limits s) (pictureTree limits (normalFile limits s))
-        normal-means =
+        pub normalFile-equivalent : Equivalent pictureSignature (pictureTree limits s) (pictureTree limits (normalFile limits s))
+        normalFile-equivalent =
             let t = pictureTree limits s in
             let v = pictureTree limits (normalFile limits s) in
             (inAll-subsumed pictureSignature t v picture-normal, inAll-subsumed pictureSignature v t normal-picture)

@@ -1,21 +1,29 @@
--- What the questions leave of a readable picture, as a table of the theory; and nothing of its tree is cut off.
+-- What the questions leave of a readable picture, as a table of the theory; and nothing of its trees is cut off, so question 14 counts every row.
 --   picture-known     question 10: its roles are known
 --   picture-parents   question 11: parents come first
 --   picture-ranked    question 12: the depths of its rows rise from a row to its successors, and are within the limit
 --   picture-whole     so its tree is the same at any greater depth
+--   merged-whole      and its merged tree
+--   count-whole       and so the number of its merged rows
+--   normal-whole      and its normal tree
 use Prim.Native.Nat.{_+_, ℕ}
-use mathlib.Core.List.{List}
-use mathlib.Core.Path.{_≡_}
+use mathlib.Core.List.{List, [], _∷_}
+use mathlib.Core.Path.{_≡_, ap}
 use native.Mathlib.Omega.{arith}
 use Rattle.ale.proofs.Depths.{Ranked, ranked-by-depth, treeOf-deeper}
+use Rattle.ale.proofs.MergedDepths.{merged-deeper}
+use Rattle.ale.specs.Merged.{merged}
+use Rattle.ale.specs.Normal.{normalTree, tidy}
 use Rattle.ale.specs.PictureSignature.{pictureSignature}
 use Rattle.ale.specs.Table.{KnownRoles, ParentsFirst, tree}
+use Rattle.ale.specs.Tree.{size}
 use Rattle.picture.proofs.Readables.{readable-depth, readable-depth-under, readable-parent, readable-role}
 use Rattle.picture.specs.Depth.{depth}
 use Rattle.picture.specs.View.{Readable, viewOf}
 use Rattle.table.specs.Fields.{parentOf}
 use Rattle.table.specs.declared.layout.Limits.{Limits}
 use Rattle.meaning.specs.Meaning.{pictureTable, pictureTree}
+use Rattle.meaning.specs.NormalTable.{mergedCount, mergedTree, normalTreeOf}
 
 module _ (limits : Limits) (s : List ℕ) (readable : Readable limits s) where
   pub picture-known : KnownRoles pictureSignature (pictureTable s)
@@ -35,3 +43,16 @@ module _ (limits : Limits) (s : List ℕ) (readable : Readable limits s) where
   pub picture-whole : (k : ℕ) → pictureTree limits s ≡ tree pictureSignature (pictureTable s) (k + limits .depth)
   picture-whole k =
       treeOf-deeper pictureSignature (pictureTable s) (depth (parentOf s)) (limits .depth) picture-ranked k (limits .depth) 0 (omega arith)
+
+  pub merged-whole : (k : ℕ) → mergedTree limits s ≡ merged pictureSignature (pictureTable s) (k + limits .depth) (0 ∷ [])
+  unfolding mergedTree
+  merged-whole k =
+      merged-deeper pictureSignature (pictureTable s) (depth (parentOf s)) (limits .depth) picture-ranked k (limits .depth) (0 ∷ []) (λ i m. omega arith)
+
+  pub count-whole : (k : ℕ) → mergedCount limits s ≡ size pictureSignature (merged pictureSignature (pictureTable s) (k + limits .depth) (0 ∷ []))
+  unfolding mergedCount
+  count-whole k = ap (size pictureSignature) (merged-whole k)
+
+  pub normal-whole : (k : ℕ) → normalTreeOf limits s ≡ normalTree pictureSignature (pictureTable s) (k + limits .depth)
+  unfolding normalTreeOf mergedTree
+  normal-whole k = ap (tidy pictureSignature) (merged-whole k)

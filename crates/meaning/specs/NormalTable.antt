@@ -1,6 +1,6 @@
 -- 01, "Merged, normal and product tables": the merged and the normal table of a picture, as trees, and the normal table as bytes.
 --   mergedTree    the merged table of {root}, before breaking and dropping
---   mergedCount   its rows: what question 14 counts
+--   mergedCount   its rows: what question 14 counts; of a readable picture the limit of the depth cuts none off (Pictures: `count-whole`)
 --   normalTreeOf  the normal table
 --   normalFile    the normal table as a picture file: depth first, with its end field
 use Prim.Native.Nat.{ℕ}

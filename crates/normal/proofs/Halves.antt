@@ -2,14 +2,17 @@
 --   length-prefix            rows from the first byte on, and the end field after them: so many bytes
 --   length-half              a half is as long as the longest picture
 --   half-byte, half-rest     it has the bytes of its file, and after them zeros
+--   half-file                so its first bytes are the file
 --   half-put                 a file put at the start of a half, and zeros after it
+--   built-half               a table that was built within the limit, in a half, is the normal file in a half
 use Prim.Native.Nat.{_+_, _-_, _≤_, ℕ}
-use lib.ListN.{List·getD-append, List·getD-eq-default, getD, length, length-append}
-use lib.Seq.{getD-append-add, length-take-le}
+use lib.ListN.{List·getD-append, List·getD-eq-default, getD, length, length-append, take}
+use lib.Seq.{getD-append-add, length-take-le, take-at}
 use mathlib.Core.List.{List, _++_}
-use mathlib.Core.Path.{_∙_, _≡_, ap, sym}
+use mathlib.Core.Path.{_∙_, _≡_, ap, refl, sym}
 use native.Mathlib.Decide.{decLt}
 use native.Mathlib.Omega.{arith}
+use Rattle.meaning.specs.NormalTable.{normalFile}
 use Rattle.table.proofs.Puts.{getD-zeros, length-zeros, put-put}
 use Rattle.table.proofs.Rows.{length-endBytes}
 use Rattle.table.specs.Bounds.{pictureSize}
@@ -17,8 +20,11 @@ use Rattle.table.specs.Fields.{endBytes}
 use Rattle.table.specs.Layout.{endSize, place}
 use Rattle.table.specs.Put.{put, zeros}
 use Rattle.table.specs.declared.layout.Limits.{Limits}
+use Rattle.normal.specs.Built.{Built}
 use Rattle.normal.specs.Grown.{prefix}
 use Rattle.normal.specs.Half.{halfOf}
+use Rattle.normal.specs.declared.grow.Branch.{Branch}
+use Rattle.normal.proofs.Normalizations.{built-file}
 
 pub length-prefix : (rows : ℕ) (scratch : List ℕ) → place rows 0 ≤ length scratch → length (prefix rows scratch ++ endBytes) ≡ place rows endSize
 length-prefix rows scratch h =
@@ -47,6 +53,10 @@ module _ (limits : Limits) (file : List ℕ) where
         | no past ↦ half-rest k (omega arith) ∙ sym (List·getD-eq-default file 0 (omega arith))
       ]
 
+  pub half-file : take (length file) (halfOf limits file) ≡ file
+  unfolding halfOf
+  half-file = take-at file (zeros (pictureSize limits - length file)) (length file) refl
+
   pub half-put : (half l₁ l₂ : List ℕ) (n m : ℕ) → n ≡ length file → m ≡ pictureSize limits → length file ≤ pictureSize limits →
       pictureSize limits ≤ length half → l₁ ≡ put half 0 file → l₂ ≡ put l₁ n (zeros (m - n)) → l₂ ≡ put half 0 (halfOf limits file)
   unfolding halfOf
@@ -59,3 +69,7 @@ module _ (limits : Limits) (file : List ℕ) where
       ∙ ap (λ (k : ℕ). put (put half 0 file) n (zeros k)) size
       ∙ ap (λ (k : ℕ). put (put half 0 file) k rest) end
       ∙ put-put half 0 file rest (omega arith)
+
+module _ {limits : Limits} {s out end : List ℕ} {r : Branch} (built : Built limits s out r end) (within : r .merged ≤ limits .rows) where
+  pub built-half : halfOf limits (prefix (r .table .rows) end ++ endBytes) ≡ halfOf limits (normalFile limits s)
+  built-half = ap (halfOf limits) (built-file built within)

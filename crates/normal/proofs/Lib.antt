@@ -18,4 +18,5 @@ pub mod Turns
 pub mod Checks
 pub mod Roots
 pub mod Normalizations
+pub mod Answers
 pub mod Halves

@@ -1,9 +1,7 @@
--- Laws of the second call: the table that is written, what the count decides, and the answer with its result buffer.
+-- Laws of the second call: the table that is written, and what the count decides.
 --   table-put                     rows put from the first byte on, and the end field after them
 --   few-rows, many-rows           whether the count that building stops at is over the limit decides 14
 --   built-file, built-length      a table that was built within the limit is the normal file, with its end field
---   short-answer, long-answer     1 is answered no, or the reading decides
---   result-of                     the result buffer by the answer
 use Prim.Native.Nat.{_+_, _<_, _≤_, ℕ}
 use borrow.Author.Tests.{le-leb, lt-leb}
 use lib.Dec.{leb}
@@ -15,21 +13,14 @@ use mathlib.Core.Path.{_∙_, _≡_, ap}
 use native.Mathlib.Omega.{arith}
 use Rattle.meaning.proofs.Normals.{normal-length}
 use Rattle.meaning.specs.NormalTable.{mergedCount, normalFile}
-use Rattle.picture.specs.Read.{answerOf}
 use Rattle.table.proofs.Puts.{put-put}
-use Rattle.table.specs.Bounds.{pictureSize}
 use Rattle.table.specs.Fields.{endBytes}
 use Rattle.table.specs.Layout.{endSize, place}
 use Rattle.table.specs.Put.{put}
 use Rattle.table.specs.declared.layout.Limits.{Limits}
-use Rattle.picture.specs.declared.answer.Answer.{Answer}
-use Rattle.picture.specs.declared.answer.Input.the-variants.{First}
 use Rattle.normal.specs.Built.{Built}
-use Rattle.normal.specs.Call.{normalizeAnswer, normalizeResult, onAnswer, onReading, shortBuffer}
 use Rattle.normal.specs.Grown.{prefix}
 use Rattle.normal.specs.declared.grow.Branch.{Branch}
-use Rattle.normal.specs.declared.normalize.Normalized.{Normalized}
-use Rattle.normal.specs.declared.normalize.Normalized.the-variants.{Refused}
 
 pub table-put : (rows n : ℕ) (scratch out l₁ l₂ : List ℕ) → n ≡ place rows 0 → place rows 0 ≤ length scratch →
     place rows endSize ≤ length out → l₁ ≡ put out 0 (take n scratch) → l₂ ≡ put l₁ (place rows 0) endBytes →
@@ -60,18 +51,3 @@ module _ {limits : Limits} {s out end : List ℕ} {r : Branch} (built : Built li
 
     pub built-length : place (r .table .rows) endSize ≡ length (normalFile limits s)
     built-length = omega (arith, built .rows-are few, normal-length limits s)
-
-module _ (limits : Limits) (s : List ℕ) where
-  pub short-answer : (room : ℕ) → room < pictureSize limits → normalizeAnswer limits s room ≡ Refused shortBuffer
-  unfolding normalizeAnswer
-  short-answer room h = rw (lt-leb (pictureSize limits) room h)
-
-  pub long-answer : (room : ℕ) (a : Answer) → pictureSize limits ≤ room → answerOf limits First s ≡ a →
-      normalizeAnswer limits s room ≡ onReading limits s a
-  unfolding normalizeAnswer
-  long-answer room a h e = rw (le-leb (pictureSize limits) room h, e)
-
-  pub result-of : (out : List ℕ) (a : Normalized) → normalizeAnswer limits s (length out) ≡ a →
-      normalizeResult limits s out ≡ onAnswer a (normalFile limits s) out
-  unfolding normalizeResult
-  result-of out a e = rw e

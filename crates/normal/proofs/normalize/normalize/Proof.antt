@@ -7,8 +7,8 @@ use denote.Ref.{now}
 use Rattle.picture.specs.declared.answer.Answer.the-variants as answer
 use Rattle.picture.specs.declared.answer.Input.the-variants.{First}
 use Rattle.picture.proofs.Readables.{answer-reading}
+use Rattle.normal.proofs.Answers.{long-answer, result-of, short-answer}
 use Rattle.normal.proofs.Checks.{readable-checked}
-use Rattle.normal.proofs.Normalizations.{long-answer, result-of, short-answer}
 use Rattle.normal.proofs.normalize.normalize.Statement.{statement}
 use Rattle.normal.proofs.normalize.normalize.Tie as tie
 
