@@ -1,20 +1,22 @@
--- Laws of the labels of sets of rows.
+-- Laws of the labels of sets of rows, and of what else the code has of a set.
 --   filter-same    tests that agree give the same rows
 --   part-with      a part of the label of a set with row c is that of row c joined with that of the set: a union has no order and takes a row once
 --   part-joined    the same of what is equal to those parts
---   label-with     so the label of the flagged rows, joined with that of row c, is the label of the set
+--   label-with     so the label of a set, joined with that of row c, is the label of the set with row c
+--   known-with     the roles of what hangs from a set with row c
 --   valued-none    the values of no rows
---   valued-with    and of the flagged rows with row c
+--   valued-with    and of a set with row c
+--   valued-same    sets of the same rows have the same values
 use Prim.Native.Nat.{_+_, _<_, _≤_, suc, zero, ℕ}
 use borrow.Author.Tests.{eqb-false, eqb-true, ne-eqb}
 use lib.Dec.{eqb}
-use lib.ListN.{length, set}
-use mathlib.Core.Bool.{Bool, _||_, false, false≢true, true}
+use mathlib.Core.Bool.{Bool, _&&_, _||_, false, false≢true, not, true}
 use mathlib.Core.List.{List, _∷_}
+use mathlib.Core.Logic.{⊎-elim}
 use mathlib.Core.Path.{_∙_, _≡_, ap, refl, subst, sym}
 use native.Mathlib.Nat.{mod-eq-of-lt}
 use native.Mathlib.Omega.{arith}
-use Rattle.ale.proofs.RowLists.{filterFrom-none}
+use Rattle.ale.proofs.RowLists.{filterFrom-none, filterFrom-same}
 use Rattle.ale.specs.Merged.{labelOfSet, labelUnion}
 use Rattle.ale.specs.PictureSignature.{pictureSignature}
 use Rattle.ale.specs.Rows.{filterBelow, filterFrom}
@@ -23,18 +25,16 @@ use Rattle.ale.specs.Table.{Table}
 use Rattle.ale.specs.Tree.{Label, emptyLabel}
 use Rattle.meaning.specs.Meaning.{pictureTable}
 use Rattle.picture.specs.View.{viewOf}
-use Rattle.table.proofs.Bools.{false-is}
+use Rattle.table.proofs.Bools.{either}
 use Rattle.table.proofs.NameSets.{has-union, set-ext}
 use Rattle.table.specs.Fields.{impossibleOf, parentOf}
 use Rattle.table.specs.NameSet.{has, union}
 use Rattle.table.specs.Pick.{pick}
 use Rattle.normal.specs.declared.label.Label as code
+use Rattle.normal.specs.declared.rows.Kids.{Kids}
 use Rattle.normal.specs.declared.values.Values.{Values}
 use Rattle.normal.specs.Labels.{Added, Joined, LabelIs, Valued}
-use Rattle.normal.specs.Rows.{Blank, Highs, Lows, flagged, inSet, setRows}
-use Rattle.normal.proofs.RowSets.{blank-flagged}
-use Rattle.normal.proofs.Spans.{span-inside, span-with}
-use Rattle.normal.proofs.Stores.{flagged-stored}
+use Rattle.normal.specs.Rows.{Checked, Hung, Known, also, hangs, holds}
 use Rattle.normal.proofs.Tests.{by-test, or-again, or-swap}
 
 pub filter-same : (q q′ : ℕ → Bool) (o n : ℕ) → ((j : ℕ) → o ≤ j → q j ≡ q′ j) → filterFrom q o n ≡ filterFrom q′ o n
@@ -89,38 +89,68 @@ union-again : (a b : ℕ) → union a (union a b) ≡ union a b
 union-again a b =
     set-ext (union a (union a b)) (union a b) (λ n. rw (has-union a (union a b) n, has-union a b n) (or-again (has a n) (has b n)))
 
-pub label-with : (s : List ℕ) (rows : ℕ) (flags : List ℕ) (values : Values) (c : ℕ) (r : code.Label) → c < rows →
-    Valued s rows flags values → Joined s c (values .label) r →
-    LabelIs r (labelOfSet pictureSignature (pictureTable s) (setRows rows flags c))
-unfolding inSet viewOf
-label-with s rows flags values c r l valued joined =
+pub label-with : (s : List ℕ) (rows : ℕ) (q : ℕ → Bool) (values : Values) (c : ℕ) (r : code.Label) → c < rows →
+    Valued s rows q values → Joined s c (values .label) r →
+    LabelIs r (labelOfSet pictureSignature (pictureTable s) (filterBelow (also c q) rows))
+unfolding viewOf
+label-with s rows q values c r l valued joined =
     record {
-      wanted-is = part-joined pictureSignature (pictureTable s) (λ m. m .wanted .set) union (λ m n. refl) union-swap union-again (flagged flags) c rows
+      wanted-is = part-joined pictureSignature (pictureTable s) (λ m. m .wanted .set) union (λ m n. refl) union-swap union-again q c rows
           _ _ _ l (joined .wanted-joins) (sym (mod-eq-of-lt (joined .wanted-fits))) (valued .label-is .wanted-is);
-      excluded-is = part-joined pictureSignature (pictureTable s) (λ m. m .excluded .set) union (λ m n. refl) union-swap union-again (flagged flags) c rows
+      excluded-is = part-joined pictureSignature (pictureTable s) (λ m. m .excluded .set) union (λ m n. refl) union-swap union-again q c rows
           _ _ _ l (joined .excluded-joins) (sym (mod-eq-of-lt (joined .excluded-fits))) (valued .label-is .excluded-is);
-      bottom-is = part-joined pictureSignature (pictureTable s) (λ m. m .bottom) _||_ (λ m n. refl) or-swap or-again (flagged flags) c rows
+      bottom-is = part-joined pictureSignature (pictureTable s) (λ m. m .bottom) _||_ (λ m n. refl) or-swap or-again q c rows
           _ (eqb (impossibleOf s c) 1) _ l (joined .bottom-joins) refl (valued .label-is .bottom-is);
     }
 
-pub valued-none : (s : List ℕ) (rows : ℕ) (flags : List ℕ) (v : Values) → Blank flags → LabelIs (v .label) (emptyLabel pictureSignature) →
-    v .to ≡ 0 → Valued s rows flags v
-valued-none s rows flags v empty label end =
+none-hangs : (s : List ℕ) (j : ℕ) → hangs s (λ i. false) j ≡ false
+unfolding hangs
+none-hangs s j = by-test (eqb j 0) (λ e. rw e) (λ e. rw e)
+
+pub valued-none : (s : List ℕ) (rows : ℕ) (v : Values) → LabelIs (v .label) (emptyLabel pictureSignature) →
+    ((j : ℕ) → holds (v .kids .set) j ≡ false) → Valued s rows (λ j. false) v
+valued-none s rows v label empty =
     record {
       label-is = subst (λ t. LabelIs (v .label) (labelOfSet pictureSignature (pictureTable s) t))
-          (sym (filterFrom-none (flagged flags) 0 rows (λ j a b. false-is (flagged flags j) (blank-flagged flags empty j)))) label;
-      inside = omega arith;
-      spans = λ j z b e. absurd (false≢true (sym (blank-flagged flags empty (parentOf s j)) ∙ e));
+          (sym (filterFrom-none (λ j. false) 0 rows (λ j a b. tt))) label;
+      kids-are = λ j l. empty j ∙ sym (none-hangs s j);
+      known = record { known = λ j l h. absurd (false≢true (sym (empty j) ∙ h)) };
     }
 
-pub valued-with : (s : List ℕ) (rows : ℕ) (flags lows highs : List ℕ) (values : Values) (c : ℕ) (r : Values) → c < rows → c < length flags →
-    Lows s rows lows → Highs s rows highs → Valued s rows flags values → Added s lows highs c values r → Valued s rows (set flags c 1) r
-valued-with s rows flags lows highs values c r l room low high valued added =
+with-hangs : (s : List ℕ) (q : ℕ → Bool) (c k : ℕ) → (hangs s (λ i. eqb i c) k || hangs s q k) ≡ hangs s (also c q) k
+unfolding hangs
+with-hangs s q c k = by-test (eqb k 0) (λ e. rw e) (λ e. rw e)
+
+pub known-with : (s : List ℕ) (rows c : ℕ) (kids r : Kids) → Known s rows kids → Hung s rows c kids r → Known s rows r
+known-with s rows c kids r known hung =
     record {
-      label-is = subst (λ t. LabelIs (r .label) (labelOfSet pictureSignature (pictureTable s) t))
-          (filter-same (inSet flags c) (flagged (set flags c 1)) 0 rows (λ j a. sym (flagged-stored flags c j room)))
-          (label-with s rows flags values c (r .label) l valued (added .label-joins));
-      inside = span-inside s rows flags lows highs values c (r .from) (r .to) low high valued (added .from-is) (added .to-is);
-      spans = λ j z b e. span-with s rows flags lows highs values c (r .from) (r .to) low high valued (added .from-is) (added .to-is)
-          j z b (sym (flagged-stored flags c (parentOf s j) room) ∙ e);
+      known = λ k b h.
+          ⊎-elim (λ e. hung .roles-met k b e) (λ e. hung .roles-kept _ (known .known k b e))
+          (either (hangs s (λ i. eqb i c) k) (holds (kids .set) k) (sym (hung .set-is k b) ∙ h));
+    }
+
+pub valued-with : (s : List ℕ) (rows : ℕ) (q : ℕ → Bool) (values : Values) (c : ℕ) (r : Values) → c < rows →
+    Valued s rows q values → Added s rows c values r → Valued s rows (also c q) r
+valued-with s rows q values c r l valued added =
+    let hung = added .kids-join in
+    record {
+      label-is = label-with s rows q values c (r .label) l valued (added .label-joins);
+      kids-are = λ k b.
+          hung .set-is k b ∙ ap (λ (t : Bool). hangs s (λ i. eqb i c) k || t) (valued .kids-are k b) ∙ with-hangs s q c k;
+      known = known-with s rows c (values .kids) (r .kids) (valued .known) hung;
+    }
+
+same-hangs : (s : List ℕ) (rows : ℕ) (q q′ : ℕ → Bool) → Checked s rows → ((j : ℕ) → j < rows → q j ≡ q′ j) → (j : ℕ) → j < rows → hangs s q j ≡ hangs s q′ j
+unfolding hangs
+same-hangs s rows q q′ checked same j l =
+    by-test (eqb j 0) (λ e. rw e) (λ e. rw e (same (parentOf s j) (omega (arith, checked .parents j (eqb-false j 0 e) l))))
+
+pub valued-same : (s : List ℕ) (rows : ℕ) (q q′ : ℕ → Bool) (v : Values) → Checked s rows → ((j : ℕ) → j < rows → q j ≡ q′ j) →
+    Valued s rows q v → Valued s rows q′ v
+valued-same s rows q q′ v checked same valued =
+    record {
+      label-is = subst (λ t. LabelIs (v .label) (labelOfSet pictureSignature (pictureTable s) t))
+          (filterFrom-same q q′ 0 rows (λ j a b. same j (omega arith))) (valued .label-is);
+      kids-are = λ j l. valued .kids-are j l ∙ same-hangs s rows q q′ checked same j l;
+      known = valued .known;
     }

@@ -1,12 +1,12 @@
 -- The laws of the writer, by subject.
--- tests, tables of flags, sets of rows and their spans
+-- tests, tables, sets of rows and what hangs from them
 pub mod Tests
 pub mod Stores
-pub mod RowSets
-pub mod Spans
-pub mod Roles
-pub mod Marks
+pub mod Words
+pub mod Links
+pub mod Masks
 pub mod LabelLaws
+pub mod Gathers
 -- merged rows counted, written and tidied
 pub mod Prefixes
 pub mod Growth

@@ -1,16 +1,18 @@
 -- The root: the merged tree that the code begins with is that of {root}, it is never dropped, and so what was grown from nothing is the
 -- normal table.
---   setRows-root    a blank table of flags and row 0 are {root}
+--   rows-root       no row and row 0 are {root}
 --   merged-root     the merged tree of that set
 --   grown-built     what was grown from nothing with it is the normal table
 use Prim.Native.Nat.{_<_, suc, zero, ℕ}
 use borrow.Author.Tests.{ne-eqb}
+use mathlib.Core.Bool.{false}
 use mathlib.Core.List.{List, [], _∷_, append-nil}
 use mathlib.Core.Path.{_∙_, _≡_, ap, subst}
 use native.Mathlib.Omega.{arith}
 use Rattle.ale.proofs.RowLists.{filterFrom-none}
 use Rattle.ale.specs.Encoding.{encode}
 use Rattle.ale.specs.Merged.{merged}
+use Rattle.ale.specs.Rows.{filterBelow}
 use Rattle.ale.specs.PictureSignature.{pictureSignature}
 use Rattle.ale.specs.Tree.{cons, exists, nil}
 use Rattle.meaning.specs.File.{rowsFrom}
@@ -20,20 +22,19 @@ use Rattle.table.specs.declared.layout.Limits.{Limits}
 use Rattle.normal.specs.Built.{Built}
 use Rattle.normal.specs.Grown.{Grown}
 use Rattle.normal.specs.Parts.{mergedAt}
-use Rattle.normal.specs.Rows.{Blank, inSet, setRows}
+use Rattle.normal.specs.Rows.{also}
 use Rattle.normal.specs.declared.grow.Branch.{Branch}
 
-pub setRows-root : (rows : ℕ) (flags : List ℕ) → Blank flags → 0 < rows → setRows rows flags 0 ≡ 0 ∷ []
-unfolding inSet
-setRows-root zero flags unflagged rooted = absurd (omega arith)
-setRows-root (suc n) flags unflagged rooted =
-    ap (λ (l : List ℕ). 0 ∷ l) (filterFrom-none (inSet flags 0) 1 n (λ j a b. rw (ne-eqb j 0 (λ e. omega arith), unflagged .zeros j) tt))
+pub rows-root : (rows : ℕ) → 0 < rows → filterBelow (also 0 (λ j. false)) rows ≡ 0 ∷ []
+rows-root zero rooted = absurd (omega arith)
+rows-root (suc n) rooted =
+    ap (λ (l : List ℕ). 0 ∷ l) (filterFrom-none (also 0 (λ j. false)) 1 n (λ j a b. rw (ne-eqb j 0 (λ e. omega arith)) tt))
 
-pub merged-root : (limits : Limits) (s : List ℕ) (rows : ℕ) (flags : List ℕ) → Blank flags → 0 < rows →
-    mergedAt s rows (limits .depth) flags 0 ≡ mergedTree limits s
+pub merged-root : (limits : Limits) (s : List ℕ) (rows : ℕ) → 0 < rows →
+    mergedAt s rows (limits .depth) (also 0 (λ j. false)) ≡ mergedTree limits s
 unfolding mergedAt mergedTree
-merged-root limits s rows flags unflagged rooted =
-    ap (λ (l : List ℕ). merged pictureSignature (pictureTable s) (limits .depth) l) (setRows-root rows flags unflagged rooted)
+merged-root limits s rows rooted =
+    ap (λ (l : List ℕ). merged pictureSignature (pictureTable s) (limits .depth) l) (rows-root rows rooted)
 
 -- what was grown from nothing with the merged tree
 module _ (limits : Limits) (s : List ℕ) (b r : Branch) (out end : List ℕ) (first : b .table .rows ≡ 0) (none : b .merged ≡ 0)
@@ -50,9 +51,9 @@ module _ (limits : Limits) (s : List ℕ) (b r : Branch) (out end : List ℕ) (f
         ∙ ap (λ w. rowsFrom 0 w) (append-nil (encode pictureSignature (normalTreeOf limits s)));
   }
 
-pub grown-built : (limits : Limits) (s : List ℕ) (rows : ℕ) (flags : List ℕ) (b r : Branch) (out end : List ℕ) → Blank flags → 0 < rows →
-    b .table .rows ≡ 0 → b .merged ≡ 0 → Grown (limits .rows) 0 b out (cons exists 0 (mergedAt s rows (limits .depth) flags 0) nil) r end →
+pub grown-built : (limits : Limits) (s : List ℕ) (rows : ℕ) (b r : Branch) (out end : List ℕ) → 0 < rows → b .table .rows ≡ 0 → b .merged ≡ 0 →
+    Grown (limits .rows) 0 b out (cons exists 0 (mergedAt s rows (limits .depth) (also 0 (λ j. false))) nil) r end →
     Built limits s out r end
-grown-built limits s rows flags b r out end unflagged rooted first none grown =
+grown-built limits s rows b r out end rooted first none grown =
     tree-built limits s b r out end first none
-    (subst (λ t. Grown (limits .rows) 0 b out (cons exists 0 t nil) r end) (merged-root limits s rows flags unflagged rooted) grown)
+    (subst (λ t. Grown (limits .rows) 0 b out (cons exists 0 t nil) r end) (merged-root limits s rows rooted) grown)

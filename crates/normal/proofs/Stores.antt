@@ -1,17 +1,14 @@
 -- Laws of one store in a table.
---   stored           what is true of the value stored, and elsewhere of the old one, is true of what stands there after the store
---   flagged-stored   after row c is flagged, the flagged rows are those of the set with row c
---   blank            a table of zeros is blank
+--   stored   what is true of the value stored, and elsewhere of the old one, is true of what stands there after the store
+--   blank    a table of zeros
 use Prim.Native.Nat.{_<_, suc, zero, ℕ}
-use borrow.Author.Tests.{eq-eqb, eqb-false, eqb-true, ne-eqb}
+use borrow.Author.Tests.{eqb-false, eqb-true}
 use lib.Dec.{eqb}
 use lib.ListN.{length-replicate, getD, length, replicate, set}
 use lib.Seq.{getD-set-other, getD-set-same}
-use mathlib.Core.Bool.{_||_}
 use mathlib.Core.List.{List}
 use mathlib.Core.Path.{_∙_, _≡_, ap, refl, subst, sym}
-use Rattle.table.specs.Bounds.{maxRows}
-use Rattle.normal.specs.Rows.{Blank, flagged, inSet}
+use Rattle.normal.specs.Rows.{Zeros}
 use Rattle.normal.proofs.Tests.{by-test}
 
 pub stored : (P : ℕ → Type 0) (t : List ℕ) (i v k : ℕ) → i < length t → (k ≡ i → P v) → ((k ≡ i → ⊥) → P (getD t k 0)) → P (getD (set t i v) k 0)
@@ -21,13 +18,8 @@ stored P t i v k l here elsewhere =
     subst P (sym (ap (λ (m : ℕ). getD (set t i v) m 0) same ∙ getD-set-same t i v 0 l)) (here same))
     (λ e. let other = eqb-false k i e in subst P (sym (getD-set-other t i k v 0 other)) (elsewhere other))
 
-pub flagged-stored : (flags : List ℕ) (c k : ℕ) → c < length flags → flagged (set flags c 1) k ≡ inSet flags c k
-unfolding inSet
-flagged-stored flags c k l =
-    stored (λ v. eqb v 1 ≡ (eqb k c || flagged flags k)) flags c 1 k l (λ e. simp (eq-eqb k c e)) (λ u. simp (ne-eqb k c u))
-
-pub blank : (n : ℕ) → n ≡ maxRows → Blank (replicate n 0)
-blank n e = record { size = length-replicate n 0 ∙ e; zeros = zeros n }
+pub blank : (n m : ℕ) → n ≡ m → Zeros m (replicate n 0)
+blank n m e = record { size = length-replicate n 0 ∙ e; zeros = zeros n }
   where
     zeros : (n j : ℕ) → _≡_ {A = ℕ} (getD (replicate n 0) j 0) 0
     zeros zero j = refl

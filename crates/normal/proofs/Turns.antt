@@ -1,54 +1,80 @@
--- One turn of the loop over the some-successors of a role, in its span: row j is the next, or none, or the last that the limit lets in.
---   turn-start, turn-yes, turn-no, turn-full, turn-end
+-- One turn of the loop over the roles of what hangs from a set, p.
+--   role-on      roles without successors are skipped
+--   role-turn    the successors of one role more
+-- One turn of the loop over the some-successors of a role: row j is the next of the set, n the one after it.
+--   turn-start   no row of the set stands before j
+--   turn-yes     row j is a some-successor; turn-no: it is not; turn-full: it is the last that the limit lets in
+--   turn-end     none is left
 use Prim.Native.Nat.{_+_, _<_, _≤_, min, ℕ}
-use mathlib.Core.Bool.{Bool, false, true}
+use mathlib.Core.Bool.{Bool, true}
 use mathlib.Core.List.{List}
-use mathlib.Core.Path.{_≡_, ap, sym, _∙_}
+use mathlib.Core.Path.{_≡_, ap, refl, sym, _∙_}
 use native.Mathlib.Omega.{arith}
-use Rattle.table.specs.Layout.{kindExists}
+use Rattle.table.specs.Fields.{kindOf}
+use Rattle.table.specs.Layout.{kindExists, roles}
 use Rattle.ale.specs.PictureSignature.{pictureSignature}
 use Rattle.ale.specs.Tree.{Forest, cons, exists, nil}
 use Rattle.normal.specs.Grown.{Grown, Room}
-use Rattle.normal.specs.Parts.{existsPartAt, mergedAt}
-use Rattle.normal.specs.Rows.{Spanned, hangsBy}
+use Rattle.normal.specs.Parts.{existsPartAt, mergedAt, partsAt, rolesAt}
+use Rattle.normal.specs.Rows.{Next, Unused, also, holds, ofRole}
 use Rattle.normal.specs.declared.grow.Branch.{Branch}
-use Rattle.normal.specs.declared.rows.Set.{Set}
+use Rattle.normal.specs.declared.rows.RowSet.{RowSet}
+use Rattle.normal.proofs.Gathers.{kind-no, kind-none, kind-yes}
 use Rattle.normal.proofs.Growth.{grown-append, grown-full, grown-nil, grown-same}
-use Rattle.normal.proofs.PartLaws.{exists-more, exists-next, exists-none, exists-other, exists-rest}
+use Rattle.normal.proofs.PartLaws.{exists-more, exists-next, exists-none, exists-skip, roles-next, roles-skip}
 
-module _ (s : List ℕ) (rows depth : ℕ) (flags : List ℕ) (set : Set) (role : ℕ) (found : List ℕ) (limit parent : ℕ) (b : Branch) (out : List ℕ) where
+module _ (s : List ℕ) (rows depth : ℕ) (p : ℕ → Bool) (limit parent : ℕ) (b : Branch) (out : List ℕ) where
+  pub role-on : (least n : ℕ) (r : Branch) (end : List ℕ) → least ≤ n → least ≤ roles → Unused s rows p least (min n roles) → Grown limit parent b out (rolesAt s rows depth p least) r end → Grown limit parent b out (rolesAt s rows depth p (min n roles)) r end
+  role-on least n r end l m unused g =
+      grown-same limit parent b r out end _ _ (sym (roles-skip s rows p least (min n roles) unused depth (omega arith))) g
+
+  pub role-turn : (role : ℕ) (m r : Branch) (mid end : List ℕ) → role < roles → Grown limit parent b out (rolesAt s rows depth p (min role roles)) m mid → Grown limit parent m mid (partsAt s rows depth role (ofRole s role p)) r end → Grown limit parent b out (rolesAt s rows depth p (role + 1)) r end
+  role-turn role m r mid end l g h =
+      grown-same limit parent b r out end _ _ (roles-next s rows p depth role)
+      (grown-append limit parent b m r out mid end _ _ (grown-same limit parent b m out mid _ _ (ap (rolesAt s rows depth p) (omega arith)) g) h)
+
+module _ (s : List ℕ) (rows depth role : ℕ) (set : RowSet) (q : ℕ → Bool) (limit parent : ℕ) (b : Branch) (out : List ℕ) where
   abbrev upto : ℕ → Forest pictureSignature
-  upto n = existsPartAt s rows depth flags (set .c) role found n
+  upto n = existsPartAt s rows depth role (holds set) q n
 
   abbrev one : ℕ → Forest pictureSignature
-  one j = cons exists role (mergedAt s rows depth found j) nil
+  one j = cons exists role (mergedAt s rows depth (also j q)) nil
 
-  below : (j : ℕ) → j ≤ rows → upto (min j rows) ≡ upto j
-  below j l = ap upto (omega arith)
+  -- none from one row on before the next of the set
+  on : (from n : ℕ) → from ≤ rows → Next set from rows n → upto from ≡ upto (min n rows)
+  on from n l next =
+      let o = next .onward in
+      exists-skip s rows depth role (holds set) q from (min n rows) (omega arith)
+      (λ j x y. kind-none s kindExists (holds set) j (next .between j x (omega arith) (omega arith)))
 
-  pub turn-start : Spanned s rows flags set → Room limit b out → Grown limit parent b out (upto (min (set .from) rows)) b out
-  turn-start spanned room =
-      grown-same limit parent b b out out nil (upto (min (set .from) rows)) (sym (exists-none s rows depth flags set role found spanned (min (set .from) rows) (omega arith) (omega arith))) (grown-nil limit parent b out room)
+  pub turn-start : (j : ℕ) → Next set 0 rows j → Room limit b out → Grown limit parent b out (upto (min j rows)) b out
+  turn-start j next room =
+      grown-same limit parent b b out out nil (upto (min j rows)) (sym (exists-none s rows depth role (holds set) q) ∙ on 0 j (omega arith) next) (grown-nil limit parent b out room)
 
-  pub turn-end : (j : ℕ) (r : Branch) (end : List ℕ) → Spanned s rows flags set → set .to ≤ j → Grown limit parent b out (upto (min j rows)) r end → Grown limit parent b out (upto rows) r end
-  turn-end j r end spanned l p =
-      let i = spanned .inside in
-      grown-same limit parent b r out end (upto (min j rows)) (upto rows) (exists-rest s rows depth flags set role found spanned (min j rows) (omega arith) (omega arith)) p
+  pub turn-end : (j : ℕ) (r : Branch) (end : List ℕ) → rows ≤ j → Grown limit parent b out (upto (min j rows)) r end → Grown limit parent b out (upto rows) r end
+  turn-end j r end l p = grown-same limit parent b r out end (upto (min j rows)) (upto rows) (ap upto (omega arith)) p
 
   module _ (j : ℕ) (l : j < rows) (m : Branch) (mid : List ℕ) (p : Grown limit parent b out (upto (min j rows)) m mid) where
-    pub turn-no : (r : Branch) (end : List ℕ) → hangsBy s flags (set .c) kindExists role j ≡ false → r ≡ m → end ≡ mid → Grown limit parent b out (upto (min (j + 1) rows)) r end
-    turn-no r end t er ee =
-        rw (er, ee)
-        (grown-same limit parent b m out mid (upto (min j rows)) (upto (min (j + 1) rows)) (below j (omega arith) ∙ exists-other s rows depth flags set role found j t ∙ sym (below (j + 1) (omega arith))) p)
+    here : Grown limit parent b out (upto j) m mid
+    here = grown-same limit parent b m out mid (upto (min j rows)) (upto j) (ap upto (omega arith)) p
 
-    module _ (r : Branch) (end : List ℕ) (t : hangsBy s flags (set .c) kindExists role j ≡ true) (q : Grown limit parent m mid (one j) r end) where
+    pub turn-no : (n : ℕ) (r : Branch) (end : List ℕ) → Next set (j + 1) rows n → (kindOf s j ≡ kindExists → ⊥) → r ≡ m → end ≡ mid → Grown limit parent b out (upto (min n rows)) r end
+    turn-no n r end next other er ee =
+        rw (er, ee)
+        (grown-same limit parent b m out mid (upto j) (upto (min n rows))
+        (exists-skip s rows depth role (holds set) q j (j + 1) (omega arith)
+        (λ k x y. let same : k ≡ j = omega arith in kind-no s kindExists (holds set) k (λ e. other (ap (kindOf s) (sym same) ∙ e)))
+        ∙ on (j + 1) n (omega arith) next) here)
+
+    module _ (r : Branch) (end : List ℕ) (held : holds set j ≡ true) (is : kindOf s j ≡ kindExists) (g : Grown limit parent m mid (one j) r end) where
       next : Grown limit parent b out (upto (j + 1)) r end
       next =
-          grown-same limit parent b r out end _ (upto (j + 1)) (exists-next s rows depth flags set role found j t)
-          (grown-append limit parent b m r out mid end (upto j) (one j) (grown-same limit parent b m out mid (upto (min j rows)) (upto j) (below j (omega arith)) p) q)
+          grown-same limit parent b r out end _ (upto (j + 1)) (exists-next s rows depth role (holds set) q j (kind-yes s kindExists (holds set) j is held))
+          (grown-append limit parent b m r out mid end (upto j) (one j) here g)
 
-      pub turn-yes : (r′ : Branch) (end′ : List ℕ) → r′ ≡ r → end′ ≡ end → Grown limit parent b out (upto (min (j + 1) rows)) r′ end′
-      turn-yes r′ end′ er ee = rw (er, ee) (grown-same limit parent b r out end (upto (j + 1)) (upto (min (j + 1) rows)) (sym (below (j + 1) (omega arith))) next)
+      pub turn-yes : (n : ℕ) (r′ : Branch) (end′ : List ℕ) → Next set (j + 1) rows n → r′ ≡ r → end′ ≡ end → Grown limit parent b out (upto (min n rows)) r′ end′
+      turn-yes n r′ end′ nx er ee =
+          rw (er, ee) (grown-same limit parent b r out end (upto (j + 1)) (upto (min n rows)) (on (j + 1) n (omega arith) nx) next)
 
       pub turn-full : limit < r .merged → Grown limit parent b out (upto rows) r end
-      turn-full over = grown-full limit parent b r out end (upto (j + 1)) (upto rows) next over (exists-more s rows depth flags set role found (j + 1) rows (omega arith))
+      turn-full over = grown-full limit parent b r out end (upto (j + 1)) (upto rows) next over (exists-more s rows depth role (holds set) q (j + 1) rows (omega arith))

@@ -1,15 +1,14 @@
--- Labels and spans of sets of rows as the code has them.
+-- Labels of sets of rows, and what else the code has of a set.
 --   LabelIs   a label of the code stands for one of the theory
 --   Joined    a label with that of row j
---   Added     the same of all that the code keeps of A
---   Valued    the label of the flagged rows, and the span of what hangs from them
-use Prim.Native.Nat.{_+_, _<_, _^_, _≤_, max, min, ℕ}
+--   Added     the same of all that the code has of a set
+--   Valued    the label of a set, what hangs from it, and the roles of that
+use Prim.Native.Nat.{_<_, _^_, ℕ}
 use lib.Dec.{eqb}
-use lib.ListN.{getD}
-use mathlib.Core.Bool.{Bool, _||_, true}
+use mathlib.Core.Bool.{Bool, _||_}
 use mathlib.Core.List.{List}
 use mathlib.Core.Path.{_≡_}
-use Rattle.table.specs.Fields.{excludedOf, impossibleOf, parentOf, wantedOf}
+use Rattle.table.specs.Fields.{excludedOf, impossibleOf, wantedOf}
 use Rattle.table.specs.Layout.{nameCount}
 use Rattle.table.specs.NameSet.{setOf, union}
 use Rattle.ale.specs.Merged.{labelOfSet}
@@ -17,7 +16,7 @@ use Rattle.ale.specs.PictureSignature.{pictureSignature}
 use Rattle.ale.specs.Rows.{filterBelow}
 use Rattle.ale.specs.Tree as tree
 use Rattle.meaning.specs.Meaning.{pictureTable}
-use Rattle.normal.specs.Rows.{flagged}
+use Rattle.normal.specs.Rows.{Hung, Known, hangs, holds}
 use Rattle.normal.specs.declared.label.Label.{Label}
 use Rattle.normal.specs.declared.values.Values.{Values}
 
@@ -33,14 +32,12 @@ pub record Joined (s : List ℕ) (j : ℕ) (label r : Label) : Type 0 where
   pub wanted-fits : wantedOf s j < 2 ^ nameCount
   pub excluded-fits : excludedOf s j < 2 ^ nameCount
 
-pub record Added (s lows highs : List ℕ) (j : ℕ) (values r : Values) : Type 0 where
+pub record Added (s : List ℕ) (rows j : ℕ) (values r : Values) : Type 0 where
   pub label-joins : Joined s j (values .label) (r .label)
   pub first-is : r .first ≡ j
-  pub from-is : r .from ≡ min (getD lows j 0) (values .from)
-  pub to-is : r .to ≡ max (getD highs j 0 + 1) (values .to)
+  pub kids-join : Hung s rows j (values .kids) (r .kids)
 
-pub record Valued (s : List ℕ) (rows : ℕ) (flags : List ℕ) (values : Values) : Type 0 where
-  pub label-is : LabelIs (values .label) (labelOfSet pictureSignature (pictureTable s) (filterBelow (flagged flags) rows))
-  pub inside : values .to ≤ rows
-  pub spans :
-      (j : ℕ) → (j ≡ 0 → ⊥) → j < rows → flagged flags (parentOf s j) ≡ true → (values .from ≤ j) × (j < values .to)
+pub record Valued (s : List ℕ) (rows : ℕ) (q : ℕ → Bool) (values : Values) : Type 0 where
+  pub label-is : LabelIs (values .label) (labelOfSet pictureSignature (pictureTable s) (filterBelow q rows))
+  pub kids-are : (j : ℕ) → j < rows → holds (values .kids .set) j ≡ hangs s q j
+  pub known : Known s rows (values .kids)

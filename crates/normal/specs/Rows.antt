@@ -1,15 +1,18 @@
--- Sets of file rows as the code has them: the rows that a table of flags marks, and row c.
---   Checked          what the code needs of a readable picture of so many rows
---   flagged          whether row j is marked
---   inSet, setRows   whether row j is in the set; the set as a rising list
---   hangsFrom        row j hangs from a row of the set; hangsBy: by an edge of a kind and role
---   Blank            a table of zeros, one for each row that there may be
---   Lows, Highs      a row stands between the lowest and the highest row that hangs from its parent
---   Surveyed         the picture with both tables
---   Spanned          what hangs from the set stands in its span
---   Unused           no row hangs from the set by a role from one to another
---   Flagged          a table marks the rows that pass a test; `first` is the lowest of them, or the number of rows
-use Prim.Native.Nat.{_<_, _≤_, ℕ}
+-- Sets of file rows, and what hangs from them. A set is a test of row numbers; the code has some of them as words.
+--   Checked                what the code needs of a readable picture of so many rows
+--   also                   a set with one row more
+--   hangs                  row j hangs from a row of the set
+--   ofKind, ofRole         those of one kind; those of one role
+--   wordOf, holds          the words of a set that the code has; whether it holds row j
+--   Next                   the lowest row of such a set from one on
+--   Zeros                  a table of zeros
+--   Nearest, Linked        the lowest row from one on that hangs from row c; the tables of them
+--   Masked, Surveyed       the table of the rows of each role; the picture with these tables
+--   Hung                   what hangs from a set with row c, and its roles
+--   Known                  the roles that the code has of such rows
+--   Unused                 a set has no row by a role from one to another
+--   Found                  a row that passes a test, or the number of rows if there is none
+use Prim.Native.Nat.{_*_, _+_, _/_, _%_, _<_, _≤_, ℕ}
 use lib.Dec.{eqb}
 use lib.ListN.{getD, length}
 use mathlib.Core.Bool.{Bool, _&&_, _||_, false, not, true}
@@ -19,9 +22,11 @@ use mathlib.Core.Path.{_≡_}
 use Rattle.table.specs.Bounds.{maxRows}
 use Rattle.table.specs.Fields.{kindOf, parentOf, roleOf}
 use Rattle.table.specs.Layout.{kindExists, kindForAll, «place», roles}
-use Rattle.ale.specs.Rows.{filterBelow}
+use Rattle.table.specs.NameSet.{has}
+use Rattle.table.specs.Pick.{pick}
 use Rattle.picture.specs.View.{rowCount}
-use Rattle.normal.specs.declared.rows.Set.{Set}
+use Rattle.normal.specs.declared.rows.Kids.{Kids}
+use Rattle.normal.specs.declared.rows.RowSet.{RowSet}
 
 pub record Checked (s : List ℕ) (rows : ℕ) : Type 0 where
   pub some : 0 < rows
@@ -32,45 +37,60 @@ pub record Checked (s : List ℕ) (rows : ℕ) : Type 0 where
   pub kinds : (j : ℕ) → (j ≡ 0 → ⊥) → j < rows → (kindOf s j ≡ kindExists) ⊎ (kindOf s j ≡ kindForAll)
   pub roles-below : (j : ℕ) → j < rows → roleOf s j < roles
 
-abbrev pub flagged : List ℕ → ℕ → Bool
-flagged flags j = eqb (getD flags j 0) 1
+abbrev pub also : ℕ → (ℕ → Bool) → ℕ → Bool
+also c q j = eqb j c || q j
 
-unfoldable pub inSet : List ℕ → ℕ → ℕ → Bool
-inSet flags c j = eqb j c || flagged flags j
+unfoldable pub hangs : List ℕ → (ℕ → Bool) → ℕ → Bool
+hangs s q j = not (eqb j 0) && q (parentOf s j)
 
-abbrev pub setRows : ℕ → List ℕ → ℕ → List ℕ
-setRows rows flags c = filterBelow (inSet flags c) rows
+abbrev pub ofKind : List ℕ → ℕ → (ℕ → Bool) → ℕ → Bool
+ofKind s kind p j = eqb (kindOf s j) kind && p j
 
-unfoldable pub hangsFrom : List ℕ → List ℕ → ℕ → ℕ → Bool
-hangsFrom s flags c j = not (eqb j 0) && inSet flags c (parentOf s j)
+abbrev pub ofRole : List ℕ → ℕ → (ℕ → Bool) → ℕ → Bool
+ofRole s role p j = eqb (roleOf s j) role && p j
 
-unfoldable pub hangsBy : List ℕ → List ℕ → ℕ → ℕ → ℕ → ℕ → Bool
-hangsBy s flags c kind role j = eqb (roleOf s j) role && (eqb (kindOf s j) kind && hangsFrom s flags c j)
+abbrev pub wordOf : RowSet → ℕ → ℕ
+wordOf r i = pick (eqb i 0) (r .a) (pick (eqb i 1) (r .b) (pick (eqb i 2) (r .c) (pick (eqb i 3) (r .d) 0)))
 
-pub record Blank (flags : List ℕ) : Type 0 where
-  pub size : length flags ≡ maxRows
-  pub zeros : (j : ℕ) → getD flags j 0 ≡ 0
+unfoldable pub holds : RowSet → ℕ → Bool
+holds r j = has (wordOf r (j / 64)) (j % 64)
 
-pub record Lows (s : List ℕ) (rows : ℕ) (lows : List ℕ) : Type 0 where
-  pub lowest : (j : ℕ) → (j ≡ 0 → ⊥) → j < rows → getD lows (parentOf s j) 0 ≤ j
+pub record Next (set : RowSet) (from rows r : ℕ) : Type 0 where
+  pub onward : from ≤ r
+  pub between : (k : ℕ) → from ≤ k → k < r → k < rows → holds set k ≡ false
+  pub held : r < rows → holds set r ≡ true
 
-pub record Highs (s : List ℕ) (rows : ℕ) (highs : List ℕ) : Type 0 where
-  pub highest : (j : ℕ) → (j ≡ 0 → ⊥) → j < rows → j ≤ getD highs (parentOf s j) 0
-  pub inside : (j : ℕ) → getD highs j 0 < rows
+pub record Zeros (n : ℕ) (t : List ℕ) : Type 0 where
+  pub size : length t ≡ n
+  pub zeros : (j : ℕ) → getD t j 0 ≡ 0
 
-pub record Surveyed (s : List ℕ) (rows : ℕ) (lows highs : List ℕ) : Type 0 where
+pub record Nearest (s : List ℕ) (rows c from r : ℕ) : Type 0 where
+  pub hung : (r ≡ 0 → ⊥) → (from ≤ r) × (r < rows) × (parentOf s r ≡ c)
+  pub first : (k : ℕ) → (k ≡ 0 → ⊥) → from ≤ k → k < rows → parentOf s k ≡ c → (r ≡ 0 → ⊥) × (r ≤ k)
+
+pub record Linked (s : List ℕ) (rows : ℕ) (links : List ℕ) : Type 0 where
+  pub lowest : (c : ℕ) → c < rows → Nearest s rows c 1 (getD links c 0)
+  pub later : (j : ℕ) → (j ≡ 0 → ⊥) → j < rows → Nearest s rows (parentOf s j) (j + 1) (getD links (maxRows + j) 0)
+
+pub record Masked (s : List ℕ) (rows : ℕ) (masks : List ℕ) : Type 0 where
+  pub masked : (j role : ℕ) → j < rows → role < roles → has (getD masks (4 * role + j / 64) 0) (j % 64) ≡ eqb (roleOf s j) role
+
+pub record Surveyed (s : List ℕ) (rows : ℕ) (links masks : List ℕ) : Type 0 where
   pub checked : Checked s rows
-  pub lowest : Lows s rows lows
-  pub highest : Highs s rows highs
+  pub linked : Linked s rows links
+  pub masked : Masked s rows masks
 
-pub record Spanned (s : List ℕ) (rows : ℕ) (flags : List ℕ) (set : Set) : Type 0 where
-  pub inside : set .to ≤ rows
-  pub spans : (j : ℕ) → j < rows → hangsFrom s flags (set .c) j ≡ true → (set .from ≤ j) × (j < set .to)
+pub record Hung (s : List ℕ) (rows c : ℕ) (kids r : Kids) : Type 0 where
+  pub set-is : (k : ℕ) → k < rows → holds (r .set) k ≡ (hangs s (λ i. eqb i c) k || holds (kids .set) k)
+  pub roles-kept : (i : ℕ) → has (kids .roles) i ≡ true → has (r .roles) i ≡ true
+  pub roles-met : (k : ℕ) → k < rows → hangs s (λ i. eqb i c) k ≡ true → has (r .roles) (roleOf s k) ≡ true
 
-pub record Unused (s : List ℕ) (rows : ℕ) (flags : List ℕ) (c least to : ℕ) : Type 0 where
-  pub none : (j : ℕ) → j < rows → least ≤ roleOf s j → roleOf s j < to → hangsFrom s flags c j ≡ false
+pub record Known (s : List ℕ) (rows : ℕ) (kids : Kids) : Type 0 where
+  pub known : (j : ℕ) → j < rows → holds (kids .set) j ≡ true → has (kids .roles) (roleOf s j) ≡ true
 
-pub record Flagged (passes : ℕ → Bool) (rows first : ℕ) (flags : List ℕ) : Type 0 where
+pub record Unused (s : List ℕ) (rows : ℕ) (p : ℕ → Bool) (least to : ℕ) : Type 0 where
+  pub none : (j : ℕ) → j < rows → least ≤ roleOf s j → roleOf s j < to → p j ≡ false
+
+pub record Found (passes : ℕ → Bool) (rows first : ℕ) : Type 0 where
   pub found : first < rows → passes first ≡ true
   pub none : rows ≤ first → (j : ℕ) → j < rows → passes j ≡ false
-  pub marks : (j : ℕ) → j < rows → flagged flags j ≡ passes j

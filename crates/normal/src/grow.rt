@@ -1,24 +1,23 @@
 // Merged rows, made depth first: each is counted, written into the lent part, and tidied once what hangs from it is there. A table
 // under construction is a value, so a row that is broken or dropped is given up by going on from the earlier value.
 use crate::label::Label;
-use crate::label::join;
-use crate::rows::Set;
-use crate::rows::fill_highs;
-use crate::rows::fill_lows;
-use crate::rows::hangs_by;
-use crate::rows::next_role;
-use crate::rows::widen;
+use crate::rows::Kids;
+use crate::rows::LINKS;
+use crate::rows::MASKS;
+use crate::rows::RowSet;
+use crate::rows::fill_links;
+use crate::rows::fill_masks;
+use crate::rows::next_bit;
 use crate::values::Values;
-use crate::values::flag_values;
+use crate::values::gather;
 use table::builder::Builder;
 use table::layout::KIND_EXISTS;
 use table::layout::KIND_FOR_ALL;
 use table::layout::KIND_ROOT;
 use table::layout::Limits;
-use table::layout::MAX_ROWS;
-use table::layout::ROLES;
 use table::names::Names;
 use table::row::Row;
+use table::row::kind;
 ghost use mathlib.Core.Path.{_≡_};
 ghost use mathlib.Core.Bool.{Bool, _||_, not};
 ghost use Prim.Native.Nat.{ℕ, _+_, _≤_, _<_};
@@ -27,12 +26,12 @@ ghost use lib.ListN.{length};
 ghost use Rattle.table.specs.Bounds.{Bounded, maxRows};
 ghost use Rattle.table.specs.Layout.{kindForAll, «place», roles, rowSize};
 ghost use Rattle.ale.specs.PictureSignature.{pictureSignature};
-ghost use Rattle.ale.specs.Tree.{cons, nil, successorsOf};
+ghost use Rattle.ale.specs.Tree.{cons, nil};
 ghost use Rattle.meaning.specs.File.{codeAt};
 ghost use Rattle.meaning.specs.Meaning.{kindAt};
-ghost use Rattle.normal.specs.Rows.{Checked, Spanned, Surveyed};
+ghost use Rattle.normal.specs.Rows.{Checked, Known, Surveyed, also, holds, ofKind, ofRole};
 ghost use Rattle.normal.specs.Labels.{Valued};
-ghost use Rattle.normal.specs.Parts.{existsPartAt, mergedAt, rolePartsAt, valuePartAt};
+ghost use Rattle.normal.specs.Parts.{existsPartAt, mergedAt, partsAt, successorsAt, valuePartAt};
 ghost use Rattle.normal.specs.Built.{Built};
 ghost use Rattle.normal.specs.Grown.{Entered, Grown, Left, Room, broken, «given-up»};
 
@@ -141,14 +140,13 @@ fn leave(out: &mut [u8], branch: Branch, edge: Edge, label: Label, below: Branch
     }
 }
 
-// One successor more: the merged row of the flagged rows and row c, with what hangs from it down to a depth.
+// One successor more: the merged row of a set with row c, with what hangs from it down to a depth.
 fn graft(
     s: &[u8],
     rows: usize,
     limit: usize,
-    lows: &[u8; MAX_ROWS],
-    highs: &[u8; MAX_ROWS],
-    flags: &[u8; MAX_ROWS],
+    links: &[u8; LINKS],
+    masks: &[u64; MASKS],
     values: Values,
     c: usize,
     depth: usize,
@@ -156,8 +154,8 @@ fn graft(
     branch: Branch,
     edge: Edge,
 ) -> Branch
-    requires { ⌜ (Surveyed (now s) rows (now lows) (now highs)) × ((Valued (now s) rows (now flags) values) × ((c < rows) × ((Room limit branch (now out)) × (codeAt (branch .table .rows) (kindAt (edge .kind)) ≡ edge .kind)))) ⌝ }
-    ensures { λ r. ⌜ Grown limit (edge .parent) branch (now (out .entry)) (cons (kindAt (edge .kind)) (edge .role) (mergedAt (now (s .entry)) rows depth (now (flags .entry)) c) nil) r (now (out .exit)) ⌝ }
+    requires { ⌜ (Surveyed (now s) rows (now links) (now masks)) × ((Known (now s) rows (values .kids)) × ((c < rows) × ((Room limit branch (now out)) × (codeAt (branch .table .rows) (kindAt (edge .kind)) ≡ edge .kind)))) ⌝ }
+    ensures { λ r. ⌜ ((q : ℕ → Bool) → Valued (now (s .entry)) rows q values → Grown limit (edge .parent) branch (now (out .entry)) (cons (kindAt (edge .kind)) (edge .role) (mergedAt (now (s .entry)) rows depth (also c q)) nil) r (now (out .exit))) ⌝ }
 {
     let start = branch.table;
     if limit <= branch.merged {
@@ -167,18 +165,16 @@ fn graft(
             bottom: branch.bottom,
         };
     }
-    let shared = values.label;
-    let label = join(s, rows, shared, c);
-    let set = widen(lows, highs, c, values.from, values.to);
+    let whole = values.add(s, rows, links, c);
+    let label = whole.label;
     let entered = enter(out, branch, edge, label);
     let below = graft_roles(
         s,
         rows,
         limit,
-        lows,
-        highs,
-        flags,
-        set,
+        links,
+        masks,
+        whole.kids,
         depth,
         out,
         entered,
@@ -192,42 +188,41 @@ fn graft_roles(
     s: &[u8],
     rows: usize,
     limit: usize,
-    lows: &[u8; MAX_ROWS],
-    highs: &[u8; MAX_ROWS],
-    flags: &[u8; MAX_ROWS],
-    set: Set,
+    links: &[u8; LINKS],
+    masks: &[u64; MASKS],
+    kids: Kids,
     depth: usize,
     out: &mut [u8],
     branch: Branch,
     parent: usize,
 ) -> Branch
-    requires { ⌜ (Surveyed (now s) rows (now lows) (now highs)) × ((Spanned (now s) rows (now flags) set) × ((Room limit branch (now out)) × (0 < branch .table .rows))) ⌝ }
-    ensures { λ r. ⌜ Grown limit parent branch (now (out .entry)) (successorsOf pictureSignature (mergedAt (now (s .entry)) rows depth (now (flags .entry)) (set .c))) r (now (out .exit)) ⌝ }
+    requires { ⌜ (Surveyed (now s) rows (now links) (now masks)) × ((Known (now s) rows kids) × ((Room limit branch (now out)) × (0 < branch .table .rows))) ⌝ }
+    ensures { λ r. ⌜ Grown limit parent branch (now (out .entry)) (successorsAt (now (s .entry)) rows depth (holds (kids .set))) r (now (out .exit)) ⌝ }
 {
     if depth == 0 {
         return branch;
     }
     let mut grown = branch;
-    let mut role = next_role(s, rows, flags, set, 0);
-    while role < ROLES {
+    let mut role = next_bit(kids.roles, 0);
+    while role < 32 {
+        let set = kids.set;
         grown = graft_role(
             s,
             rows,
             limit,
-            lows,
-            highs,
-            flags,
+            links,
+            masks,
             set,
             depth - 1,
             out,
             grown,
             parent,
-            role,
+            role as u8,
         );
         if limit < grown.merged {
             return grown;
         }
-        role = next_role(s, rows, flags, set, role + 1);
+        role = next_bit(kids.roles, role + 1);
     }
     grown
 }
@@ -237,28 +232,27 @@ fn graft_role(
     s: &[u8],
     rows: usize,
     limit: usize,
-    lows: &[u8; MAX_ROWS],
-    highs: &[u8; MAX_ROWS],
-    flags: &[u8; MAX_ROWS],
-    set: Set,
+    links: &[u8; LINKS],
+    masks: &[u64; MASKS],
+    kids: RowSet,
     depth: usize,
     out: &mut [u8],
     branch: Branch,
     parent: usize,
     role: u8,
 ) -> Branch
-    requires { ⌜ (Surveyed (now s) rows (now lows) (now highs)) × ((Spanned (now s) rows (now flags) set) × ((Room limit branch (now out)) × (0 < branch .table .rows))) ⌝ }
-    ensures { λ r. ⌜ Grown limit parent branch (now (out .entry)) (rolePartsAt (now (s .entry)) rows depth (now (flags .entry)) (set .c) role) r (now (out .exit)) ⌝ }
+    requires { ⌜ (Surveyed (now s) rows (now links) (now masks)) × ((role < roles) × ((Room limit branch (now out)) × (0 < branch .table .rows))) ⌝ }
+    ensures { λ r. ⌜ Grown limit parent branch (now (out .entry)) (partsAt (now (s .entry)) rows depth role (ofRole (now (s .entry)) role (holds kids))) r (now (out .exit)) ⌝ }
 {
-    let mut found = [0u8; MAX_ROWS];
-    let values = flag_values(s, rows, lows, highs, flags, set, role, &mut found);
+    let set = kids.of_role(masks, role);
+    let values = gather(s, rows, links, set);
     let grown = graft_value(
         s,
         rows,
         limit,
-        lows,
-        highs,
-        &found,
+        links,
+        masks,
+        set,
         values,
         depth,
         out,
@@ -270,11 +264,9 @@ fn graft_role(
         s,
         rows,
         limit,
-        lows,
-        highs,
-        flags,
+        links,
+        masks,
         set,
-        &found,
         values,
         depth,
         out,
@@ -288,9 +280,9 @@ fn graft_value(
     s: &[u8],
     rows: usize,
     limit: usize,
-    lows: &[u8; MAX_ROWS],
-    highs: &[u8; MAX_ROWS],
-    found: &[u8; MAX_ROWS],
+    links: &[u8; LINKS],
+    masks: &[u64; MASKS],
+    set: RowSet,
     values: Values,
     depth: usize,
     out: &mut [u8],
@@ -298,8 +290,8 @@ fn graft_value(
     parent: usize,
     role: u8,
 ) -> Branch
-    requires { ⌜ (Surveyed (now s) rows (now lows) (now highs)) × ((Valued (now s) rows (now found) values) × ((Room limit branch (now out)) × (0 < branch .table .rows))) ⌝ }
-    ensures { λ r. ⌜ Grown limit parent branch (now (out .entry)) (valuePartAt (now (s .entry)) rows depth role (now (found .entry)) (values .first)) r (now (out .exit)) ⌝ }
+    requires { ⌜ (Surveyed (now s) rows (now links) (now masks)) × ((Valued (now s) rows (ofKind (now s) kindForAll (holds set)) values) × ((Room limit branch (now out)) × (0 < branch .table .rows))) ⌝ }
+    ensures { λ r. ⌜ Grown limit parent branch (now (out .entry)) (valuePartAt (now (s .entry)) rows depth role (ofKind (now (s .entry)) kindForAll (holds set)) (values .first)) r (now (out .exit)) ⌝ }
 {
     if rows <= values.first {
         return branch;
@@ -313,9 +305,8 @@ fn graft_value(
         s,
         rows,
         limit,
-        lows,
-        highs,
-        found,
+        links,
+        masks,
         values,
         values.first,
         depth,
@@ -329,11 +320,9 @@ fn graft_exists(
     s: &[u8],
     rows: usize,
     limit: usize,
-    lows: &[u8; MAX_ROWS],
-    highs: &[u8; MAX_ROWS],
-    flags: &[u8; MAX_ROWS],
-    set: Set,
-    found: &[u8; MAX_ROWS],
+    links: &[u8; LINKS],
+    masks: &[u64; MASKS],
+    set: RowSet,
     values: Values,
     depth: usize,
     out: &mut [u8],
@@ -341,8 +330,8 @@ fn graft_exists(
     parent: usize,
     role: u8,
 ) -> Branch
-    requires { ⌜ (Surveyed (now s) rows (now lows) (now highs)) × ((Spanned (now s) rows (now flags) set) × ((Valued (now s) rows (now found) values) × ((Room limit branch (now out)) × (0 < branch .table .rows)))) ⌝ }
-    ensures { λ r. ⌜ Grown limit parent branch (now (out .entry)) (existsPartAt (now (s .entry)) rows depth (now (flags .entry)) (set .c) role (now (found .entry)) rows) r (now (out .exit)) ⌝ }
+    requires { ⌜ (Surveyed (now s) rows (now links) (now masks)) × ((Valued (now s) rows (ofKind (now s) kindForAll (holds set)) values) × ((Room limit branch (now out)) × (0 < branch .table .rows))) ⌝ }
+    ensures { λ r. ⌜ Grown limit parent branch (now (out .entry)) (existsPartAt (now (s .entry)) rows depth role (holds set) (ofKind (now (s .entry)) kindForAll (holds set)) rows) r (now (out .exit)) ⌝ }
 {
     let edge = Edge {
         parent,
@@ -350,16 +339,15 @@ fn graft_exists(
         role,
     };
     let mut grown = branch;
-    let mut j = set.from;
-    while j < set.to {
-        if hangs_by(s, rows, flags, set.c, KIND_EXISTS, role, j) {
+    let mut j = set.next(0, rows);
+    while j < rows {
+        if kind(s, j) == KIND_EXISTS {
             grown = graft(
                 s,
                 rows,
                 limit,
-                lows,
-                highs,
-                found,
+                links,
+                masks,
                 values,
                 j,
                 depth,
@@ -371,7 +359,7 @@ fn graft_exists(
                 return grown;
             }
         }
-        j += 1;
+        j = set.next(j + 1, rows);
     }
     grown
 }
@@ -381,11 +369,10 @@ pub fn build(s: &[u8], rows: usize, limits: Limits, scratch: &mut [u8]) -> Branc
     requires { ⌜ (Checked (now s) rows) × ((Bounded limits) × («place» (limits .rows) 0 ≤ length (now scratch))) ⌝ }
     ensures { λ r. ⌜ Built limits (now (s .entry)) (now (scratch .entry)) r (now (scratch .exit)) ⌝ }
 {
-    let mut lows = [255u8; MAX_ROWS];
-    fill_lows(s, rows, &mut lows);
-    let mut highs = [0u8; MAX_ROWS];
-    fill_highs(s, rows, &mut highs);
-    let flags = [0u8; MAX_ROWS];
+    let mut links = [0u8; LINKS];
+    fill_links(s, rows, &mut links);
+    let mut masks = [0u64; MASKS];
+    fill_masks(s, rows, &mut masks);
     let branch = Branch {
         table: Builder::new(),
         merged: 0,
@@ -400,9 +387,8 @@ pub fn build(s: &[u8], rows: usize, limits: Limits, scratch: &mut [u8]) -> Branc
         s,
         rows,
         limits.rows,
-        &lows,
-        &highs,
-        &flags,
+        &links,
+        &masks,
         Values::none(rows),
         0,
         limits.depth,

@@ -1,159 +1,222 @@
-// Sets of file rows: the rows that a table of flags marks, and row c. What hangs from a set stands within its span.
+// Sets of file rows, and the file rows that hang from a set.
 use table::layout::MAX_ROWS;
 use table::layout::ROLES;
 use table::number::wide;
 use table::row::parent;
+use table::row::role;
 ghost use mathlib.Core.Path.{_≡_};
-ghost use mathlib.Core.Bool.{_&&_};
-ghost use Prim.Native.Nat.{ℕ, _+_, _≤_, _<_, max, min};
-ghost use lib.Dec.{leb, ltb};
+ghost use mathlib.Core.Bool.{Bool, _&&_, _||_, false, true};
+ghost use Prim.Native.Nat.{ℕ, _+_, _*_, _/_, _%_, _^_, _≤_, _<_};
+ghost use lib.Dec.{eqb};
 ghost use lib.ListN.{getD, length};
 ghost use Rattle.table.specs.Bounds.{maxRows};
 ghost use Rattle.table.specs.Fields.{roleOf};
 ghost use Rattle.table.specs.Layout.{roles};
-ghost use Rattle.table.specs.Pick.{pick};
-ghost use Rattle.normal.specs.Rows.{Blank, Checked, Highs, Lows, Spanned, Unused, hangsBy, hangsFrom, inSet};
+ghost use Rattle.table.specs.NameSet.{has};
+ghost use Rattle.normal.specs.Rows.{Checked, Hung, Linked, Masked, Next, Surveyed, Zeros, holds, wordOf};
 
-// The row of a set beside the flagged ones, and its span: what hangs from the set stands from `from` on and before `to`.
-pub struct Set {
-    pub c: usize,
-    pub from: usize,
-    pub to: usize,
+// A set of rows takes this many words.
+pub const WORDS: usize = 4;
+
+pub const WORD_ROWS: usize = MAX_ROWS / WORDS;
+
+pub const MASKS: usize = WORDS * 32;
+
+pub const LINKS: usize = 2 * MAX_ROWS;
+
+// Row j is bit j % WORD_ROWS of word j / WORD_ROWS.
+pub struct RowSet {
+    a: u64,
+    b: u64,
+    c: u64,
+    d: u64,
 }
 
-// The lowest row that hangs from each row.
-pub fn fill_lows(s: &[u8], rows: usize, lows: &mut [u8; MAX_ROWS])
-    requires { ⌜ (Checked (now s) rows) × (length (now lows) ≡ maxRows) ⌝ }
-    ensures { λ _. ⌜ Lows (now (s .entry)) rows (now (lows .exit)) ⌝ }
+// The rows that hang from a set, and their roles: role r is bit r.
+pub struct Kids {
+    pub set: RowSet,
+    pub roles: u64,
+}
+
+// The set of one bit.
+fn bit(i: usize) -> u64
+    requires { ⌜ i < 64 ⌝ }
+    ensures { λ r. ⌜ r ≡ 2 ^ i ⌝ }
+{
+    1u64 << i
+}
+
+// The lowest bit of a word from one on; past the word's end if there is none.
+pub fn next_bit(word: u64, from: usize) -> usize
+    requires { ⌜ from < 64 ⌝ }
+    ensures { λ r. ⌜ (from ≤ r) × (r ≤ from + 64) × ((k : ℕ) → from ≤ k → k < r → has word k ≡ false) × (r < 64 → has word r ≡ true) ⌝ }
+{
+    from + u64::trailing_zeros(word >> from) as usize
+}
+
+impl RowSet {
+    pub fn none() -> RowSet
+        ensures { λ r. ⌜ ((j : ℕ) → holds r j ≡ false) ⌝ }
+    {
+        RowSet {
+            a: 0,
+            b: 0,
+            c: 0,
+            d: 0,
+        }
+    }
+
+    fn word(self, i: usize) -> u64
+        ensures { λ r. ⌜ r ≡ wordOf self i ⌝ }
+    {
+        if i == 0 {
+            return self.a;
+        }
+        if i == 1 {
+            return self.b;
+        }
+        if i == 2 {
+            return self.c;
+        }
+        if i == 3 {
+            return self.d;
+        }
+        0
+    }
+
+    // With row j.
+    fn with(self, j: usize) -> RowSet
+        requires { ⌜ j < maxRows ⌝ }
+        ensures { λ r. ⌜ ((k : ℕ) → holds r k ≡ (eqb k j || holds self k)) ⌝ }
+    {
+        let new = bit(j % WORD_ROWS);
+        let i = j / WORD_ROWS;
+        if i == 0 {
+            return RowSet {
+                a: self.a | new,
+                b: self.b,
+                c: self.c,
+                d: self.d,
+            };
+        }
+        if i == 1 {
+            return RowSet {
+                a: self.a,
+                b: self.b | new,
+                c: self.c,
+                d: self.d,
+            };
+        }
+        if i == 2 {
+            return RowSet {
+                a: self.a,
+                b: self.b,
+                c: self.c | new,
+                d: self.d,
+            };
+        }
+        RowSet {
+            a: self.a,
+            b: self.b,
+            c: self.c,
+            d: self.d | new,
+        }
+    }
+
+    // Those of one role.
+    pub fn of_role(self, masks: &[u64; MASKS], role: u8) -> RowSet
+        requires { ⌜ role < roles ⌝ }
+        ensures { λ r. ⌜ ((j : ℕ) → j < maxRows → holds r j ≡ (holds self j && has (getD (now (masks .entry)) (4 * role + j / 64) 0) (j % 64))) ⌝ }
+    {
+        let at = WORDS * (wide(role) as usize);
+        RowSet {
+            a: self.a & masks[at],
+            b: self.b & masks[at + 1],
+            c: self.c & masks[at + 2],
+            d: self.d & masks[at + 3],
+        }
+    }
+
+    // The lowest row of the set from one on; none below `rows` if there is none.
+    pub fn next(self, from: usize, rows: usize) -> usize
+        requires { ⌜ rows ≤ maxRows ⌝ }
+        ensures { λ r. ⌜ Next self from rows r ⌝ }
+    {
+        let mut at = from;
+        while at < rows {
+            let word = self.word(at / WORD_ROWS);
+            let i = next_bit(word, at % WORD_ROWS);
+            if i < WORD_ROWS {
+                return at / WORD_ROWS * WORD_ROWS + i;
+            }
+            at = at / WORD_ROWS * WORD_ROWS + WORD_ROWS;
+        }
+        at
+    }
+}
+
+impl Kids {
+    pub fn none() -> Kids
+        ensures { λ r. ⌜ ((j : ℕ) → holds (r .set) j ≡ false) ⌝ }
+    {
+        Kids {
+            set: RowSet::none(),
+            roles: 0,
+        }
+    }
+
+    // With row j.
+    fn with(self, s: &[u8], rows: usize, j: usize) -> Kids
+        requires { ⌜ (Checked (now s) rows) × (j < rows) ⌝ }
+        ensures { λ r. ⌜ ((k : ℕ) → holds (r .set) k ≡ (eqb k j || holds (self .set) k)) × ((i : ℕ) → has (r .roles) i ≡ (eqb i (roleOf (now (s .entry)) j) || has (self .roles) i)) ⌝ }
+    {
+        let set = self.set;
+        let new = bit(wide(role(s, j)) as usize);
+        Kids {
+            set: set.with(j),
+            roles: self.roles | new,
+        }
+    }
+
+    // With those that hang from row c.
+    pub fn add(self, s: &[u8], rows: usize, links: &[u8; LINKS], c: usize) -> Kids
+        requires { ⌜ (Checked (now s) rows) × ((Linked (now s) rows (now links)) × (c < rows)) ⌝ }
+        ensures { λ r. ⌜ Hung (now (s .entry)) rows c self r ⌝ }
+    {
+        let mut kids = self;
+        let mut j = wide(links[c]) as usize;
+        while j != 0 {
+            kids = kids.with(s, rows, j);
+            j = wide(links[MAX_ROWS + j]) as usize;
+        }
+        kids
+    }
+}
+
+// For each row the lowest row that hangs from it, and then for each row the next that hangs from the same one; 0 if there is none.
+pub fn fill_links(s: &[u8], rows: usize, links: &mut [u8; LINKS])
+    requires { ⌜ (Checked (now s) rows) × (Zeros (maxRows + maxRows) (now links)) ⌝ }
+    ensures { λ _. ⌜ Linked (now (s .entry)) rows (now (links .exit)) ⌝ }
 {
     let mut j = rows;
     while 1 < j {
         j -= 1;
         let above = parent(s, j);
-        lows[above] = j as u8;
+        links[MAX_ROWS + j] = links[above];
+        links[above] = j as u8;
     }
 }
 
-// The highest row that hangs from each row.
-pub fn fill_highs(s: &[u8], rows: usize, highs: &mut [u8; MAX_ROWS])
-    requires { ⌜ (Checked (now s) rows) × (Blank (now highs)) ⌝ }
-    ensures { λ _. ⌜ Highs (now (s .entry)) rows (now (highs .exit)) ⌝ }
+// For each role the rows of that role.
+pub fn fill_masks(s: &[u8], rows: usize, masks: &mut [u64; MASKS])
+    requires { ⌜ (Checked (now s) rows) × (Zeros 128 (now masks)) ⌝ }
+    ensures { λ _. ⌜ Masked (now (s .entry)) rows (now (masks .exit)) ⌝ }
 {
-    let mut j = 1;
+    let mut j = 0;
     while j < rows {
-        let above = parent(s, j);
-        highs[above] = j as u8;
+        let at = WORDS * (wide(role(s, j)) as usize) + j / WORD_ROWS;
+        let new = bit(j % WORD_ROWS);
+        masks[at] = masks[at] | new;
         j += 1;
     }
-}
-
-// A span with that of row c.
-pub fn widen(lows: &[u8; MAX_ROWS], highs: &[u8; MAX_ROWS], c: usize, from: usize, to: usize) -> Set
-    requires { ⌜ c < maxRows ⌝ }
-    ensures { λ r. ⌜ (r .c ≡ c) × (r .from ≡ min (getD (now (lows .entry)) c 0) from) × (r .to ≡ max (getD (now (highs .entry)) c 0 + 1) to) ⌝ }
-{
-    let low = wide(lows[c]) as usize;
-    let high = wide(highs[c]) as usize + 1;
-    Set {
-        c,
-        from: lesser(low, from),
-        to: greater(high, to),
-    }
-}
-
-fn lesser(a: usize, b: usize) -> usize
-    ensures { λ r. ⌜ r ≡ min a b ⌝ }
-{
-    if a < b { a } else { b }
-}
-
-fn greater(a: usize, b: usize) -> usize
-    ensures { λ r. ⌜ r ≡ max a b ⌝ }
-{
-    if a < b { b } else { a }
-}
-
-// Whether a row is in the set.
-fn holds(flags: &[u8; MAX_ROWS], c: usize, row: usize) -> bool
-    requires { ⌜ row < maxRows ⌝ }
-    ensures { λ r. ⌜ r ≡ inSet (now (flags .entry)) c row ⌝ }
-{
-    if row == c {
-        return true;
-    }
-    flags[row] == 1
-}
-
-// Whether row j hangs from a row of the set. Row 0 hangs from none.
-fn hangs(s: &[u8], rows: usize, flags: &[u8; MAX_ROWS], c: usize, j: usize) -> bool
-    requires { ⌜ (Checked (now s) rows) × (j < rows) ⌝ }
-    ensures { λ r. ⌜ r ≡ hangsFrom (now (s .entry)) (now (flags .entry)) c j ⌝ }
-{
-    if j == 0 {
-        return false;
-    }
-    holds(flags, c, parent(s, j))
-}
-
-// The same, by an edge of a kind and role.
-pub fn hangs_by(
-    s: &[u8],
-    rows: usize,
-    flags: &[u8; MAX_ROWS],
-    c: usize,
-    kind: u8,
-    role: u8,
-    j: usize,
-) -> bool
-    requires { ⌜ (Checked (now s) rows) × (j < rows) ⌝ }
-    ensures { λ r. ⌜ r ≡ hangsBy (now (s .entry)) (now (flags .entry)) c kind role j ⌝ }
-{
-    if table::row::role(s, j) != role {
-        return false;
-    }
-    if table::row::kind(s, j) != kind {
-        return false;
-    }
-    hangs(s, rows, flags, c, j)
-}
-
-// The lower of a role and that of row j, if the row hangs from the set by a role from `least` on.
-fn lower(
-    s: &[u8],
-    rows: usize,
-    flags: &[u8; MAX_ROWS],
-    c: usize,
-    least: u8,
-    best: u8,
-    j: usize,
-) -> u8
-    requires { ⌜ (Checked (now s) rows) × (j < rows) ⌝ }
-    ensures { λ r. ⌜ r ≡ pick (ltb (roleOf (now (s .entry)) j) best && (leb least (roleOf (now (s .entry)) j) && hangsFrom (now (s .entry)) (now (flags .entry)) c j)) (roleOf (now (s .entry)) j) best ⌝ }
-{
-    let role = table::row::role(s, j);
-    if best <= role {
-        return best;
-    }
-    if role < least {
-        return best;
-    }
-    if hangs(s, rows, flags, c, j) {
-        role
-    } else {
-        best
-    }
-}
-
-// The lowest role from `least` on by which a row hangs from the set; the number of roles if there is none.
-pub fn next_role(s: &[u8], rows: usize, flags: &[u8; MAX_ROWS], set: Set, least: u8) -> u8
-    requires { ⌜ (Checked (now s) rows) × ((Spanned (now s) rows (now flags) set) × (least ≤ roles)) ⌝ }
-    ensures { λ r. ⌜ (least ≤ r) × (r ≤ roles) × (Unused (now (s .entry)) rows (now (flags .entry)) (set .c) least r) ⌝ }
-{
-    let mut best = ROLES;
-    let mut j = set.from;
-    while j < set.to {
-        best = lower(s, rows, flags, set.c, least, best, j);
-        j += 1;
-    }
-    best
 }

@@ -1,85 +1,66 @@
-// The all-successors of a set by a role (A of paper 01), flagged, with what the rows that stand for them need: their label and their span.
+// What the merged row of a set needs of it: the label, and the file rows that hang from it.
 use crate::label::Label;
 use crate::label::join;
-use crate::rows::Set;
-use crate::rows::hangs_by;
-use crate::rows::widen;
+use crate::rows::Kids;
+use crate::rows::LINKS;
+use crate::rows::RowSet;
 use table::layout::KIND_FOR_ALL;
-use table::layout::MAX_ROWS;
+use table::row::kind;
 ghost use mathlib.Core.Path.{_≡_};
-ghost use Prim.Native.Nat.{ℕ, _≤_, _<_};
-ghost use lib.ListN.{getD};
+ghost use mathlib.Core.Bool.{false};
+ghost use Prim.Native.Nat.{ℕ, _<_};
 ghost use Rattle.table.specs.Layout.{kindForAll};
 ghost use Rattle.ale.specs.PictureSignature.{pictureSignature};
 ghost use Rattle.ale.specs.Tree.{emptyLabel};
-ghost use Rattle.normal.specs.Rows.{Blank, Checked, Flagged, Highs, Lows, Spanned, hangsBy};
+ghost use Rattle.normal.specs.Rows.{Checked, Found, Linked, holds, ofKind};
 ghost use Rattle.normal.specs.Labels.{Added, LabelIs, Valued};
 
+// `first` is a row of the set; the number of rows if there is none.
 pub struct Values {
     pub label: Label,
+    pub kids: Kids,
     pub first: usize,
-    pub from: usize,
-    pub to: usize,
 }
 
 impl Values {
     // Of no rows.
     pub fn none(rows: usize) -> Values
-        ensures { λ r. ⌜ (LabelIs (r .label) (emptyLabel pictureSignature)) × ((r .first ≡ rows) × ((r .from ≡ rows) × (r .to ≡ 0))) ⌝ }
+        ensures { λ r. ⌜ (LabelIs (r .label) (emptyLabel pictureSignature)) × ((r .first ≡ rows) × ((j : ℕ) → holds (r .kids .set) j ≡ false)) ⌝ }
     {
         Values {
             label: Label::empty(),
+            kids: Kids::none(),
             first: rows,
-            from: rows,
-            to: 0,
         }
     }
 
-    // With row j, which is lower than the others.
-    fn add(
-        self,
-        s: &[u8],
-        rows: usize,
-        lows: &[u8; MAX_ROWS],
-        highs: &[u8; MAX_ROWS],
-        j: usize,
-    ) -> Values
-        requires { ⌜ (Checked (now s) rows) × (j < rows) ⌝ }
-        ensures { λ r. ⌜ Added (now (s .entry)) (now (lows .entry)) (now (highs .entry)) j self r ⌝ }
+    // With row j.
+    pub fn add(self, s: &[u8], rows: usize, links: &[u8; LINKS], j: usize) -> Values
+        requires { ⌜ (Checked (now s) rows) × ((Linked (now s) rows (now links)) × (j < rows)) ⌝ }
+        ensures { λ r. ⌜ Added (now (s .entry)) rows j self r ⌝ }
     {
         let label = self.label;
-        let joined = join(s, rows, label, j);
-        let span = widen(lows, highs, j, self.from, self.to);
+        let kids = self.kids;
         Values {
-            label: joined,
+            label: join(s, rows, label, j),
+            kids: kids.add(s, rows, links, j),
             first: j,
-            from: span.from,
-            to: span.to,
         }
     }
 }
 
-pub fn flag_values(
-    s: &[u8],
-    rows: usize,
-    lows: &[u8; MAX_ROWS],
-    highs: &[u8; MAX_ROWS],
-    flags: &[u8; MAX_ROWS],
-    set: Set,
-    role: u8,
-    found: &mut [u8; MAX_ROWS],
-) -> Values
-    requires { ⌜ (Checked (now s) rows) × ((Lows (now s) rows (now lows)) × ((Highs (now s) rows (now highs)) × ((Spanned (now s) rows (now flags) set) × (Blank (now found))))) ⌝ }
-    ensures { λ r. ⌜ (Flagged (hangsBy (now (s .entry)) (now (flags .entry)) (set .c) kindForAll role) rows (r .first) (now (found .exit))) × (Valued (now (s .entry)) rows (now (found .exit)) r) ⌝ }
+// Of the all-successors in a set (A of paper 01).
+pub fn gather(s: &[u8], rows: usize, links: &[u8; LINKS], set: RowSet) -> Values
+    requires { ⌜ (Checked (now s) rows) × (Linked (now s) rows (now links)) ⌝ }
+    ensures { λ r. ⌜ (Found (ofKind (now (s .entry)) kindForAll (holds set)) rows (r .first)) × (Valued (now (s .entry)) rows (ofKind (now (s .entry)) kindForAll (holds set)) r) ⌝ }
 {
     let mut values = Values::none(rows);
-    let mut j = set.to;
-    while set.from < j {
-        j -= 1;
-        if hangs_by(s, rows, flags, set.c, KIND_FOR_ALL, role, j) {
-            found[j] = 1;
-            values = values.add(s, rows, lows, highs, j);
+    let mut j = set.next(0, rows);
+    while j < rows {
+        if kind(s, j) == KIND_FOR_ALL {
+            values = values.add(s, rows, links, j);
         }
+        j = set.next(j + 1, rows);
     }
     values
 }

@@ -1,31 +1,26 @@
 -- Each function grows its own forest; the remaining depth falls where a row's successors are made.
-use mathlib.Core.Bool.{Bool, false, true}
-use mathlib.Core.List.{List, [], _∷_}
+use mathlib.Core.Bool.{Bool, true}
 use mathlib.Core.Logic.{⊎-elim}
 use mathlib.Core.Path.{_≡_, ap, refl, sym, _∙_}
 use native.Mathlib.Omega.{arith}
 use borrow.Author.Needs.{needs}
-use borrow.Author.Tests.{eq-eqb, ne-eqb, not-true, not-false, le-ltb, lt-ltb}
 use denote.Ref.{now}
-use lib.ListN.{length}
-use Rattle.table.specs.Bounds.{maxRows}
-use Rattle.table.specs.Layout.{roles}
+use Rattle.table.specs.Layout.{kindForAll, roles}
 use Rattle.ale.specs.Merged.{labelOfSet}
 use Rattle.ale.specs.PictureSignature.{pictureSignature}
-use Rattle.ale.specs.Tree.{cons, exists, forAll, nil, successorsOf}
+use Rattle.ale.specs.Rows.{filterBelow}
+use Rattle.ale.specs.Tree.{cons, exists, forAll, nil}
 use Rattle.meaning.specs.Meaning.{kindAt, pictureTable}
-use Rattle.normal.specs.Rows.{setRows}
-use Rattle.normal.specs.Grown.{Grown, Room}
-use Rattle.normal.specs.Parts.{existsPartAt, mergedAt, rolePartsAt, rolesAt, valuePartAt}
-use Rattle.normal.specs.declared.grow.Branch.{Branch}
+use Rattle.normal.specs.Rows.{also, hangs, holds, ofKind, ofRole}
+use Rattle.normal.specs.Grown.{Grown}
+use Rattle.normal.specs.Parts.{existsPartAt, rolesAt, successorsAt}
 use Rattle.normal.proofs.Growth.{entered-length, entered-room, grown-append, grown-full, grown-nil, grown-over, grown-room, grown-same, grown-some}
-use Rattle.normal.proofs.LabelLaws.{label-with}
+use Rattle.normal.proofs.LabelLaws.{known-with, valued-with}
+use Rattle.normal.proofs.Masks.{role-row}
 use Rattle.normal.proofs.Nodes.{grown-node}
-use Rattle.normal.proofs.PartLaws.{code-later, exists-more, exists-next, exists-none, exists-other, exists-rest, merged-leaf, merged-node, merged-roles, role-parts, roles-more, roles-next, roles-none, roles-skip, value-none, value-one}
-use Rattle.normal.proofs.Spans.{widened}
-use Rattle.normal.proofs.Stores.{blank}
-use Rattle.normal.proofs.Turns.{turn-end, turn-full, turn-no, turn-start, turn-yes}
-use Prim.Native.Nat.{ℕ, _*_, _+_, _-_, _<_, _≤_, min, suc}
+use Rattle.normal.proofs.PartLaws.{code-later, merged-node, parts-same, role-parts, roles-more, roles-none, successors-leaf, successors-roles, successors-same, unused-roles, value-none, value-one}
+use Rattle.normal.proofs.Turns.{role-on, role-turn, turn-end, turn-full, turn-no, turn-start, turn-yes}
+use Prim.Native.Nat.{ℕ, _*_, _+_, _-_, _<_, min}
 use borrow.Fn.Kinds.{In}
 use borrow.Fn.PlainCycle.{Measures, is, falls, and}
 use Rattle.normal.proofs.grow.graft.Reads as graft
@@ -45,11 +40,12 @@ use Rattle.normal.proofs.grow.graft_value.Kinds as graft-value-kinds
 use Rattle.normal.proofs.grow.+graft+graft_exists+graft_role+graft_roles+graft_value.Lts-graft_value as graft-value-lts
 use Rattle.normal.proofs.grow.enter.Reads as enter-reads
 use Rattle.normal.proofs.grow.leave.Reads as leave-reads
-use Rattle.normal.proofs.label.join.Reads as join-reads
-use Rattle.normal.proofs.rows.hangs_by.Reads as hangs-by-reads
-use Rattle.normal.proofs.rows.next_role.Reads as next-role-reads
-use Rattle.normal.proofs.rows.widen.Reads as widen-reads
-use Rattle.normal.proofs.values.flag_values.Reads as flag-values-reads
+use Rattle.normal.proofs.rows.RowSet.next.Reads as next-reads
+use Rattle.normal.proofs.rows.RowSet.of_role.Reads as of-role-reads
+use Rattle.normal.proofs.rows.next_bit.Reads as next-bit-reads
+use Rattle.normal.proofs.values.Values.add.Reads as add-reads
+use Rattle.normal.proofs.values.gather.Reads as gather-reads
+use Rattle.table.proofs.row.kind.Reads as kind-reads
 use Rattle.normal.proofs.grow.+graft+graft_exists+graft_role+graft_roles+graft_value.{
   statement,
 }
@@ -57,68 +53,66 @@ use Rattle.normal.proofs.grow.+graft+graft_exists+graft_role+graft_role
   close,
 }
 
-abbrev μ-graft : Measures 5 graft-kinds.ps ℕ
-μ-graft κs a = 4 * a .1 .1 .1 .1 .1 .1 .1 .1 .0 + 1
+abbrev μ-graft : Measures 4 graft-kinds.ps ℕ
+μ-graft κs a = 4 * a .1 .1 .1 .1 .1 .1 .1 .0 + 1
 
-abbrev μ-graft-exists : Measures 6 graft-exists-kinds.ps ℕ
-μ-graft-exists κs a = 4 * a .1 .1 .1 .1 .1 .1 .1 .1 .1 .0 + 2
+abbrev μ-graft-exists : Measures 4 graft-exists-kinds.ps ℕ
+μ-graft-exists κs a = 4 * a .1 .1 .1 .1 .1 .1 .1 .0 + 2
 
-abbrev μ-graft-role : Measures 5 graft-role-kinds.ps ℕ
-μ-graft-role κs a = 4 * a .1 .1 .1 .1 .1 .1 .1 .0 + 3
+abbrev μ-graft-role : Measures 4 graft-role-kinds.ps ℕ
+μ-graft-role κs a = 4 * a .1 .1 .1 .1 .1 .1 .0 + 3
 
-abbrev μ-graft-roles : Measures 5 graft-roles-kinds.ps ℕ
-μ-graft-roles κs a = 4 * a .1 .1 .1 .1 .1 .1 .1 .0
+abbrev μ-graft-roles : Measures 4 graft-roles-kinds.ps ℕ
+μ-graft-roles κs a = 4 * a .1 .1 .1 .1 .1 .1 .0
 
-abbrev μ-graft-value : Measures 5 graft-value-kinds.ps ℕ
+abbrev μ-graft-value : Measures 4 graft-value-kinds.ps ℕ
 μ-graft-value κs a = 4 * a .1 .1 .1 .1 .1 .1 .1 .0 + 2
 
-abbrev graft-at : ℕ → In 5 graft-kinds.ps
-graft-at t = and 5 graft-kinds.ps (is 5 graft-kinds.ps μ-graft t) graft.Pre
+abbrev graft-at : ℕ → In 4 graft-kinds.ps
+graft-at t = and 4 graft-kinds.ps (is 4 graft-kinds.ps μ-graft t) graft.Pre
 
-abbrev graft-below : ℕ → In 5 graft-kinds.ps
-graft-below t = and 5 graft-kinds.ps (falls 5 graft-kinds.ps _<_ μ-graft t) graft.Pre
+abbrev graft-below : ℕ → In 4 graft-kinds.ps
+graft-below t = and 4 graft-kinds.ps (falls 4 graft-kinds.ps _<_ μ-graft t) graft.Pre
 
-abbrev graft-exists-at : ℕ → In 6 graft-exists-kinds.ps
+abbrev graft-exists-at : ℕ → In 4 graft-exists-kinds.ps
 graft-exists-at t =
-    and 6 graft-exists-kinds.ps (is 6 graft-exists-kinds.ps μ-graft-exists t) graft-exists.Pre
+    and 4 graft-exists-kinds.ps (is 4 graft-exists-kinds.ps μ-graft-exists t) graft-exists.Pre
 
-abbrev graft-exists-below : ℕ → In 6 graft-exists-kinds.ps
+abbrev graft-exists-below : ℕ → In 4 graft-exists-kinds.ps
 graft-exists-below t =
     and
-    6
+    4
     graft-exists-kinds.ps
-    (falls 6 graft-exists-kinds.ps _<_ μ-graft-exists t)
+    (falls 4 graft-exists-kinds.ps _<_ μ-graft-exists t)
     graft-exists.Pre
 
-abbrev graft-role-at : ℕ → In 5 graft-role-kinds.ps
+abbrev graft-role-at : ℕ → In 4 graft-role-kinds.ps
 graft-role-at t =
-    and 5 graft-role-kinds.ps (is 5 graft-role-kinds.ps μ-graft-role t) graft-role.Pre
+    and 4 graft-role-kinds.ps (is 4 graft-role-kinds.ps μ-graft-role t) graft-role.Pre
 
-abbrev graft-role-below : ℕ → In 5 graft-role-kinds.ps
+abbrev graft-role-below : ℕ → In 4 graft-role-kinds.ps
 graft-role-below t =
-    and 5 graft-role-kinds.ps (falls 5 graft-role-kinds.ps _<_ μ-graft-role t) graft-role.Pre
+    and 4 graft-role-kinds.ps (falls 4 graft-role-kinds.ps _<_ μ-graft-role t) graft-role.Pre
 
-abbrev graft-roles-at : ℕ → In 5 graft-roles-kinds.ps
+abbrev graft-roles-at : ℕ → In 4 graft-roles-kinds.ps
 graft-roles-at t =
-    and 5 graft-roles-kinds.ps (is 5 graft-roles-kinds.ps μ-graft-roles t) graft-roles.Pre
+    and 4 graft-roles-kinds.ps (is 4 graft-roles-kinds.ps μ-graft-roles t) graft-roles.Pre
 
-abbrev graft-roles-below : ℕ → In 5 graft-roles-kinds.ps
+abbrev graft-roles-below : ℕ → In 4 graft-roles-kinds.ps
 graft-roles-below t =
-    and 5 graft-roles-kinds.ps (falls 5 graft-roles-kinds.ps _<_ μ-graft-roles t) graft-roles.Pre
+    and 4 graft-roles-kinds.ps (falls 4 graft-roles-kinds.ps _<_ μ-graft-roles t) graft-roles.Pre
 
-abbrev graft-value-at : ℕ → In 5 graft-value-kinds.ps
+abbrev graft-value-at : ℕ → In 4 graft-value-kinds.ps
 graft-value-at t =
-    and 5 graft-value-kinds.ps (is 5 graft-value-kinds.ps μ-graft-value t) graft-value.Pre
+    and 4 graft-value-kinds.ps (is 4 graft-value-kinds.ps μ-graft-value t) graft-value.Pre
 
-abbrev graft-value-below : ℕ → In 5 graft-value-kinds.ps
+abbrev graft-value-below : ℕ → In 4 graft-value-kinds.ps
 graft-value-below t =
-    and 5 graft-value-kinds.ps (falls 5 graft-value-kinds.ps _<_ μ-graft-value t) graft-value.Pre
+    and 4 graft-value-kinds.ps (falls 4 graft-value-kinds.ps _<_ μ-graft-value t) graft-value.Pre
 
-graft-add-t20 : (t : ℕ) → graft-lts.Need-add-t20 (
-  join-reads.Asked,
-  join-reads.Learnt,
-  widen-reads.Asked,
-  widen-reads.Learnt,
+graft-add-t18 : (t : ℕ) → graft-lts.Need-add-t18 (
+  add-reads.Asked,
+  add-reads.Learnt,
   enter-reads.Asked,
   enter-reads.Learnt,
   graft-roles-below t,
@@ -126,17 +120,15 @@ graft-add-t20 : (t : ℕ) → graft-lts.Need-add-t20 (
   leave-reads.Asked,
   leave-reads.Learnt,
 ) (graft-at t) graft.Post
-graft-add-t20 t c =
+graft-add-t18 t c =
     let st = c .before .before .before .before .before in
     let a = st .args in
     let pre = st .pre .1 in
     omega (arith, pre .1 .1 .1 .0 .limit-most)
 
 graft-returns : (t : ℕ) → graft-lts.Need-returns (
-  join-reads.Asked,
-  join-reads.Learnt,
-  widen-reads.Asked,
-  widen-reads.Learnt,
+  add-reads.Asked,
+  add-reads.Learnt,
   enter-reads.Asked,
   enter-reads.Learnt,
   graft-roles-below t,
@@ -148,13 +140,11 @@ graft-returns t c =
     let st = c .before .before .before .before .before in
     let a = st .args in
     let pre = st .pre .1 in
-    grown-over (a .limit) (a .edge .parent) (a .branch) _ (now (a .out)) _ (a .edge .role) _ (pre .1 .1 .1 .0) (c .if1 .taken) refl refl
+    λ q v. grown-over (a .limit) (a .edge .parent) (a .branch) _ (now (a .out)) _ (a .edge .role) _ (pre .1 .1 .1 .0) (c .if1 .taken) refl refl
 
-graft-join-requires : (t : ℕ) → graft-lts.Need-join-requires (
-  join-reads.Asked,
-  join-reads.Learnt,
-  widen-reads.Asked,
-  widen-reads.Learnt,
+graft-add-requires : (t : ℕ) → graft-lts.Need-add-requires (
+  add-reads.Asked,
+  add-reads.Learnt,
   enter-reads.Asked,
   enter-reads.Learnt,
   graft-roles-below t,
@@ -162,35 +152,15 @@ graft-join-requires : (t : ℕ) → graft-lts.Need-join-requires (
   leave-reads.Asked,
   leave-reads.Learnt,
 ) (graft-at t) graft.Post
-graft-join-requires t c κs =
-    let st = c .before .before .before .before .before .before in
+graft-add-requires t c κs =
+    let st = c .before .before .before .before .before in
     let a = st .args in
     let pre = st .pre .1 in
-    (pre .0 .checked, pre .1 .1 .0)
-
-graft-widen-requires : (t : ℕ) → graft-lts.Need-widen-requires (
-  join-reads.Asked,
-  join-reads.Learnt,
-  widen-reads.Asked,
-  widen-reads.Learnt,
-  enter-reads.Asked,
-  enter-reads.Learnt,
-  graft-roles-below t,
-  graft-roles.Post,
-  leave-reads.Asked,
-  leave-reads.Learnt,
-) (graft-at t) graft.Post
-graft-widen-requires t c κs =
-    let st = c .before .before .before .before .before .before .before in
-    let a = st .args in
-    let pre = st .pre .1 in
-    omega (arith, pre .1 .1 .0, pre .0 .checked .most)
+    (pre .0 .checked, (pre .0 .linked, pre .1 .1 .0))
 
 graft-enter-requires : (t : ℕ) → graft-lts.Need-enter-requires (
-  join-reads.Asked,
-  join-reads.Learnt,
-  widen-reads.Asked,
-  widen-reads.Learnt,
+  add-reads.Asked,
+  add-reads.Learnt,
   enter-reads.Asked,
   enter-reads.Learnt,
   graft-roles-below t,
@@ -199,18 +169,16 @@ graft-enter-requires : (t : ℕ) → graft-lts.Need-enter-requires (
   leave-reads.Learnt,
 ) (graft-at t) graft.Post
 graft-enter-requires t c κs =
-    let st = c .before .before .before .before .before .before .before .before .before in
+    let st = c .before .before .before .before .before .before .before .before in
     let a = st .args in
     let pre = st .pre .1 in
     let room = pre .1 .1 .1 .0 in
-    let fits : a .branch .merged < a .limit = omega (arith, c .before .before .before .before .if1 .left) in
+    let fits : a .branch .merged < a .limit = omega (arith, c .before .before .before .if1 .left) in
     (omega (arith, room .fewer, room .limit-most), omega (arith, room .fewer, room .space), omega (arith, room .limit-most))
 
 graft-graft-roles-requires : (t : ℕ) → graft-lts.Need-graft-roles-requires (
-  join-reads.Asked,
-  join-reads.Learnt,
-  widen-reads.Asked,
-  widen-reads.Learnt,
+  add-reads.Asked,
+  add-reads.Learnt,
   enter-reads.Asked,
   enter-reads.Learnt,
   graft-roles-below t,
@@ -219,18 +187,18 @@ graft-graft-roles-requires : (t : ℕ) → graft-lts.Need-graft-roles-requires (
   leave-reads.Learnt,
 ) (graft-at t) graft.Post
 graft-graft-roles-requires t c κs =
-    let st = c .before .before .before .before .before .before .before .before .before .before .before .before .before in
+    let st = c .before .before .before .before .before .before .before .before .before .before .before .before in
     let a = st .args in
     let pre = st .pre .1 in
     let room = pre .1 .1 .1 .0 in
-    let fits : a .branch .merged < a .limit = omega (arith, c .before .before .before .before .before .before .before .before .if1 .left) in
-    let w = c .before .before .before .before .before .widen in
+    let fits : a .branch .merged < a .limit = omega (arith, c .before .before .before .before .before .before .before .if1 .left) in
+    let ad = c .before .before .before .before .before .before .add in
     let en = c .before .before .before .enter in (
       omega (arith, st .pre .0),
       (
         pre .0,
         (
-          widened (now (a .s)) (a .rows) (now (a .flags)) (now (a .lows)) (now (a .highs)) (a .values) (a .c) (w .result) (pre .0 .lowest) (pre .0 .highest) (pre .1 .0) (w .ensures .0) (w .ensures .1) (w .ensures .2),
+          known-with (now (a .s)) (a .rows) (a .c) (a .values .kids) (ad .result .kids) (pre .1 .0) (ad .ensures .kids-join),
           (
             entered-room (a .limit) (a .branch) (now (a .out)) (a .edge) _ (en .result) (en .last .0) room fits (en .ensures),
             omega (arith, en .ensures .one-more),
@@ -240,10 +208,8 @@ graft-graft-roles-requires t c κs =
     )
 
 graft-leave-requires : (t : ℕ) → graft-lts.Need-leave-requires (
-  join-reads.Asked,
-  join-reads.Learnt,
-  widen-reads.Asked,
-  widen-reads.Learnt,
+  add-reads.Asked,
+  add-reads.Learnt,
   enter-reads.Asked,
   enter-reads.Learnt,
   graft-roles-below t,
@@ -252,20 +218,18 @@ graft-leave-requires : (t : ℕ) → graft-lts.Need-leave-requires (
   leave-reads.Learnt,
 ) (graft-at t) graft.Post
 graft-leave-requires t c κs =
-    let st = c .before .before .before .before .before .before .before .before .before .before .before .before .before .before .before .before .before in
+    let st = c .before .before .before .before .before .before .before .before .before .before .before .before .before .before .before .before in
     let a = st .args in
     let pre = st .pre .1 in
     let room = pre .1 .1 .1 .0 in
-    let fits : a .branch .merged < a .limit = omega (arith, c .before .before .before .before .before .before .before .before .before .before .before .before .if1 .left) in
+    let fits : a .branch .merged < a .limit = omega (arith, c .before .before .before .before .before .before .before .before .before .before .before .if1 .left) in
     let en = c .before .before .before .before .before .before .before .enter in
     let gr = c .before .before .before .graft-roles in
     (omega (arith, room .fewer, room .limit-most), omega (arith, room .fewer, room .space, gr .ensures .same, entered-length (a .limit) (a .branch) (now (a .out)) (a .edge) _ (en .result) (en .last .0) room fits (en .ensures)))
 
 graft-same-length : (t : ℕ) → graft-lts.Need-same-length (
-  join-reads.Asked,
-  join-reads.Learnt,
-  widen-reads.Asked,
-  widen-reads.Learnt,
+  add-reads.Asked,
+  add-reads.Learnt,
   enter-reads.Asked,
   enter-reads.Learnt,
   graft-roles-below t,
@@ -276,10 +240,8 @@ graft-same-length : (t : ℕ) → graft-lts.Need-same-length (
 graft-same-length t c = search needs
 
 graft-returns-2 : (t : ℕ) → graft-lts.Need-returns-2 (
-  join-reads.Asked,
-  join-reads.Learnt,
-  widen-reads.Asked,
-  widen-reads.Learnt,
+  add-reads.Asked,
+  add-reads.Learnt,
   enter-reads.Asked,
   enter-reads.Learnt,
   graft-roles-below t,
@@ -288,55 +250,77 @@ graft-returns-2 : (t : ℕ) → graft-lts.Need-returns-2 (
   leave-reads.Learnt,
 ) (graft-at t) graft.Post
 graft-returns-2 t c =
-    let st = c .before .before .before .before .before .before .before .before .before .before .before .before .before .before .before .before .before .before .before .before in
+    let st = c .before .before .before .before .before .before .before .before .before .before .before .before .before .before .before .before .before .before .before in
     let a = st .args in
     let pre = st .pre .1 in
     let room = pre .1 .1 .1 .0 in
-    let fits : a .branch .merged < a .limit = omega (arith, c .before .before .before .before .before .before .before .before .before .before .before .before .before .before .before .if1 .left) in
-    let w = c .before .before .before .before .before .before .before .before .before .before .before .before .widen in
-    let jn = c .before .before .before .before .before .before .before .before .before .before .before .before .before .join in
+    let fits : a .branch .merged < a .limit = omega (arith, c .before .before .before .before .before .before .before .before .before .before .before .before .before .before .if1 .left) in
+    let ad = c .before .before .before .before .before .before .before .before .before .before .before .before .before .add in
     let en = c .before .before .before .before .before .before .before .before .before .before .enter in
     let gr = c .before .before .before .before .before .before .graft-roles in
     let le = c .before .before .leave in
-    let f = successorsOf pictureSignature (mergedAt (now (a .s)) (a .rows) (a .depth) (now (a .flags)) (a .c)) in
-    let l = labelOfSet pictureSignature (pictureTable (now (a .s))) (setRows (a .rows) (now (a .flags)) (a .c)) in
-    grown-same (a .limit) (a .edge .parent) (a .branch) (le .result) (now (a .out)) (le .last .0) _ _ (ap (λ t. cons (kindAt (a .edge .kind)) (a .edge .role) t nil) (sym (merged-node (now (a .s)) (a .rows) (now (a .flags)) (a .c) (a .depth))))
-    (grown-node (a .limit) (a .branch) (now (a .out)) (a .edge) (jn .result) l (label-with (now (a .s)) (a .rows) (now (a .flags)) (a .values) (a .c) (jn .result) (pre .1 .1 .0) (pre .1 .0) (jn .ensures)) (pre .1 .1 .1 .1) room fits f (en .result) (gr .result) (le .result) (en .last .0) (gr .last .1 .1 .1 .1 .1 .1 .1 .1 .0) (le .last .0) (en .ensures) (grown-same (a .limit) (a .branch .table .rows) (en .result) (gr .result) (en .last .0) (gr .last .1 .1 .1 .1 .1 .1 .1 .1 .0) _ _ (ap (λ (i : ℕ). successorsOf pictureSignature (mergedAt (now (a .s)) (a .rows) (a .depth) (now (a .flags)) i)) (w .ensures .0)) (gr .ensures)) (le .ensures))
+    λ q v.
+    let whole = valued-with (now (a .s)) (a .rows) q (a .values) (a .c) (ad .result) (pre .1 .1 .0) v (ad .ensures) in
+    let f = successorsAt (now (a .s)) (a .rows) (a .depth) (hangs (now (a .s)) (also (a .c) q)) in
+    let l = labelOfSet pictureSignature (pictureTable (now (a .s))) (filterBelow (also (a .c) q) (a .rows)) in
+    grown-same (a .limit) (a .edge .parent) (a .branch) (le .result) (now (a .out)) (le .last .0) _ _ (ap (λ t. cons (kindAt (a .edge .kind)) (a .edge .role) t nil) (sym (merged-node (now (a .s)) (a .rows) (pre .0 .checked) (also (a .c) q) (a .depth))))
+    (grown-node (a .limit) (a .branch) (now (a .out)) (a .edge) (ad .result .label) l (whole .label-is) (pre .1 .1 .1 .1) room fits f (en .result) (gr .result) (le .result) (en .last .0) (gr .last .1 .1 .1 .1 .1 .1 .1 .0) (le .last .0) (en .ensures) (grown-same (a .limit) (a .branch .table .rows) (en .result) (gr .result) (en .last .0) (gr .last .1 .1 .1 .1 .1 .1 .1 .0) _ _ (successors-same (now (a .s)) (a .rows) (holds (ad .result .kids .set)) (hangs (now (a .s)) (also (a .c) q)) (whole .kids-are) (a .depth)) (gr .ensures)) (le .ensures))
 
 abbrev graft-exists-Inv-loop : graft-exists-lts.InvT-loop
-graft-exists-Inv-loop s rows limit lows highs flags set found values depth out₀ parent role edge grown₀ j₀ out grown j =
-    Grown limit parent grown₀ out₀ (existsPartAt s rows depth flags (set .c) role found (min j rows)) grown out
+graft-exists-Inv-loop s rows limit links masks set values depth out₀ parent role edge grown₀ j₀ out grown j =
+    (Grown limit parent grown₀ out₀ (existsPartAt s rows depth role (holds set) (ofKind s kindForAll (holds set)) (min j rows)) grown out) × (j < rows → holds set j ≡ true)
 
 abbrev graft-exists-μ-loop : graft-exists-lts.MeasureT-loop
-graft-exists-μ-loop s rows limit lows highs flags set found values depth out₀ parent role edge grown₀ j₀ out grown j = rows - j
+graft-exists-μ-loop s rows limit links masks set values depth out₀ parent role edge grown₀ j₀ out grown j =
+    rows - j
+
+graft-exists-next-requires : (t : ℕ) → graft-exists-lts.Need-next-requires (
+  next-reads.Asked,
+  next-reads.Learnt,
+  kind-reads.Asked,
+  kind-reads.Learnt,
+  graft-below t,
+  graft.Post,
+) (graft-exists-at t) graft-exists.Post graft-exists-Inv-loop graft-exists-μ-loop
+graft-exists-next-requires t c κs =
+    let st = c .before .before in
+    let a = st .args in
+    let pre = st .pre .1 in
+    pre .0 .checked .most
 
 graft-exists-loop-holds : (t : ℕ) → graft-exists-lts.Need-loop-holds (
-  hangs-by-reads.Asked,
-  hangs-by-reads.Learnt,
+  next-reads.Asked,
+  next-reads.Learnt,
+  kind-reads.Asked,
+  kind-reads.Learnt,
   graft-below t,
   graft.Post,
 ) (graft-exists-at t) graft-exists.Post graft-exists-Inv-loop graft-exists-μ-loop
 graft-exists-loop-holds t c =
-    let st = c .before .before in
+    let st = c .before .before .before in
     let a = st .args in
     let pre = st .pre .1 in
-    turn-start (now (a .s)) (a .rows) (a .depth) (now (a .flags)) (a .set) (a .role) (now (a .found)) (a .limit) (a .parent) (a .branch) (now (a .out)) (pre .1 .0) (pre .1 .1 .1 .0)
+    (turn-start (now (a .s)) (a .rows) (a .depth) (a .role) (a .set) (ofKind (now (a .s)) kindForAll (holds (a .set))) (a .limit) (a .parent) (a .branch) (now (a .out)) (c .next .result) (c .next .ensures) (pre .1 .1 .0), c .next .ensures .held)
 
-graft-exists-hangs-by-requires : (t : ℕ) → graft-exists-lts.Need-hangs-by-requires (
-  hangs-by-reads.Asked,
-  hangs-by-reads.Learnt,
+graft-exists-kind-requires : (t : ℕ) → graft-exists-lts.Need-kind-requires (
+  next-reads.Asked,
+  next-reads.Learnt,
+  kind-reads.Asked,
+  kind-reads.Learnt,
   graft-below t,
   graft.Post,
 ) (graft-exists-at t) graft-exists.Post graft-exists-Inv-loop graft-exists-μ-loop
-graft-exists-hangs-by-requires t c κs =
+graft-exists-kind-requires t c κs =
     let st = c .before .before .before .before .before in
     let a = st .args in
     let pre = st .pre .1 in
-    (pre .0 .checked, omega (arith, c .if1 .taken, pre .1 .0 .inside))
+    (omega (arith, pre .0 .checked .most, c .loop-test .taken), omega (arith, pre .0 .checked .whole, c .loop-test .taken))
 
 graft-exists-graft-requires : (t : ℕ) → graft-exists-lts.Need-graft-requires (
-  hangs-by-reads.Asked,
-  hangs-by-reads.Learnt,
+  next-reads.Asked,
+  next-reads.Learnt,
+  kind-reads.Asked,
+  kind-reads.Learnt,
   graft-below t,
   graft.Post,
 ) (graft-exists-at t) graft-exists.Post graft-exists-Inv-loop graft-exists-μ-loop
@@ -344,20 +328,24 @@ graft-exists-graft-requires t c κs =
     let st = c .before .before .before .before .before .before .before .before in
     let a = st .args in
     let pre = st .pre .1 in
-    let l = c .before .before .before .before .before .loop in
-    (omega (arith, st .pre .0), (pre .0, (pre .1 .1 .0, (omega (arith, c .before .before .before .if1 .taken, pre .1 .0 .inside), (grown-room (a .limit) (a .parent) (a .branch) (l .grown) (now (a .out)) (l .out) _ (pre .1 .1 .1 .0) (l .inv), code-later (l .grown .table .rows) exists (grown-some (a .limit) (a .parent) (a .branch) (l .grown) (now (a .out)) (l .out) _ (pre .1 .1 .1 .1) (l .inv)))))))
+    let l = c .before .before .before .before .loop in
+    (omega (arith, st .pre .0), (pre .0, (pre .1 .0 .known, (c .before .before .before .loop-test .taken, (grown-room (a .limit) (a .parent) (a .branch) (l .grown) (now (a .out)) (l .out) _ (pre .1 .1 .0) (l .inv .0), code-later (l .grown .table .rows) exists (grown-some (a .limit) (a .parent) (a .branch) (l .grown) (now (a .out)) (l .out) _ (pre .1 .1 .1) (l .inv .0)))))))
 
 graft-exists-same-length : (t : ℕ) → graft-exists-lts.Need-same-length (
-  hangs-by-reads.Asked,
-  hangs-by-reads.Learnt,
+  next-reads.Asked,
+  next-reads.Learnt,
+  kind-reads.Asked,
+  kind-reads.Learnt,
   graft-below t,
   graft.Post,
 ) (graft-exists-at t) graft-exists.Post graft-exists-Inv-loop graft-exists-μ-loop
 graft-exists-same-length t c = search needs
 
 graft-exists-returns : (t : ℕ) → graft-exists-lts.Need-returns (
-  hangs-by-reads.Asked,
-  hangs-by-reads.Learnt,
+  next-reads.Asked,
+  next-reads.Learnt,
+  kind-reads.Asked,
+  kind-reads.Learnt,
   graft-below t,
   graft.Post,
 ) (graft-exists-at t) graft-exists.Post graft-exists-Inv-loop graft-exists-μ-loop
@@ -365,62 +353,89 @@ graft-exists-returns t c =
     let st = c .before .before .before .before .before .before .before .before .before .before .before .before .before in
     let a = st .args in
     let pre = st .pre .1 in
-    let l = c .before .before .before .before .before .before .before .before .before .before .loop in
+    let l = c .before .before .before .before .before .before .before .before .before .loop in
     let gr = c .before .before .before .before .graft in
-    turn-full (now (a .s)) (a .rows) (a .depth) (now (a .flags)) (a .set) (a .role) (now (a .found)) (a .limit) (a .parent) (a .branch) (now (a .out)) (l .j) (omega (arith, c .before .before .before .before .before .before .before .before .if1 .taken, pre .1 .0 .inside)) (l .grown) (l .out) (l .inv) (gr .result) _ (sym (c .before .before .before .before .before .before .before .hangs-by .ensures) ∙ c .before .before .before .before .before .before .if2 .taken) (gr .ensures) (c .if3 .taken)
+    let more = c .before .before .before .before .before .before .before .before .loop-test .taken in
+    turn-full (now (a .s)) (a .rows) (a .depth) (a .role) (a .set) (ofKind (now (a .s)) kindForAll (holds (a .set))) (a .limit) (a .parent) (a .branch) (now (a .out)) (l .j) more (l .grown) (l .out) (l .inv .0) (gr .result) _ (l .inv .1 more) (sym (c .before .before .before .before .before .before .before .kind .ensures) ∙ c .before .before .before .before .before .before .if1 .taken) (gr .ensures (ofKind (now (a .s)) kindForAll (holds (a .set))) (pre .1 .0)) (c .if2 .taken)
 
-graft-exists-add-j : (t : ℕ) → graft-exists-lts.Need-add-j (
-  hangs-by-reads.Asked,
-  hangs-by-reads.Learnt,
+graft-exists-add-next : (t : ℕ) → graft-exists-lts.Need-add-next (
+  next-reads.Asked,
+  next-reads.Learnt,
+  kind-reads.Asked,
+  kind-reads.Learnt,
   graft-below t,
   graft.Post,
 ) (graft-exists-at t) graft-exists.Post graft-exists-Inv-loop graft-exists-μ-loop
-graft-exists-add-j t c =
+graft-exists-add-next t c =
     let st = c .before .before .before .before .before .before .before in
     let a = st .args in
     let pre = st .pre .1 in
-    omega (arith, c .before .before .if1 .taken, pre .1 .0 .inside, pre .0 .checked .most)
+    omega (arith, c .before .before .loop-test .taken, pre .0 .checked .most)
+
+graft-exists-next-requires-2 : (t : ℕ) → graft-exists-lts.Need-next-requires-2 (
+  next-reads.Asked,
+  next-reads.Learnt,
+  kind-reads.Asked,
+  kind-reads.Learnt,
+  graft-below t,
+  graft.Post,
+) (graft-exists-at t) graft-exists.Post graft-exists-Inv-loop graft-exists-μ-loop
+graft-exists-next-requires-2 t c κs =
+    let st = c .before .before .before .before .before .before .before in
+    let a = st .args in
+    let pre = st .pre .1 in
+    pre .0 .checked .most
 
 graft-exists-loop-less : (t : ℕ) → graft-exists-lts.Need-loop-less (
-  hangs-by-reads.Asked,
-  hangs-by-reads.Learnt,
+  next-reads.Asked,
+  next-reads.Learnt,
+  kind-reads.Asked,
+  kind-reads.Learnt,
   graft-below t,
   graft.Post,
 ) (graft-exists-at t) graft-exists.Post graft-exists-Inv-loop graft-exists-μ-loop
 graft-exists-loop-less t c =
-    let st = c .before .before .before .before .before .before .before in
+    let st = c .before .before .before .before .before .before .before .before in
     let a = st .args in
     let pre = st .pre .1 in
-    omega (arith, c .before .before .if1 .taken, pre .1 .0 .inside)
+    omega (arith, c .before .before .before .loop-test .taken, c .next2 .ensures .onward)
 
 graft-exists-loop-again : (t : ℕ) → graft-exists-lts.Need-loop-again (
-  hangs-by-reads.Asked,
-  hangs-by-reads.Learnt,
+  next-reads.Asked,
+  next-reads.Learnt,
+  kind-reads.Asked,
+  kind-reads.Learnt,
   graft-below t,
   graft.Post,
 ) (graft-exists-at t) graft-exists.Post graft-exists-Inv-loop graft-exists-μ-loop
 graft-exists-loop-again t c =
-    let st = c .before .before .before .before .before .before .before in
+    let st = c .before .before .before .before .before .before .before .before in
     let a = st .args in
     let pre = st .pre .1 in
     let l = c .before .before .before .before .loop in
-    let inside : l .j < a .rows = omega (arith, c .before .before .if1 .taken, pre .1 .0 .inside) in
-    ⊎-elim
-    (λ w. turn-yes (now (a .s)) (a .rows) (a .depth) (now (a .flags)) (a .set) (a .role) (now (a .found)) (a .limit) (a .parent) (a .branch) (now (a .out)) (l .j) inside (l .grown) (l .out) (l .inv) (w .2 .result) _ (sym (c .before .hangs-by .ensures) ∙ w .0 .taken) (w .2 .ensures) (c .if2 .grown) (c .if2 .out) (w .8) (w .7))
-    (λ w. turn-no (now (a .s)) (a .rows) (a .depth) (now (a .flags)) (a .set) (a .role) (now (a .found)) (a .limit) (a .parent) (a .branch) (now (a .out)) (l .j) inside (l .grown) (l .out) (l .inv) (c .if2 .grown) (c .if2 .out) (sym (c .before .hangs-by .ensures) ∙ w .0 .left) (w .2) (w .1))
-    (c .if2 .came)
+    let more = c .before .before .before .loop-test .taken in
+    let k = c .before .before .kind .ensures in
+    let j = c .before .if1 in
+    (⊎-elim
+    (λ w. turn-yes (now (a .s)) (a .rows) (a .depth) (a .role) (a .set) (ofKind (now (a .s)) kindForAll (holds (a .set))) (a .limit) (a .parent) (a .branch) (now (a .out)) (l .j) more (l .grown) (l .out) (l .inv .0) (w .2 .result) _ (l .inv .1 more) (sym k ∙ w .0 .taken) (w .2 .ensures (ofKind (now (a .s)) kindForAll (holds (a .set))) (pre .1 .0)) (c .next2 .result) (j .grown) (j .out) (c .next2 .ensures) (w .8) (w .7))
+    (λ w. turn-no (now (a .s)) (a .rows) (a .depth) (a .role) (a .set) (ofKind (now (a .s)) kindForAll (holds (a .set))) (a .limit) (a .parent) (a .branch) (now (a .out)) (l .j) more (l .grown) (l .out) (l .inv .0) (c .next2 .result) (j .grown) (j .out) (c .next2 .ensures) (λ e. w .0 .left (k ∙ e)) (w .2) (w .1))
+    (j .came), c .next2 .ensures .held)
 
 graft-exists-same-length-2 : (t : ℕ) → graft-exists-lts.Need-same-length-2 (
-  hangs-by-reads.Asked,
-  hangs-by-reads.Learnt,
+  next-reads.Asked,
+  next-reads.Learnt,
+  kind-reads.Asked,
+  kind-reads.Learnt,
   graft-below t,
   graft.Post,
 ) (graft-exists-at t) graft-exists.Post graft-exists-Inv-loop graft-exists-μ-loop
-graft-exists-same-length-2 t c = c .before .before .loop .inv .same
+graft-exists-same-length-2 t c = c .before .loop .inv .0 .same
 
 graft-exists-returns-2 : (t : ℕ) → graft-exists-lts.Need-returns-2 (
-  hangs-by-reads.Asked,
-  hangs-by-reads.Learnt,
+  next-reads.Asked,
+  next-reads.Learnt,
+  kind-reads.Asked,
+  kind-reads.Learnt,
   graft-below t,
   graft.Post,
 ) (graft-exists-at t) graft-exists.Post graft-exists-Inv-loop graft-exists-μ-loop
@@ -428,57 +443,79 @@ graft-exists-returns-2 t c =
     let st = c .before .before .before .before .before in
     let a = st .args in
     let pre = st .pre .1 in
-    let l = c .before .before .loop in
-    turn-end (now (a .s)) (a .rows) (a .depth) (now (a .flags)) (a .set) (a .role) (now (a .found)) (a .limit) (a .parent) (a .branch) (now (a .out)) (l .j) (l .grown) (l .out) (pre .1 .0) (c .if1 .left) (l .inv)
+    let l = c .before .loop in
+    turn-end (now (a .s)) (a .rows) (a .depth) (a .role) (a .set) (ofKind (now (a .s)) kindForAll (holds (a .set))) (a .limit) (a .parent) (a .branch) (now (a .out)) (l .j) (l .grown) (l .out) (c .loop-test .left) (l .inv .0)
 
-graft-role-flag-values-requires : (t : ℕ) → graft-role-lts.Need-flag-values-requires (
-  flag-values-reads.Asked,
-  flag-values-reads.Learnt,
+graft-role-of-role-requires : (t : ℕ) → graft-role-lts.Need-of-role-requires (
+  of-role-reads.Asked,
+  of-role-reads.Learnt,
+  gather-reads.Asked,
+  gather-reads.Learnt,
   graft-value-below t,
   graft-value.Post,
   graft-exists-below t,
   graft-exists.Post,
 ) (graft-role-at t) graft-role.Post
-graft-role-flag-values-requires t c κs =
+graft-role-of-role-requires t c κs =
+    let st = c .before .before in
+    let a = st .args in
+    let pre = st .pre .1 in
+    pre .1 .0
+
+graft-role-gather-requires : (t : ℕ) → graft-role-lts.Need-gather-requires (
+  of-role-reads.Asked,
+  of-role-reads.Learnt,
+  gather-reads.Asked,
+  gather-reads.Learnt,
+  graft-value-below t,
+  graft-value.Post,
+  graft-exists-below t,
+  graft-exists.Post,
+) (graft-role-at t) graft-role.Post
+graft-role-gather-requires t c κs =
     let st = c .before .before .before in
     let a = st .args in
     let pre = st .pre .1 in
-    (pre .0 .checked, (pre .0 .lowest, (pre .0 .highest, (pre .1 .0, blank maxRows refl))))
+    (pre .0 .checked, pre .0 .linked)
 
 graft-role-graft-value-requires : (t : ℕ) → graft-role-lts.Need-graft-value-requires (
-  flag-values-reads.Asked,
-  flag-values-reads.Learnt,
+  of-role-reads.Asked,
+  of-role-reads.Learnt,
+  gather-reads.Asked,
+  gather-reads.Learnt,
   graft-value-below t,
   graft-value.Post,
   graft-exists-below t,
   graft-exists.Post,
 ) (graft-role-at t) graft-role.Post
 graft-role-graft-value-requires t c κs =
-    let st = c .before .before .before .before .before .before in
+    let st = c .before .before .before .before .before in
     let a = st .args in
     let pre = st .pre .1 in
-    let fl = c .before .before .flag-values in
-    (omega (arith, st .pre .0), (pre .0, (fl .ensures .1, (pre .1 .1 .0, pre .1 .1 .1))))
+    (omega (arith, st .pre .0), (pre .0, (c .before .gather .ensures .1, (pre .1 .1 .0, pre .1 .1 .1))))
 
 graft-role-graft-exists-requires : (t : ℕ) → graft-role-lts.Need-graft-exists-requires (
-  flag-values-reads.Asked,
-  flag-values-reads.Learnt,
+  of-role-reads.Asked,
+  of-role-reads.Learnt,
+  gather-reads.Asked,
+  gather-reads.Learnt,
   graft-value-below t,
   graft-value.Post,
   graft-exists-below t,
   graft-exists.Post,
 ) (graft-role-at t) graft-role.Post
 graft-role-graft-exists-requires t c κs =
-    let st = c .before .before .before .before .before .before .before .before .before .before .before in
+    let st = c .before .before .before .before .before .before .before .before .before in
     let a = st .args in
     let pre = st .pre .1 in
-    let fl = c .before .before .before .before .before .before .before .flag-values in
-    let gv = c .before .before .before .before .graft-value in
-    (omega (arith, st .pre .0), (pre .0, (pre .1 .0, (fl .ensures .1, (grown-room (a .limit) (a .parent) (a .branch) (gv .result) (now (a .out)) _ _ (pre .1 .1 .0) (gv .ensures), grown-some (a .limit) (a .parent) (a .branch) (gv .result) (now (a .out)) _ _ (pre .1 .1 .1) (gv .ensures))))))
+    let gv = c .before .before .before .graft-value in
+    (omega (arith, st .pre .0), (pre .0, (c .before .before .before .before .before .gather .ensures .1, (grown-room (a .limit) (a .parent) (a .branch) (gv .result) (now (a .out)) _ _ (pre .1 .1 .0) (gv .ensures), grown-some (a .limit) (a .parent) (a .branch) (gv .result) (now (a .out)) _ _ (pre .1 .1 .1) (gv .ensures)))))
 
 graft-role-same-length : (t : ℕ) → graft-role-lts.Need-same-length (
-  flag-values-reads.Asked,
-  flag-values-reads.Learnt,
+  of-role-reads.Asked,
+  of-role-reads.Learnt,
+  gather-reads.Asked,
+  gather-reads.Learnt,
   graft-value-below t,
   graft-value.Post,
   graft-exists-below t,
@@ -487,33 +524,37 @@ graft-role-same-length : (t : ℕ) → graft-role-lts.Need-same-length (
 graft-role-same-length t c = search needs
 
 graft-role-returns : (t : ℕ) → graft-role-lts.Need-returns (
-  flag-values-reads.Asked,
-  flag-values-reads.Learnt,
+  of-role-reads.Asked,
+  of-role-reads.Learnt,
+  gather-reads.Asked,
+  gather-reads.Learnt,
   graft-value-below t,
   graft-value.Post,
   graft-exists-below t,
   graft-exists.Post,
 ) (graft-role-at t) graft-role.Post
 graft-role-returns t c =
-    let st = c .before .before .before .before .before .before .before .before .before .before .before .before .before .before in
+    let st = c .before .before .before .before .before .before .before .before .before .before .before .before in
     let a = st .args in
     let pre = st .pre .1 in
-    let fl = c .before .before .before .before .before .before .before .before .before .before .flag-values in
-    let gv = c .before .before .before .before .before .before .before .graft-value in
+    let of = c .before .before .before .before .before .before .before .before .before .of-role in
+    let ga = c .before .before .before .before .before .before .before .before .gather in
+    let gv = c .before .before .before .before .before .before .graft-value in
     let ge = c .before .before .graft-exists in
-    grown-same (a .limit) (a .parent) (a .branch) (ge .result) (now (a .out)) _ _ _ (role-parts (now (a .s)) (a .rows) (pre .0 .checked) (now (a .flags)) (a .set .c) (a .depth) (a .role) (fl .result .first) _ (fl .ensures .0))
+    grown-same (a .limit) (a .parent) (a .branch) (ge .result) (now (a .out)) _ _ _ (role-parts (now (a .s)) (a .rows) (a .depth) (a .role) (holds (of .result)) (ga .result .first) (ga .ensures .0) ∙ parts-same (now (a .s)) (a .rows) (holds (of .result)) (ofRole (now (a .s)) (a .role) (holds (a .kids))) (role-row (now (a .s)) (a .rows) (now (a .masks)) (of .result) (a .kids) (a .role) (pre .0 .masked) (pre .0 .checked .most) (pre .1 .0) (of .ensures)) (a .depth) (a .role))
     (grown-append (a .limit) (a .parent) (a .branch) (gv .result) (ge .result) (now (a .out)) _ _ _ _ (gv .ensures) (ge .ensures))
 
 abbrev graft-roles-Inv-loop : graft-roles-lts.InvT-loop
-graft-roles-Inv-loop s rows limit lows highs flags set depth out₀ parent grown₀ role₀ out grown role =
-    (role ≤ roles) × Grown limit parent grown₀ out₀ (rolesAt s rows (depth - 1) flags (set .c) role) grown out
+graft-roles-Inv-loop s rows limit links masks kids depth out₀ parent grown₀ role₀ out grown role =
+    Grown limit parent grown₀ out₀ (rolesAt s rows (depth - 1) (holds (kids .set)) (min role roles)) grown out
 
 abbrev graft-roles-μ-loop : graft-roles-lts.MeasureT-loop
-graft-roles-μ-loop s rows limit lows highs flags set depth out₀ parent grown₀ role₀ out grown role = roles - role
+graft-roles-μ-loop s rows limit links masks kids depth out₀ parent grown₀ role₀ out grown role =
+    roles - role
 
 graft-roles-returns : (t : ℕ) → graft-roles-lts.Need-returns (
-  next-role-reads.Asked,
-  next-role-reads.Learnt,
+  next-bit-reads.Asked,
+  next-bit-reads.Learnt,
   graft-role-below t,
   graft-role.Post,
 ) (graft-roles-at t) graft-roles.Post graft-roles-Inv-loop graft-roles-μ-loop
@@ -521,23 +562,19 @@ graft-roles-returns t c =
     let st = c .before .before .before in
     let a = st .args in
     let pre = st .pre .1 in
-    grown-same (a .limit) (a .parent) (a .branch) (a .branch) (now (a .out)) (now (a .out)) _ _ (sym (merged-leaf (now (a .s)) (a .rows) (now (a .flags)) (a .set .c) (a .depth) (c .if1 .taken))) (grown-nil (a .limit) (a .parent) (a .branch) (now (a .out)) (pre .1 .1 .0))
+    grown-same (a .limit) (a .parent) (a .branch) (a .branch) (now (a .out)) (now (a .out)) _ _ (sym (successors-leaf (now (a .s)) (a .rows) (holds (a .kids .set)) (a .depth) (c .if1 .taken))) (grown-nil (a .limit) (a .parent) (a .branch) (now (a .out)) (pre .1 .1 .0))
 
-graft-roles-next-role-requires : (t : ℕ) → graft-roles-lts.Need-next-role-requires (
-  next-role-reads.Asked,
-  next-role-reads.Learnt,
+graft-roles-next-bit-requires : (t : ℕ) → graft-roles-lts.Need-next-bit-requires (
+  next-bit-reads.Asked,
+  next-bit-reads.Learnt,
   graft-role-below t,
   graft-role.Post,
 ) (graft-roles-at t) graft-roles.Post graft-roles-Inv-loop graft-roles-μ-loop
-graft-roles-next-role-requires t c κs =
-    let st = c .before .before .before in
-    let a = st .args in
-    let pre = st .pre .1 in
-    (pre .0 .checked, (pre .1 .0, omega arith))
+graft-roles-next-bit-requires t c κs = omega arith
 
 graft-roles-loop-holds : (t : ℕ) → graft-roles-lts.Need-loop-holds (
-  next-role-reads.Asked,
-  next-role-reads.Learnt,
+  next-bit-reads.Asked,
+  next-bit-reads.Learnt,
   graft-role-below t,
   graft-role.Post,
 ) (graft-roles-at t) graft-roles.Post graft-roles-Inv-loop graft-roles-μ-loop
@@ -545,109 +582,115 @@ graft-roles-loop-holds t c =
     let st = c .before .before .before .before in
     let a = st .args in
     let pre = st .pre .1 in
-    let nr = c .next-role in
-    (nr .ensures .1, grown-same (a .limit) (a .parent) (a .branch) (a .branch) (now (a .out)) (now (a .out)) _ _ (sym (roles-skip (now (a .s)) (a .rows) (pre .0 .checked) (now (a .flags)) (a .set .c) 0 (nr .result) (nr .ensures .2) (a .depth - 1) (omega arith) ∙ roles-none (now (a .s)) (a .rows) (now (a .flags)) (a .set .c) (a .depth - 1))) (grown-nil (a .limit) (a .parent) (a .branch) (now (a .out)) (pre .1 .1 .0)))
+    let nb = c .next-bit in
+    role-on (now (a .s)) (a .rows) (a .depth - 1) (holds (a .kids .set)) (a .limit) (a .parent) (a .branch) (now (a .out)) 0 (nb .result) (a .branch) (now (a .out)) (omega arith) (omega arith) (unused-roles (now (a .s)) (a .rows) (a .kids) 0 (nb .result) (min (nb .result) roles) (pre .1 .0) (omega arith) (nb .ensures .2))
+    (grown-same (a .limit) (a .parent) (a .branch) (a .branch) (now (a .out)) (now (a .out)) _ _ (sym (roles-none (now (a .s)) (a .rows) (holds (a .kids .set)) (a .depth - 1))) (grown-nil (a .limit) (a .parent) (a .branch) (now (a .out)) (pre .1 .1 .0)))
 
 graft-roles-sub-graft-role : (t : ℕ) → graft-roles-lts.Need-sub-graft-role (
-  next-role-reads.Asked,
-  next-role-reads.Learnt,
+  next-bit-reads.Asked,
+  next-bit-reads.Learnt,
   graft-role-below t,
   graft-role.Post,
 ) (graft-roles-at t) graft-roles.Post graft-roles-Inv-loop graft-roles-μ-loop
-graft-roles-sub-graft-role t c = omega (arith, c .before .before .before .if1 .left)
+graft-roles-sub-graft-role t c = omega (arith, c .before .before .before .before .if1 .left)
+
+graft-roles-cast-graft-role : (t : ℕ) → graft-roles-lts.Need-cast-graft-role (
+  next-bit-reads.Asked,
+  next-bit-reads.Learnt,
+  graft-role-below t,
+  graft-role.Post,
+) (graft-roles-at t) graft-roles.Post graft-roles-Inv-loop graft-roles-μ-loop
+graft-roles-cast-graft-role t c = omega (arith, c .before .before .loop-test .taken)
 
 graft-roles-graft-role-requires : (t : ℕ) → graft-roles-lts.Need-graft-role-requires (
-  next-role-reads.Asked,
-  next-role-reads.Learnt,
+  next-bit-reads.Asked,
+  next-bit-reads.Learnt,
   graft-role-below t,
   graft-role.Post,
 ) (graft-roles-at t) graft-roles.Post graft-roles-Inv-loop graft-roles-μ-loop
 graft-roles-graft-role-requires t c κs =
-    let st = c .before .before .before .before .before .before .before in
+    let st = c .before .before .before .before .before .before .before .before in
     let a = st .args in
     let pre = st .pre .1 in
-    let l = c .before .before .loop in
-    (omega (arith, st .pre .0, c .before .before .before .before .if1 .left), (pre .0, (pre .1 .0, (grown-room (a .limit) (a .parent) (a .branch) (l .grown) (now (a .out)) (l .out) _ (pre .1 .1 .0) (l .inv .1), grown-some (a .limit) (a .parent) (a .branch) (l .grown) (now (a .out)) (l .out) _ (pre .1 .1 .1) (l .inv .1)))))
+    let l = c .before .before .before .loop in
+    (omega (arith, st .pre .0, c .before .before .before .before .before .if1 .left), (pre .0, (c .before .before .loop-test .taken, (grown-room (a .limit) (a .parent) (a .branch) (l .grown) (now (a .out)) (l .out) _ (pre .1 .1 .0) (l .inv), grown-some (a .limit) (a .parent) (a .branch) (l .grown) (now (a .out)) (l .out) _ (pre .1 .1 .1) (l .inv)))))
 
 graft-roles-same-length : (t : ℕ) → graft-roles-lts.Need-same-length (
-  next-role-reads.Asked,
-  next-role-reads.Learnt,
+  next-bit-reads.Asked,
+  next-bit-reads.Learnt,
   graft-role-below t,
   graft-role.Post,
 ) (graft-roles-at t) graft-roles.Post graft-roles-Inv-loop graft-roles-μ-loop
 graft-roles-same-length t c = search needs
 
 graft-roles-returns-2 : (t : ℕ) → graft-roles-lts.Need-returns-2 (
-  next-role-reads.Asked,
-  next-role-reads.Learnt,
+  next-bit-reads.Asked,
+  next-bit-reads.Learnt,
   graft-role-below t,
   graft-role.Post,
 ) (graft-roles-at t) graft-roles.Post graft-roles-Inv-loop graft-roles-μ-loop
 graft-roles-returns-2 t c =
-    let st = c .before .before .before .before .before .before .before .before .before .before .before .before in
-    let a = st .args in
-    let pre = st .pre .1 in
-    let l = c .before .before .before .before .before .before .before .loop in
-    let gr = c .before .before .before .before .graft-role in
-    let grown = grown-same (a .limit) (a .parent) (a .branch) (gr .result) (now (a .out)) _ _ _ (roles-next (now (a .s)) (a .rows) (now (a .flags)) (a .set .c) (a .depth - 1) (l .role)) (grown-append (a .limit) (a .parent) (a .branch) (l .grown) (gr .result) (now (a .out)) (l .out) _ _ _ (l .inv .1) (gr .ensures)) in
-    grown-same (a .limit) (a .parent) (a .branch) (gr .result) (now (a .out)) _ _ _ (sym (merged-roles (now (a .s)) (a .rows) (now (a .flags)) (a .set .c) (a .depth) (c .before .before .before .before .before .before .before .before .before .if1 .left)))
-    (grown-full (a .limit) (a .parent) (a .branch) (gr .result) (now (a .out)) _ _ _ grown (c .if2 .taken) (roles-more (now (a .s)) (a .rows) (now (a .flags)) (a .set .c) (a .depth - 1) (l .role + 1) roles (omega (arith, c .before .before .before .before .before .before .loop-test .taken))))
-
-graft-roles-add-next-role : (t : ℕ) → graft-roles-lts.Need-add-next-role (
-  next-role-reads.Asked,
-  next-role-reads.Learnt,
-  graft-role-below t,
-  graft-role.Post,
-) (graft-roles-at t) graft-roles.Post graft-roles-Inv-loop graft-roles-μ-loop
-graft-roles-add-next-role t c = omega (arith, c .before .before .before .before .before .before .loop-test .taken)
-
-graft-roles-next-role-requires-2 : (t : ℕ) → graft-roles-lts.Need-next-role-requires-2 (
-  next-role-reads.Asked,
-  next-role-reads.Learnt,
-  graft-role-below t,
-  graft-role.Post,
-) (graft-roles-at t) graft-roles.Post graft-roles-Inv-loop graft-roles-μ-loop
-graft-roles-next-role-requires-2 t c κs =
-    let st = c .before .before .before .before .before .before .before .before .before .before .before .before in
-    let a = st .args in
-    let pre = st .pre .1 in
-    (pre .0 .checked, (pre .1 .0, omega (arith, c .before .before .before .before .before .before .loop-test .taken)))
-
-graft-roles-loop-less : (t : ℕ) → graft-roles-lts.Need-loop-less (
-  next-role-reads.Asked,
-  next-role-reads.Learnt,
-  graft-role-below t,
-  graft-role.Post,
-) (graft-roles-at t) graft-roles.Post graft-roles-Inv-loop graft-roles-μ-loop
-graft-roles-loop-less t c = omega (arith, c .next-role2 .ensures .0, c .next-role2 .ensures .1, c .before .before .before .before .before .before .before .loop-test .taken)
-
-graft-roles-loop-again : (t : ℕ) → graft-roles-lts.Need-loop-again (
-  next-role-reads.Asked,
-  next-role-reads.Learnt,
-  graft-role-below t,
-  graft-role.Post,
-) (graft-roles-at t) graft-roles.Post graft-roles-Inv-loop graft-roles-μ-loop
-graft-roles-loop-again t c =
     let st = c .before .before .before .before .before .before .before .before .before .before .before .before .before in
     let a = st .args in
     let pre = st .pre .1 in
     let l = c .before .before .before .before .before .before .before .before .loop in
+    let gr = c .before .before .before .before .graft-role in
+    let more = c .before .before .before .before .before .before .before .loop-test .taken in
+    grown-same (a .limit) (a .parent) (a .branch) (gr .result) (now (a .out)) _ _ _ (sym (successors-roles (now (a .s)) (a .rows) (holds (a .kids .set)) (a .depth) (c .before .before .before .before .before .before .before .before .before .before .if1 .left)))
+    (grown-full (a .limit) (a .parent) (a .branch) (gr .result) (now (a .out)) _ _ _ (role-turn (now (a .s)) (a .rows) (a .depth - 1) (holds (a .kids .set)) (a .limit) (a .parent) (a .branch) (now (a .out)) (l .role) (l .grown) (gr .result) (l .out) _ more (l .inv) (gr .ensures)) (c .if2 .taken) (roles-more (now (a .s)) (a .rows) (holds (a .kids .set)) (a .depth - 1) (l .role + 1) roles (omega (arith, more))))
+
+graft-roles-add-next-bit : (t : ℕ) → graft-roles-lts.Need-add-next-bit (
+  next-bit-reads.Asked,
+  next-bit-reads.Learnt,
+  graft-role-below t,
+  graft-role.Post,
+) (graft-roles-at t) graft-roles.Post graft-roles-Inv-loop graft-roles-μ-loop
+graft-roles-add-next-bit t c = omega (arith, c .before .before .before .before .before .before .before .loop-test .taken)
+
+graft-roles-next-bit-requires-2 : (t : ℕ) → graft-roles-lts.Need-next-bit-requires-2 (
+  next-bit-reads.Asked,
+  next-bit-reads.Learnt,
+  graft-role-below t,
+  graft-role.Post,
+) (graft-roles-at t) graft-roles.Post graft-roles-Inv-loop graft-roles-μ-loop
+graft-roles-next-bit-requires-2 t c κs = omega (arith, c .before .before .before .before .before .before .before .loop-test .taken)
+
+graft-roles-loop-less : (t : ℕ) → graft-roles-lts.Need-loop-less (
+  next-bit-reads.Asked,
+  next-bit-reads.Learnt,
+  graft-role-below t,
+  graft-role.Post,
+) (graft-roles-at t) graft-roles.Post graft-roles-Inv-loop graft-roles-μ-loop
+graft-roles-loop-less t c = omega (arith, c .next-bit2 .ensures .0, c .before .before .before .before .before .before .before .before .loop-test .taken)
+
+graft-roles-loop-again : (t : ℕ) → graft-roles-lts.Need-loop-again (
+  next-bit-reads.Asked,
+  next-bit-reads.Learnt,
+  graft-role-below t,
+  graft-role.Post,
+) (graft-roles-at t) graft-roles.Post graft-roles-Inv-loop graft-roles-μ-loop
+graft-roles-loop-again t c =
+    let st = c .before .before .before .before .before .before .before .before .before .before .before .before .before .before in
+    let a = st .args in
+    let pre = st .pre .1 in
+    let l = c .before .before .before .before .before .before .before .before .before .loop in
     let gr = c .before .before .before .before .before .graft-role in
-    let grown = grown-same (a .limit) (a .parent) (a .branch) (gr .result) (now (a .out)) _ _ _ (roles-next (now (a .s)) (a .rows) (now (a .flags)) (a .set .c) (a .depth - 1) (l .role)) (grown-append (a .limit) (a .parent) (a .branch) (l .grown) (gr .result) (now (a .out)) (l .out) _ _ _ (l .inv .1) (gr .ensures)) in
-    let nr = c .next-role2 in
-    (nr .ensures .1, grown-same (a .limit) (a .parent) (a .branch) (gr .result) (now (a .out)) _ _ _ (sym (roles-skip (now (a .s)) (a .rows) (pre .0 .checked) (now (a .flags)) (a .set .c) (l .role + 1) (nr .result) (nr .ensures .2) (a .depth - 1) (nr .ensures .0))) grown)
+    let more = c .before .before .before .before .before .before .before .before .loop-test .taken in
+    let nb = c .next-bit2 in
+    role-on (now (a .s)) (a .rows) (a .depth - 1) (holds (a .kids .set)) (a .limit) (a .parent) (a .branch) (now (a .out)) (l .role + 1) (nb .result) (gr .result) _ (nb .ensures .0) (omega (arith, more)) (unused-roles (now (a .s)) (a .rows) (a .kids) (l .role + 1) (nb .result) (min (nb .result) roles) (pre .1 .0) (omega arith) (nb .ensures .2))
+    (role-turn (now (a .s)) (a .rows) (a .depth - 1) (holds (a .kids .set)) (a .limit) (a .parent) (a .branch) (now (a .out)) (l .role) (l .grown) (gr .result) (l .out) _ more (l .inv) (gr .ensures))
 
 graft-roles-same-length-2 : (t : ℕ) → graft-roles-lts.Need-same-length-2 (
-  next-role-reads.Asked,
-  next-role-reads.Learnt,
+  next-bit-reads.Asked,
+  next-bit-reads.Learnt,
   graft-role-below t,
   graft-role.Post,
 ) (graft-roles-at t) graft-roles.Post graft-roles-Inv-loop graft-roles-μ-loop
 graft-roles-same-length-2 t c = search needs
 
 graft-roles-returns-3 : (t : ℕ) → graft-roles-lts.Need-returns-3 (
-  next-role-reads.Asked,
-  next-role-reads.Learnt,
+  next-bit-reads.Asked,
+  next-bit-reads.Learnt,
   graft-role-below t,
   graft-role.Post,
 ) (graft-roles-at t) graft-roles.Post graft-roles-Inv-loop graft-roles-μ-loop
@@ -656,8 +699,9 @@ graft-roles-returns-3 t c =
     let a = st .args in
     let pre = st .pre .1 in
     let l = c .before .loop in
-    let e : l .role ≡ roles = omega (arith, l .inv .0, c .loop-test .left) in
-    grown-same (a .limit) (a .parent) (a .branch) (l .grown) (now (a .out)) (l .out) _ _ (ap (λ (n : ℕ). rolesAt (now (a .s)) (a .rows) (a .depth - 1) (now (a .flags)) (a .set .c) n) e ∙ sym (merged-roles (now (a .s)) (a .rows) (now (a .flags)) (a .set .c) (a .depth) (c .before .before .before .if1 .left))) (l .inv .1)
+    let m = c .loop-test .left in
+    let e : min (l .role) roles ≡ roles = omega (arith, m) in
+    grown-same (a .limit) (a .parent) (a .branch) (l .grown) (now (a .out)) (l .out) _ _ (ap (rolesAt (now (a .s)) (a .rows) (a .depth - 1) (holds (a .kids .set))) e ∙ sym (successors-roles (now (a .s)) (a .rows) (holds (a .kids .set)) (a .depth) (c .before .before .before .if1 .left))) (l .inv)
 
 graft-value-returns :
     (t : ℕ) →
@@ -666,7 +710,7 @@ graft-value-returns t c =
     let st = c .before .before .before .before in
     let a = st .args in
     let pre = st .pre .1 in
-    grown-same (a .limit) (a .parent) (a .branch) (a .branch) (now (a .out)) (now (a .out)) _ _ (sym (value-none (now (a .s)) (a .rows) (a .depth) (a .role) (now (a .found)) (a .values .first) (c .if1 .taken))) (grown-nil (a .limit) (a .parent) (a .branch) (now (a .out)) (pre .1 .1 .0))
+    grown-same (a .limit) (a .parent) (a .branch) (a .branch) (now (a .out)) (now (a .out)) _ _ (sym (value-none (now (a .s)) (a .rows) (a .depth) (a .role) (ofKind (now (a .s)) kindForAll (holds (a .set))) (a .values .first) (c .if1 .taken))) (grown-nil (a .limit) (a .parent) (a .branch) (now (a .out)) (pre .1 .1 .0))
 
 graft-value-graft-requires : (t : ℕ) → graft-value-lts.Need-graft-requires (
   graft-below t,
@@ -676,7 +720,7 @@ graft-value-graft-requires t c κs =
     let st = c .before .before .before .before .before in
     let a = st .args in
     let pre = st .pre .1 in
-    (omega (arith, st .pre .0), (pre .0, (pre .1 .0, (omega (arith, c .before .if1 .left), (pre .1 .1 .0, code-later (a .branch .table .rows) forAll (pre .1 .1 .1))))))
+    (omega (arith, st .pre .0), (pre .0, (pre .1 .0 .known, (omega (arith, c .before .if1 .left), (pre .1 .1 .0, code-later (a .branch .table .rows) forAll (pre .1 .1 .1))))))
 
 graft-value-same-length :
     (t : ℕ) →
@@ -694,15 +738,13 @@ graft-value-returns-2 t c =
     let a = st .args in
     let pre = st .pre .1 in
     let gr = c .before .before .graft in
-    grown-same (a .limit) (a .parent) (a .branch) (gr .result) (now (a .out)) _ _ _ (sym (value-one (now (a .s)) (a .rows) (a .depth) (a .role) (now (a .found)) (a .values .first) (omega (arith, c .before .before .before .before .if1 .left)))) (gr .ensures)
+    grown-same (a .limit) (a .parent) (a .branch) (gr .result) (now (a .out)) _ _ _ (sym (value-one (now (a .s)) (a .rows) (a .depth) (a .role) (ofKind (now (a .s)) kindForAll (holds (a .set))) (a .values .first) (omega (arith, c .before .before .before .before .if1 .left)))) (gr .ensures (ofKind (now (a .s)) kindForAll (holds (a .set))) (pre .1 .0))
 
 pub +graft+graft-exists+graft-role+graft-roles+graft-value-spec : {M : Type 1} → statement M
 +graft+graft-exists+graft-role+graft-roles+graft-value-spec =
     close μ-graft μ-graft-exists μ-graft-role μ-graft-roles μ-graft-value (λ t. graft-lts.spec (
-      join-reads.Asked,
-      join-reads.Learnt,
-      widen-reads.Asked,
-      widen-reads.Learnt,
+      add-reads.Asked,
+      add-reads.Learnt,
       enter-reads.Asked,
       enter-reads.Learnt,
       graft-roles-below t,
@@ -712,18 +754,19 @@ pub +graft+graft-exists+graft-role+graft-roles+graft-value-spec : {M : Type 1} �
     )
     (graft-at t)
     graft.Post
-    (graft-add-t20 t)
+    (graft-add-t18 t)
     (graft-returns t)
-    (graft-join-requires t)
-    (graft-widen-requires t)
+    (graft-add-requires t)
     (graft-enter-requires t)
     (graft-graft-roles-requires t)
     (graft-leave-requires t)
     (graft-same-length t)
     (graft-returns-2 t))
     (λ t. graft-exists-lts.spec (
-      hangs-by-reads.Asked,
-      hangs-by-reads.Learnt,
+      next-reads.Asked,
+      next-reads.Learnt,
+      kind-reads.Asked,
+      kind-reads.Learnt,
       graft-below t,
       graft.Post,
     )
@@ -731,19 +774,23 @@ pub +graft+graft-exists+graft-role+graft-roles+graft-value-spec : {M : Type 1} �
     graft-exists.Post
     graft-exists-Inv-loop
     graft-exists-μ-loop
+    (graft-exists-next-requires t)
     (graft-exists-loop-holds t)
-    (graft-exists-hangs-by-requires t)
+    (graft-exists-kind-requires t)
     (graft-exists-graft-requires t)
     (graft-exists-same-length t)
     (graft-exists-returns t)
-    (graft-exists-add-j t)
+    (graft-exists-add-next t)
+    (graft-exists-next-requires-2 t)
     (graft-exists-loop-less t)
     (graft-exists-loop-again t)
     (graft-exists-same-length-2 t)
     (graft-exists-returns-2 t))
     (λ t. graft-role-lts.spec (
-      flag-values-reads.Asked,
-      flag-values-reads.Learnt,
+      of-role-reads.Asked,
+      of-role-reads.Learnt,
+      gather-reads.Asked,
+      gather-reads.Learnt,
       graft-value-below t,
       graft-value.Post,
       graft-exists-below t,
@@ -751,14 +798,15 @@ pub +graft+graft-exists+graft-role+graft-roles+graft-value-spec : {M : Type 1} �
     )
     (graft-role-at t)
     graft-role.Post
-    (graft-role-flag-values-requires t)
+    (graft-role-of-role-requires t)
+    (graft-role-gather-requires t)
     (graft-role-graft-value-requires t)
     (graft-role-graft-exists-requires t)
     (graft-role-same-length t)
     (graft-role-returns t))
     (λ t. graft-roles-lts.spec (
-      next-role-reads.Asked,
-      next-role-reads.Learnt,
+      next-bit-reads.Asked,
+      next-bit-reads.Learnt,
       graft-role-below t,
       graft-role.Post,
     )
@@ -767,14 +815,15 @@ pub +graft+graft-exists+graft-role+graft-roles+graft-value-spec : {M : Type 1} �
     graft-roles-Inv-loop
     graft-roles-μ-loop
     (graft-roles-returns t)
-    (graft-roles-next-role-requires t)
+    (graft-roles-next-bit-requires t)
     (graft-roles-loop-holds t)
     (graft-roles-sub-graft-role t)
+    (graft-roles-cast-graft-role t)
     (graft-roles-graft-role-requires t)
     (graft-roles-same-length t)
     (graft-roles-returns-2 t)
-    (graft-roles-add-next-role t)
-    (graft-roles-next-role-requires-2 t)
+    (graft-roles-add-next-bit t)
+    (graft-roles-next-bit-requires-2 t)
     (graft-roles-loop-less t)
     (graft-roles-loop-again t)
     (graft-roles-same-length-2 t)

@@ -1,0 +1,98 @@
+-- At the loop's head the table has the rows before j.
+use Prim.Native.Nat.{_-_, _<_}
+use native.Mathlib.Omega.{arith}
+use borrow.Author.Needs.{needs}
+use denote.Ref.{now}
+use mathlib.Core.Path.{_≡_, _∙_}
+use Rattle.table.specs.Bounds.{maxRows}
+use Rattle.table.specs.Layout.{roles}
+use Rattle.normal.proofs.Masks.{MaskedTo, mask-done, mask-next, mask-none}
+use Rattle.normal.proofs.rows.fill_masks.Statement.{statement}
+use Rattle.normal.proofs.rows.fill_masks.Tie as tie
+
+abbrev Inv-loop : tie.InvT-loop
+Inv-loop s rows masks₀ j₀ masks j = MaskedTo s rows j masks
+
+abbrev μ-loop : tie.MeasureT-loop
+μ-loop s rows masks₀ j₀ masks j = rows - j
+
+loop-holds : tie.Need-loop-holds Inv-loop μ-loop
+loop-holds c = mask-none _ _ _ (c .before .pre .1)
+
+role-requires : tie.Need-role-requires Inv-loop μ-loop
+role-requires c κs =
+    let start = c .before .before .before in
+    (omega (arith, start .pre .0 .most, c .loop-test .taken), omega (arith, start .pre .0 .whole, c .loop-test .taken))
+
+wide-requires : tie.Need-wide-requires Inv-loop μ-loop
+wide-requires c κs = search needs
+
+small : (c : tie.After-wide Inv-loop μ-loop) → c .wide .result < roles
+small c =
+    let start = c .before .before .before .before .before in
+    let l = c .before .before .before .loop in
+    omega (arith, c .wide .ensures .0, c .before .role .ensures, start .pre .0 .roles-below (l .j) (c .before .before .loop-test .taken))
+
+inside : (c : tie.After-wide Inv-loop μ-loop) → c .before .before .before .loop .j < maxRows
+inside c = omega (arith, c .before .before .loop-test .taken, c .before .before .before .before .before .pre .0 .most)
+
+mul-at : tie.Need-mul-at Inv-loop μ-loop
+mul-at c = omega (arith, small c)
+
+add-at : tie.Need-add-at Inv-loop μ-loop
+add-at c = omega (arith, small c, inside c)
+
+bit-requires : tie.Need-bit-requires Inv-loop μ-loop
+bit-requires c κs = omega arith
+
+mul-masks : tie.Need-mul-masks Inv-loop μ-loop
+mul-masks c = omega (arith, small (c .before), inside (c .before))
+
+element-copy-out-masks : tie.Need-element-copy-out-masks Inv-loop μ-loop
+element-copy-out-masks c = omega (arith, small (c .before), inside (c .before))
+
+mul-masks-2 : tie.Need-mul-masks-2 Inv-loop μ-loop
+mul-masks-2 c = omega (arith, small (c .before .before), inside (c .before .before))
+
+element-write-masks : tie.Need-element-write-masks Inv-loop μ-loop
+element-write-masks c = omega (arith, small (c .before .before), inside (c .before .before))
+
+add-j : tie.Need-add-j Inv-loop μ-loop
+add-j c = omega (arith, inside (c .before .before))
+
+loop-less : tie.Need-loop-less Inv-loop μ-loop
+loop-less c = omega (arith, c .before .before .before .before .loop-test .taken)
+
+loop-again : tie.Need-loop-again Inv-loop μ-loop
+loop-again c =
+    let start = c .before .before .before .before .before .before .before in
+    let a = start .args in
+    let l = c .before .before .before .before .before .loop in
+    mask-next (now (a .s)) (a .rows) (l .j) (c .before .before .wide .result) (c .before .bit .result) (l .masks) (c .before .before .before .before .loop-test .taken) (start .pre .0 .most) (c .before .before .wide .ensures .0 ∙ c .before .before .before .role .ensures) (small (c .before .before)) (c .before .bit .ensures) (l .inv)
+
+returns : tie.Need-returns Inv-loop μ-loop
+returns c =
+    let a = c .before .before .before .args in
+    let l = c .before .loop in
+    mask-done (now (a .s)) (a .rows) (l .j) (l .masks) (c .loop-test .left) (l .inv)
+
+pub fill-masks-spec : {M : Type 1} → statement M
+fill-masks-spec =
+    tie.close
+    (tie.spec
+    Inv-loop
+    μ-loop
+    loop-holds
+    role-requires
+    wide-requires
+    mul-at
+    add-at
+    bit-requires
+    mul-masks
+    element-copy-out-masks
+    mul-masks-2
+    element-write-masks
+    add-j
+    loop-less
+    loop-again
+    returns)
