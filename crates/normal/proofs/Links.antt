@@ -128,12 +128,12 @@ module _ (s : List ℕ) (rows c : ℕ) (old : Kids) where
           by-test (kid k) (λ h. let z = hangs-kid s c k h .0 in rw h (le-ltb k 1 (omega (arith, z)))) (λ h. rw h)
 
   module _ (j : ℕ) (kids : Kids) (w : Walked s rows c j old kids) where
-    pub walk-next : (r : Kids) (n : ℕ) → (j ≡ 0 → ⊥) → Nearest s rows c (j + 1) n → ((k : ℕ) → holds (r .set) k ≡ (eqb k j || holds (kids .set) k)) → ((i : ℕ) → has (r .roles) i ≡ (eqb i (roleOf s j) || has (kids .roles) i)) → Walked s rows c n old r
-    walk-next r n z on sets roles =
+    pub walk-next : (r : Kids) (n : ℕ) → (j ≡ 0 → ⊥) → Nearest s rows c (j + 1) n → rows ≤ maxRows → ((k : ℕ) → k < maxRows → holds (r .set) k ≡ (eqb k j || holds (kids .set) k)) → ((i : ℕ) → has (r .roles) i ≡ (eqb i (roleOf s j) || has (kids .roles) i)) → Walked s rows c n old r
+    walk-next r n z on most sets roles =
         record {
           low = j + 1;
           next = on;
-          set-is = λ k l. sets k ∙ ap (λ (b : Bool). eqb k j || b) (w .set-is k l) ∙ joins k l;
+          set-is = λ k l. sets k (omega arith) ∙ ap (λ (b : Bool). eqb k j || b) (w .set-is k l) ∙ joins k l;
           roles-kept = λ i h. roles i ∙ or-true (eqb i (roleOf s j)) (has (kids .roles) i) (w .roles-kept i h);
           roles-met = λ k l b h.
               roles (roleOf s k)

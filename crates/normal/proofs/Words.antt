@@ -2,12 +2,12 @@
 --   next-clear, next-set        the lowest bit of a word from one on
 --   has-power, bit-more         a word of one bit; a word with one bit more
 --   holds-none                  a set of no row
---   with-a, with-b, with-c, with-d   a set with one row more, in each word
+--   with-row                    a set with one row more
 --   meet-row                    the rows of a set that a table of words has too
 --   before-word, at-word        the rows of one word
 use Prim.Native.Nat.{_*_, _+_, _-_, _/_, _%_, _<_, _^_, _≤_, suc, zero, ℕ}
 use borrow.Author.Tests.{eq-eqb, eqb-false, eqb-true, ltb-false, ltb-true, ne-eqb}
-use lib.Bits.{bitAnd, bitOr}
+use lib.Bits.{bitAnd, bitOr, or-zero-r}
 use lib.Count.{trailingZeros, under}
 use lib.Dec.{eqb, ltb}
 use lib.ListN.{getD}
@@ -103,7 +103,7 @@ holds-none r a b c d j = ap (λ (w : ℕ). has w (j % 64)) (word (j / 64)) ∙ h
     word i =
         by-test (eqb i 0) (λ e. rw (e, a))
         (λ e. by-test (eqb i 1) (λ f. rw (e, f, b))
-        (λ f. by-test (eqb i 2) (λ g. rw (e, f, g, c)) (λ g. by-test (eqb i 3) (λ h. rw (e, f, g, h, d)) (λ h. rw (e, f, g, h)))))
+        (λ f. by-test (eqb i 2) (λ g. rw (e, f, g, c)) (λ g. rw (e, f, g, d))))
 
 pub bit-more : (w new r i : ℕ) → new ≡ 2 ^ r → has (bitOr w new) i ≡ (eqb i r || has w i)
 bit-more w new r i is =
@@ -116,32 +116,22 @@ same-word k j e =
     by-test (eqb k j) (λ t. eq-eqb (k % 64) (j % 64) (ap (λ (n : ℕ). n % 64) (eqb-true k j t)) ∙ sym t)
     (λ t. ne-eqb (k % 64) (j % 64) (λ z. eqb-false k j t (omega arith)) ∙ sym t)
 
-module _ (r s : RowSet) (j new : ℕ) (is : new ≡ 2 ^ (j % 64)) where
-  with-row : wordOf r (j / 64) ≡ bitOr (wordOf s (j / 64)) new → ((i : ℕ) → (i ≡ j / 64 → ⊥) → wordOf r i ≡ wordOf s i) → (k : ℕ) → holds r k ≡ (eqb k j || holds s k)
-  unfolding holds
-  with-row here there k =
-      by-test (eqb (k / 64) (j / 64))
-      (λ e. let same = eqb-true (k / 64) (j / 64) e in
-      ap (λ (i : ℕ). has (wordOf r i) (k % 64)) same
-      ∙ ap (λ (w : ℕ). has w (k % 64)) here
-      ∙ bit-more (wordOf s (j / 64)) new (j % 64) (k % 64) is
-      ∙ ap (λ (b : Bool). b || has (wordOf s (j / 64)) (k % 64)) (same-word k j same)
-      ∙ ap (λ (i : ℕ). eqb k j || has (wordOf s i) (k % 64)) (sym same))
-      (λ e. let other = eqb-false (k / 64) (j / 64) e in
-      ap (λ (w : ℕ). has w (k % 64)) (there (k / 64) other)
-      ∙ sym (ap (λ (b : Bool). b || has (wordOf s (k / 64)) (k % 64)) (ne-eqb k j (λ z. other (ap (λ (n : ℕ). n / 64) z)))))
-
-  pub with-a : j / 64 ≡ 0 → r .a ≡ bitOr (s .a) new → r .b ≡ s .b → r .c ≡ s .c → r .d ≡ s .d → (k : ℕ) → holds r k ≡ (eqb k j || holds s k)
-  with-a i a b c d = with-row (rw i a) (λ n u. rw (ne-eqb n 0 (λ z. u (z ∙ sym i)), b, c, d))
-
-  pub with-b : j / 64 ≡ 1 → r .a ≡ s .a → r .b ≡ bitOr (s .b) new → r .c ≡ s .c → r .d ≡ s .d → (k : ℕ) → holds r k ≡ (eqb k j || holds s k)
-  with-b i a b c d = with-row (rw i b) (λ n u. rw (ne-eqb n 1 (λ z. u (z ∙ sym i)), a, c, d))
-
-  pub with-c : j / 64 ≡ 2 → r .a ≡ s .a → r .b ≡ s .b → r .c ≡ bitOr (s .c) new → r .d ≡ s .d → (k : ℕ) → holds r k ≡ (eqb k j || holds s k)
-  with-c i a b c d = with-row (rw i c) (λ n u. rw (ne-eqb n 2 (λ z. u (z ∙ sym i)), a, b, d))
-
-  pub with-d : j / 64 ≡ 3 → r .a ≡ s .a → r .b ≡ s .b → r .c ≡ s .c → r .d ≡ bitOr (s .d) new → (k : ℕ) → holds r k ≡ (eqb k j || holds s k)
-  with-d i a b c d = with-row (rw i d) (λ n u. rw (ne-eqb n 3 (λ z. u (z ∙ sym i)), a, b, c))
+pub with-row : (r s : RowSet) (j new : ℕ) → new ≡ 2 ^ (j % 64) → r .a ≡ bitOr (s .a) (pick (eqb (j / 64) 0) new 0) → r .b ≡ bitOr (s .b) (pick (eqb (j / 64) 1) new 0) → r .c ≡ bitOr (s .c) (pick (eqb (j / 64) 2) new 0) → r .d ≡ bitOr (s .d) (pick (eqb (j / 64) 3) new 0) → (k : ℕ) → k < maxRows → holds r k ≡ (eqb k j || holds s k)
+unfolding holds
+with-row r s j new is a b c d k l =
+    ap (λ (w : ℕ). has w (k % 64)) (word (k / 64) (omega arith))
+    ∙ by-test (eqb (j / 64) (k / 64))
+    (λ e. let same = eqb-true (j / 64) (k / 64) e in
+    rw e (bit-more (wordOf s (k / 64)) new (j % 64) (k % 64) is ∙ ap (λ (t : Bool). t || has (wordOf s (k / 64)) (k % 64)) (same-word k j (sym same))))
+    (λ e. let other = eqb-false (j / 64) (k / 64) e in
+    rw (e, ne-eqb k j (λ z. other (ap (λ (n : ℕ). n / 64) (sym z)))) (ap (λ (w : ℕ). has w (k % 64)) (or-zero-r (wordOf s (k / 64)))))
+  where
+    word : (i : ℕ) → i < 4 → wordOf r i ≡ bitOr (wordOf s i) (pick (eqb (j / 64) i) new 0)
+    word zero l = a
+    word (suc zero) l = b
+    word (suc (suc zero)) l = c
+    word (suc (suc (suc zero))) l = d
+    word (suc (suc (suc (suc i)))) l = absurd (omega arith)
 
 -- ---- a table of words
 

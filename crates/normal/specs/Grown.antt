@@ -64,7 +64,7 @@ pub record Entered (b : Branch) (out : List ℕ) (edge : Edge) (label : Label) (
       (rowOf (edge .parent) (edge .kind) (edge .role) 0 (setOf (label .wanted)) (setOf (label .excluded)))
 
 abbrev pub clash : Label → Bool
-clash label = label .bottom || overlap (setOf (label .wanted)) (setOf (label .excluded))
+clash label = eqb (label .bottom) 1 || overlap (setOf (label .wanted)) (setOf (label .excluded))
 
 abbrev pub bare : Label → Bool
 bare label = eqb (setOf (label .wanted)) none && eqb (setOf (label .excluded)) none

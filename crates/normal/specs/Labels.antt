@@ -23,12 +23,12 @@ use Rattle.normal.specs.declared.values.Values.{Values}
 pub record LabelIs (r : Label) (l : tree.Label pictureSignature) : Type 0 where
   pub wanted-is : setOf (r .wanted) ≡ l .wanted .set
   pub excluded-is : setOf (r .excluded) ≡ l .excluded .set
-  pub bottom-is : r .bottom ≡ l .bottom
+  pub bottom-is : eqb (r .bottom) 1 ≡ l .bottom
 
 pub record Joined (s : List ℕ) (j : ℕ) (label r : Label) : Type 0 where
   pub wanted-joins : setOf (r .wanted) ≡ union (wantedOf s j) (setOf (label .wanted))
   pub excluded-joins : setOf (r .excluded) ≡ union (excludedOf s j) (setOf (label .excluded))
-  pub bottom-joins : r .bottom ≡ (eqb (impossibleOf s j) 1 || label .bottom)
+  pub bottom-joins : eqb (r .bottom) 1 ≡ (eqb (impossibleOf s j) 1 || eqb (label .bottom) 1)
   pub wanted-fits : wantedOf s j < 2 ^ nameCount
   pub excluded-fits : excludedOf s j < 2 ^ nameCount
 

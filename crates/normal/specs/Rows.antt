@@ -50,7 +50,7 @@ abbrev pub ofRole : List ℕ → ℕ → (ℕ → Bool) → ℕ → Bool
 ofRole s role p j = eqb (roleOf s j) role && p j
 
 abbrev pub wordOf : RowSet → ℕ → ℕ
-wordOf r i = pick (eqb i 0) (r .a) (pick (eqb i 1) (r .b) (pick (eqb i 2) (r .c) (pick (eqb i 3) (r .d) 0)))
+wordOf r i = pick (eqb i 0) (r .a) (pick (eqb i 1) (r .b) (pick (eqb i 2) (r .c) (r .d)))
 
 unfoldable pub holds : RowSet → ℕ → Bool
 holds r j = has (wordOf r (j / 64)) (j % 64)

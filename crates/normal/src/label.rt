@@ -1,4 +1,4 @@
-// The label of a set of rows: the unions of the names, and whether any is marked.
+// The label of a set of rows: the unions of the names, and whether any is marked. The mark is a word, so that a label is words alone.
 use table::names::Names;
 use table::row::excluded;
 use table::row::impossible;
@@ -8,32 +8,32 @@ ghost use mathlib.Core.Bool.{_&&_, _||_, false};
 ghost use Prim.Native.Nat.{ℕ, _<_};
 ghost use lib.Dec.{eqb};
 ghost use Rattle.table.specs.Fields.{impossibleOf};
-ghost use Rattle.table.specs.NameSet.{none, overlap, setOf};
+ghost use Rattle.table.specs.NameSet.{none, overlap, setOf, union};
 ghost use Rattle.normal.specs.Rows.{Checked};
 ghost use Rattle.normal.specs.Labels.{Joined};
 
 pub struct Label {
     pub wanted: Names,
     pub excluded: Names,
-    pub bottom: bool,
+    pub bottom: u64,
 }
 
 impl Label {
     pub fn empty() -> Label
-        ensures { λ r. ⌜ (setOf (r .wanted) ≡ none) × (setOf (r .excluded) ≡ none) × (r .bottom ≡ false) ⌝ }
+        ensures { λ r. ⌜ (setOf (r .wanted) ≡ none) × (setOf (r .excluded) ≡ none) × (eqb (r .bottom) 1 ≡ false) ⌝ }
     {
         Label {
             wanted: Names::none(),
             excluded: Names::none(),
-            bottom: false,
+            bottom: 0,
         }
     }
 
     // The mark, or a name both wanted and excluded.
     pub fn clashes(self) -> bool
-        ensures { λ r. ⌜ r ≡ (self .bottom || overlap (setOf (self .wanted)) (setOf (self .excluded))) ⌝ }
+        ensures { λ r. ⌜ r ≡ (eqb (self .bottom) 1 || overlap (setOf (self .wanted)) (setOf (self .excluded))) ⌝ }
     {
-        if self.bottom {
+        if self.bottom == 1 {
             return true;
         }
         let wanted = self.wanted;
@@ -53,15 +53,26 @@ impl Label {
     }
 }
 
-// Whether row j is marked, or a label is.
-fn marked(s: &[u8], rows: usize, bottom: bool, j: usize) -> bool
+// The mark of row j, or else a label's.
+fn marked(s: &[u8], rows: usize, bottom: u64, j: usize) -> u64
     requires { ⌜ (Checked (now s) rows) × (j < rows) ⌝ }
-    ensures { λ r. ⌜ r ≡ (eqb (impossibleOf (now (s .entry)) j) 1 || bottom) ⌝ }
+    ensures { λ r. ⌜ eqb r 1 ≡ (eqb (impossibleOf (now (s .entry)) j) 1 || eqb bottom 1) ⌝ }
 {
     if impossible(s, j) == 1 {
-        return true;
+        return 1;
     }
     bottom
+}
+
+// The union of a set with a row's. That set is tested by itself first: it is then read as one word.
+fn with(names: Names, more: Names) -> Names
+    ensures { λ r. ⌜ setOf r ≡ union (setOf more) (setOf names) ⌝ }
+{
+    if more.subset(names) {
+        names
+    } else {
+        more.union(names)
+    }
 }
 
 // The label with that of row j.
@@ -73,8 +84,8 @@ pub fn join(s: &[u8], rows: usize, label: Label, j: usize) -> Label
     let more_wanted = wanted(s, j);
     let more_excluded = excluded(s, j);
     Label {
-        wanted: more_wanted.union(label.wanted),
-        excluded: more_excluded.union(label.excluded),
+        wanted: with(label.wanted, more_wanted),
+        excluded: with(label.excluded, more_excluded),
         bottom,
     }
 }

@@ -13,6 +13,7 @@ ghost use Rattle.table.specs.Bounds.{maxRows};
 ghost use Rattle.table.specs.Fields.{roleOf};
 ghost use Rattle.table.specs.Layout.{roles};
 ghost use Rattle.table.specs.NameSet.{has};
+ghost use Rattle.table.specs.Pick.{pick};
 ghost use Rattle.normal.specs.Rows.{Checked, Hung, Linked, Masked, Next, Surveyed, Zeros, holds, wordOf};
 
 // A set of rows takes this many words.
@@ -44,6 +45,13 @@ fn bit(i: usize) -> u64
     ensures { λ r. ⌜ r ≡ 2 ^ i ⌝ }
 {
     1u64 << i
+}
+
+// A word where two numbers are the same, and elsewhere none.
+fn only(i: usize, j: usize, word: u64) -> u64
+    ensures { λ r. ⌜ r ≡ pick (eqb i j) word 0 ⌝ }
+{
+    if i == j { word } else { 0 }
 }
 
 // The lowest bit of a word from one on; past the word's end if there is none.
@@ -78,48 +86,21 @@ impl RowSet {
         if i == 2 {
             return self.c;
         }
-        if i == 3 {
-            return self.d;
-        }
-        0
+        self.d
     }
 
     // With row j.
     fn with(self, j: usize) -> RowSet
         requires { ⌜ j < maxRows ⌝ }
-        ensures { λ r. ⌜ ((k : ℕ) → holds r k ≡ (eqb k j || holds self k)) ⌝ }
+        ensures { λ r. ⌜ ((k : ℕ) → k < maxRows → holds r k ≡ (eqb k j || holds self k)) ⌝ }
     {
         let new = bit(j % WORD_ROWS);
         let i = j / WORD_ROWS;
-        if i == 0 {
-            return RowSet {
-                a: self.a | new,
-                b: self.b,
-                c: self.c,
-                d: self.d,
-            };
-        }
-        if i == 1 {
-            return RowSet {
-                a: self.a,
-                b: self.b | new,
-                c: self.c,
-                d: self.d,
-            };
-        }
-        if i == 2 {
-            return RowSet {
-                a: self.a,
-                b: self.b,
-                c: self.c | new,
-                d: self.d,
-            };
-        }
         RowSet {
-            a: self.a,
-            b: self.b,
-            c: self.c,
-            d: self.d | new,
+            a: self.a | only(i, 0, new),
+            b: self.b | only(i, 1, new),
+            c: self.c | only(i, 2, new),
+            d: self.d | only(i, 3, new),
         }
     }
 
@@ -168,7 +149,7 @@ impl Kids {
     // With row j.
     fn with(self, s: &[u8], rows: usize, j: usize) -> Kids
         requires { ⌜ (Checked (now s) rows) × (j < rows) ⌝ }
-        ensures { λ r. ⌜ ((k : ℕ) → holds (r .set) k ≡ (eqb k j || holds (self .set) k)) × ((i : ℕ) → has (r .roles) i ≡ (eqb i (roleOf (now (s .entry)) j) || has (self .roles) i)) ⌝ }
+        ensures { λ r. ⌜ ((k : ℕ) → k < maxRows → holds (r .set) k ≡ (eqb k j || holds (self .set) k)) × ((i : ℕ) → has (r .roles) i ≡ (eqb i (roleOf (now (s .entry)) j) || has (self .roles) i)) ⌝ }
     {
         let set = self.set;
         let new = bit(wide(role(s, j)) as usize);

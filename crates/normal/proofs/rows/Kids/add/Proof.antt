@@ -75,7 +75,7 @@ loop-again c =
     let l = c .before .before .before .before .loop in
     let z = c .before .before .before .loop-test .taken in
     let w = c .before .before .with .ensures in
-    walk-next (now (a .s)) (a .rows) (a .c) (a .self) (l .j) (l .kids) (l .inv) (c .before .before .with .result) (c .wide2 .result) z (onward c) (w .0) (w .1)
+    walk-next (now (a .s)) (a .rows) (a .c) (a .self) (l .j) (l .kids) (l .inv) (c .before .before .with .result) (c .wide2 .result) z (onward c) (st .pre .0 .most) (w .0) (w .1)
 
 returns : tie.Need-returns Inv-loop μ-loop
 returns c =
