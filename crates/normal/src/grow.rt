@@ -301,7 +301,7 @@ fn graft_value(
         kind: KIND_FOR_ALL,
         role,
     };
-    graft(
+    let grown = graft(
         s,
         rows,
         limit,
@@ -313,7 +313,13 @@ fn graft_value(
         out,
         branch,
         edge,
-    )
+    );
+    let table = grown.table;
+    Branch {
+        table,
+        merged: grown.merged,
+        bottom: grown.bottom,
+    }
 }
 
 fn graft_exists(

@@ -41,9 +41,10 @@ impl Values {
     {
         let label = self.label;
         let kids = self.kids;
+        let hung = kids.add(s, rows, links, j);
         Values {
             label: join(s, rows, label, j),
-            kids: kids.add(s, rows, links, j),
+            kids: hung,
             first: j,
         }
     }

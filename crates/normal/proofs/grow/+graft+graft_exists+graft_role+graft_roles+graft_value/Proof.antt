@@ -734,11 +734,11 @@ graft-value-returns-2 :
     (t : ℕ) →
     graft-value-lts.Need-returns-2 (graft-below t, graft.Post) (graft-value-at t) graft-value.Post
 graft-value-returns-2 t c =
-    let st = c .before .before .before .before .before .before .before .before in
+    let st = c .before .before .before .before .before .before .before .before .before in
     let a = st .args in
     let pre = st .pre .1 in
-    let gr = c .before .before .graft in
-    grown-same (a .limit) (a .parent) (a .branch) (gr .result) (now (a .out)) _ _ _ (sym (value-one (now (a .s)) (a .rows) (a .depth) (a .role) (ofKind (now (a .s)) kindForAll (holds (a .set))) (a .values .first) (omega (arith, c .before .before .before .before .if1 .left)))) (gr .ensures (ofKind (now (a .s)) kindForAll (holds (a .set))) (pre .1 .0))
+    let gr = c .before .before .before .graft in
+    grown-same (a .limit) (a .parent) (a .branch) (gr .result) (now (a .out)) _ _ _ (sym (value-one (now (a .s)) (a .rows) (a .depth) (a .role) (ofKind (now (a .s)) kindForAll (holds (a .set))) (a .values .first) (omega (arith, c .before .before .before .before .before .if1 .left)))) (gr .ensures (ofKind (now (a .s)) kindForAll (holds (a .set))) (pre .1 .0))
 
 pub +graft+graft-exists+graft-role+graft-roles+graft-value-spec : {M : Type 1} → statement M
 +graft+graft-exists+graft-role+graft-roles+graft-value-spec =
