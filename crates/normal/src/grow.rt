@@ -293,8 +293,13 @@ fn graft_value(
     requires { ⌜ (Surveyed (now s) rows (now links) (now masks)) × ((Valued (now s) rows (ofKind (now s) kindForAll (holds set)) values) × ((Room limit branch (now out)) × (0 < branch .table .rows))) ⌝ }
     ensures { λ r. ⌜ Grown limit parent branch (now (out .entry)) (valuePartAt (now (s .entry)) rows depth role (ofKind (now (s .entry)) kindForAll (holds set)) (values .first)) r (now (out .exit)) ⌝ }
 {
+    let start = branch.table;
     if rows <= values.first {
-        return branch;
+        return Branch {
+            table: start,
+            merged: branch.merged,
+            bottom: branch.bottom,
+        };
     }
     let edge = Edge {
         parent,
@@ -348,7 +353,7 @@ fn graft_exists(
     let mut j = set.next(0, rows);
     while j < rows {
         if kind(s, j) == KIND_EXISTS {
-            grown = graft(
+            let more = graft(
                 s,
                 rows,
                 limit,
@@ -361,6 +366,12 @@ fn graft_exists(
                 grown,
                 edge,
             );
+            let table = more.table;
+            grown = Branch {
+                table,
+                merged: more.merged,
+                bottom: more.bottom,
+            };
             if limit < grown.merged {
                 return grown;
             }

@@ -350,13 +350,13 @@ graft-exists-returns : (t : ℕ) → graft-exists-lts.Need-returns (
   graft.Post,
 ) (graft-exists-at t) graft-exists.Post graft-exists-Inv-loop graft-exists-μ-loop
 graft-exists-returns t c =
-    let st = c .before .before .before .before .before .before .before .before .before .before .before .before .before in
+    let st = c .before .before .before .before .before .before .before .before .before .before .before .before .before .before in
     let a = st .args in
     let pre = st .pre .1 in
-    let l = c .before .before .before .before .before .before .before .before .before .loop in
-    let gr = c .before .before .before .before .graft in
-    let more = c .before .before .before .before .before .before .before .before .loop-test .taken in
-    turn-full (now (a .s)) (a .rows) (a .depth) (a .role) (a .set) (ofKind (now (a .s)) kindForAll (holds (a .set))) (a .limit) (a .parent) (a .branch) (now (a .out)) (l .j) more (l .grown) (l .out) (l .inv .0) (gr .result) _ (l .inv .1 more) (sym (c .before .before .before .before .before .before .before .kind .ensures) ∙ c .before .before .before .before .before .before .if1 .taken) (gr .ensures (ofKind (now (a .s)) kindForAll (holds (a .set))) (pre .1 .0)) (c .if2 .taken)
+    let l = c .before .before .before .before .before .before .before .before .before .before .loop in
+    let gr = c .before .before .before .before .before .graft in
+    let more = c .before .before .before .before .before .before .before .before .before .loop-test .taken in
+    turn-full (now (a .s)) (a .rows) (a .depth) (a .role) (a .set) (ofKind (now (a .s)) kindForAll (holds (a .set))) (a .limit) (a .parent) (a .branch) (now (a .out)) (l .j) more (l .grown) (l .out) (l .inv .0) (gr .result) _ (l .inv .1 more) (sym (c .before .before .before .before .before .before .before .before .kind .ensures) ∙ c .before .before .before .before .before .before .before .if1 .taken) (gr .ensures (ofKind (now (a .s)) kindForAll (holds (a .set))) (pre .1 .0)) (c .if2 .taken)
 
 graft-exists-add-next : (t : ℕ) → graft-exists-lts.Need-add-next (
   next-reads.Asked,
@@ -417,7 +417,7 @@ graft-exists-loop-again t c =
     let k = c .before .before .kind .ensures in
     let j = c .before .if1 in
     (⊎-elim
-    (λ w. turn-yes (now (a .s)) (a .rows) (a .depth) (a .role) (a .set) (ofKind (now (a .s)) kindForAll (holds (a .set))) (a .limit) (a .parent) (a .branch) (now (a .out)) (l .j) more (l .grown) (l .out) (l .inv .0) (w .2 .result) _ (l .inv .1 more) (sym k ∙ w .0 .taken) (w .2 .ensures (ofKind (now (a .s)) kindForAll (holds (a .set))) (pre .1 .0)) (c .next2 .result) (j .grown) (j .out) (c .next2 .ensures) (w .8) (w .7))
+    (λ w. turn-yes (now (a .s)) (a .rows) (a .depth) (a .role) (a .set) (ofKind (now (a .s)) kindForAll (holds (a .set))) (a .limit) (a .parent) (a .branch) (now (a .out)) (l .j) more (l .grown) (l .out) (l .inv .0) (w .2 .result) _ (l .inv .1 more) (sym k ∙ w .0 .taken) (w .2 .ensures (ofKind (now (a .s)) kindForAll (holds (a .set))) (pre .1 .0)) (c .next2 .result) (j .grown) (j .out) (c .next2 .ensures) (w .9) (w .8))
     (λ w. turn-no (now (a .s)) (a .rows) (a .depth) (a .role) (a .set) (ofKind (now (a .s)) kindForAll (holds (a .set))) (a .limit) (a .parent) (a .branch) (now (a .out)) (l .j) more (l .grown) (l .out) (l .inv .0) (c .next2 .result) (j .grown) (j .out) (c .next2 .ensures) (λ e. w .0 .left (k ∙ e)) (w .2) (w .1))
     (j .came), c .next2 .ensures .held)
 
@@ -707,7 +707,7 @@ graft-value-returns :
     (t : ℕ) →
     graft-value-lts.Need-returns (graft-below t, graft.Post) (graft-value-at t) graft-value.Post
 graft-value-returns t c =
-    let st = c .before .before .before .before in
+    let st = c .before .before .before .before .before in
     let a = st .args in
     let pre = st .pre .1 in
     grown-same (a .limit) (a .parent) (a .branch) (a .branch) (now (a .out)) (now (a .out)) _ _ (sym (value-none (now (a .s)) (a .rows) (a .depth) (a .role) (ofKind (now (a .s)) kindForAll (holds (a .set))) (a .values .first) (c .if1 .taken))) (grown-nil (a .limit) (a .parent) (a .branch) (now (a .out)) (pre .1 .1 .0))
@@ -717,7 +717,7 @@ graft-value-graft-requires : (t : ℕ) → graft-value-lts.Need-graft-requires (
   graft.Post,
 ) (graft-value-at t) graft-value.Post
 graft-value-graft-requires t c κs =
-    let st = c .before .before .before .before .before in
+    let st = c .before .before .before .before .before .before in
     let a = st .args in
     let pre = st .pre .1 in
     (omega (arith, st .pre .0), (pre .0, (pre .1 .0 .known, (omega (arith, c .before .if1 .left), (pre .1 .1 .0, code-later (a .branch .table .rows) forAll (pre .1 .1 .1))))))
@@ -734,7 +734,7 @@ graft-value-returns-2 :
     (t : ℕ) →
     graft-value-lts.Need-returns-2 (graft-below t, graft.Post) (graft-value-at t) graft-value.Post
 graft-value-returns-2 t c =
-    let st = c .before .before .before .before .before .before .before .before .before in
+    let st = c .before .before .before .before .before .before .before .before .before .before in
     let a = st .args in
     let pre = st .pre .1 in
     let gr = c .before .before .before .graft in
