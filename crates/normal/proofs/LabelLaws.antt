@@ -2,7 +2,6 @@
 --   filter-same    tests that agree give the same rows
 --   part-with      a part of the label of a set with row c is that of row c joined with that of the set: a union has no order and takes a row once
 --   part-joined    the same of what is equal to those parts
---   union-within   the union with a set that has all of the other's names
 --   label-with     so the label of a set, joined with that of row c, is the label of the set with row c
 --   known-with     the roles of what hangs from a set with row c
 --   valued-none    the values of no rows
@@ -27,9 +26,9 @@ use Rattle.ale.specs.Tree.{Label, emptyLabel}
 use Rattle.meaning.specs.Meaning.{pictureTable}
 use Rattle.picture.specs.View.{viewOf}
 use Rattle.table.proofs.Bools.{either}
-use Rattle.table.proofs.NameSets.{has-union, set-ext, subset-has}
+use Rattle.table.proofs.NameSets.{has-union, set-ext}
 use Rattle.table.specs.Fields.{impossibleOf, parentOf}
-use Rattle.table.specs.NameSet.{has, subset, union}
+use Rattle.table.specs.NameSet.{has, union}
 use Rattle.table.specs.Pick.{pick}
 use Rattle.normal.specs.declared.label.Label as code
 use Rattle.normal.specs.declared.rows.Kids.{Kids}
@@ -89,10 +88,6 @@ union-swap a b c =
 union-again : (a b : ℕ) → union a (union a b) ≡ union a b
 union-again a b =
     set-ext (union a (union a b)) (union a b) (λ n. rw (has-union a (union a b) n, has-union a b n) (or-again (has a n) (has b n)))
-
-pub union-within : (a b : ℕ) → subset a b ≡ true → union a b ≡ b
-union-within a b h =
-    set-ext (union a b) b (λ n. has-union a b n ∙ by-test (has a n) (λ e. rw (e, subset-has a b h n e)) (λ e. rw e))
 
 pub label-with : (s : List ℕ) (rows : ℕ) (q : ℕ → Bool) (values : Values) (c : ℕ) (r : code.Label) → c < rows →
     Valued s rows q values → Joined s c (values .label) r →

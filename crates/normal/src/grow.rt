@@ -373,12 +373,21 @@ fn graft_exists(
                 bottom: more.bottom,
             };
             if limit < grown.merged {
-                return grown;
+                return Branch {
+                    table,
+                    merged: grown.merged,
+                    bottom: grown.bottom,
+                };
             }
         }
         j = set.next(j + 1, rows);
     }
-    grown
+    let table = grown.table;
+    Branch {
+        table,
+        merged: grown.merged,
+        bottom: grown.bottom,
+    }
 }
 
 // Builds the normal table of a picture in a scratch table, from its first byte on.

@@ -8,7 +8,7 @@ ghost use mathlib.Core.Bool.{_&&_, _||_, false};
 ghost use Prim.Native.Nat.{ℕ, _<_};
 ghost use lib.Dec.{eqb};
 ghost use Rattle.table.specs.Fields.{impossibleOf};
-ghost use Rattle.table.specs.NameSet.{none, overlap, setOf, union};
+ghost use Rattle.table.specs.NameSet.{none, overlap, setOf};
 ghost use Rattle.normal.specs.Rows.{Checked};
 ghost use Rattle.normal.specs.Labels.{Joined};
 
@@ -64,17 +64,6 @@ fn marked(s: &[u8], rows: usize, bottom: u64, j: usize) -> u64
     bottom
 }
 
-// The union of a set with a row's. That set is tested by itself first: it is then read as one word.
-fn with(names: Names, more: Names) -> Names
-    ensures { λ r. ⌜ setOf r ≡ union (setOf more) (setOf names) ⌝ }
-{
-    if more.subset(names) {
-        names
-    } else {
-        more.union(names)
-    }
-}
-
 // The label with that of row j.
 pub fn join(s: &[u8], rows: usize, label: Label, j: usize) -> Label
     requires { ⌜ (Checked (now s) rows) × (j < rows) ⌝ }
@@ -84,8 +73,8 @@ pub fn join(s: &[u8], rows: usize, label: Label, j: usize) -> Label
     let more_wanted = wanted(s, j);
     let more_excluded = excluded(s, j);
     Label {
-        wanted: with(label.wanted, more_wanted),
-        excluded: with(label.excluded, more_excluded),
+        wanted: more_wanted.union(label.wanted),
+        excluded: more_excluded.union(label.excluded),
         bottom,
     }
 }

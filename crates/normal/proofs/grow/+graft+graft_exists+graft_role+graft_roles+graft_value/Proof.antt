@@ -429,7 +429,7 @@ graft-exists-same-length-2 : (t : ℕ) → graft-exists-lts.Need-same-length-2 (
   graft-below t,
   graft.Post,
 ) (graft-exists-at t) graft-exists.Post graft-exists-Inv-loop graft-exists-μ-loop
-graft-exists-same-length-2 t c = c .before .loop .inv .0 .same
+graft-exists-same-length-2 t c = c .before .before .loop .inv .0 .same
 
 graft-exists-returns-2 : (t : ℕ) → graft-exists-lts.Need-returns-2 (
   next-reads.Asked,
@@ -440,11 +440,11 @@ graft-exists-returns-2 : (t : ℕ) → graft-exists-lts.Need-returns-2 (
   graft.Post,
 ) (graft-exists-at t) graft-exists.Post graft-exists-Inv-loop graft-exists-μ-loop
 graft-exists-returns-2 t c =
-    let st = c .before .before .before .before .before in
+    let st = c .before .before .before .before .before .before in
     let a = st .args in
     let pre = st .pre .1 in
-    let l = c .before .loop in
-    turn-end (now (a .s)) (a .rows) (a .depth) (a .role) (a .set) (ofKind (now (a .s)) kindForAll (holds (a .set))) (a .limit) (a .parent) (a .branch) (now (a .out)) (l .j) (l .grown) (l .out) (c .loop-test .left) (l .inv .0)
+    let l = c .before .before .loop in
+    turn-end (now (a .s)) (a .rows) (a .depth) (a .role) (a .set) (ofKind (now (a .s)) kindForAll (holds (a .set))) (a .limit) (a .parent) (a .branch) (now (a .out)) (l .j) (l .grown) (l .out) (c .before .loop-test .left) (l .inv .0)
 
 graft-role-of-role-requires : (t : ℕ) → graft-role-lts.Need-of-role-requires (
   of-role-reads.Asked,

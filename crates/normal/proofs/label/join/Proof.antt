@@ -1,9 +1,9 @@
 -- Each part of the label is joined with that of the row; the row's sets were read from eight bytes.
 use Prim.Native.Nat.{_<_, _^_}
 use mathlib.Core.Path.{subst, ap, _∙_}
+use borrow.Author.Needs.{needs}
 use Rattle.table.specs.Layout.{nameCount}
 use Rattle.table.specs.NameSet.{setOf, union}
-use borrow.Author.Needs.{needs}
 use Rattle.normal.proofs.label.join.Statement.{statement}
 use Rattle.normal.proofs.label.join.Tie as tie
 
@@ -16,11 +16,11 @@ wanted-requires c κs = search needs
 excluded-requires : tie.Need-excluded-requires
 excluded-requires c κs = search needs
 
-with-requires : tie.Need-with-requires
-with-requires c κs = search needs
+union-requires : tie.Need-union-requires
+union-requires c κs = search needs
 
-with-requires-2 : tie.Need-with-requires-2
-with-requires-2 c κs = search needs
+union-requires-2 : tie.Need-union-requires-2
+union-requires-2 c κs = search needs
 
 returns : tie.Need-returns
 returns c =
@@ -28,8 +28,8 @@ returns c =
     let wants = c .before .before .before .wanted .ensures in
     let excludes = c .before .before .excluded .ensures in
     record {
-      wanted-joins = c .before .with .ensures ∙ ap (λ w. union w (setOf (label .wanted))) (wants .0);
-      excluded-joins = c .with2 .ensures ∙ ap (λ w. union w (setOf (label .excluded))) (excludes .0);
+      wanted-joins = c .before .union .ensures ∙ ap (λ w. union w (setOf (label .wanted))) (wants .0);
+      excluded-joins = c .union2 .ensures ∙ ap (λ w. union w (setOf (label .excluded))) (excludes .0);
       bottom-joins = c .before .before .before .before .marked .ensures;
       wanted-fits = subst (λ w. w < 2 ^ nameCount) (wants .0) (wants .1);
       excluded-fits = subst (λ w. w < 2 ^ nameCount) (excludes .0) (excludes .1);
@@ -42,6 +42,6 @@ join-spec =
     marked-requires
     wanted-requires
     excluded-requires
-    with-requires
-    with-requires-2
+    union-requires
+    union-requires-2
     returns)
