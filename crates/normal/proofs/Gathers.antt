@@ -1,21 +1,18 @@
 -- Laws of the walk over the rows of a set that collects the values of those that pass a test.
---   kind-yes, kind-no, kind-none   the rows of a set that are of a kind
 --   Gathered      those of the rows before j have been collected
 --   gather-none   none, where no row before j passes
 --   gather-yes    row j passes, and none from it on before n
---   gather-no     row j does not
 --   gather-done   all have been
 use Prim.Native.Nat.{_+_, _<_, _≤_, ℕ}
-use borrow.Author.Tests.{eq-eqb, eqb-false, eqb-true, lt-ltb, ltb-false, ltb-true, ne-eqb}
+use borrow.Author.Tests.{eqb-false, eqb-true, lt-ltb, ltb-false, ltb-true}
 use lib.Dec.{eqb, ltb}
 use mathlib.Core.Bool.{Bool, _&&_, _||_, false, true}
 use mathlib.Core.List.{List}
 use mathlib.Core.Path.{_∙_, _≡_, ap, refl, subst, sym}
 use native.Mathlib.Omega.{arith}
-use Rattle.table.specs.Fields.{kindOf}
 use Rattle.normal.specs.declared.values.Values.{Values}
 use Rattle.normal.specs.Labels.{Added, Valued}
-use Rattle.normal.specs.Rows.{Checked, Found, also, ofKind}
+use Rattle.normal.specs.Rows.{Checked, Found, also}
 use Rattle.normal.proofs.LabelLaws.{valued-same, valued-with}
 use Rattle.normal.proofs.Tests.{by-test}
 
@@ -32,19 +29,6 @@ more p j k yea =
     by-test (eqb k j)
     (λ e. let same = eqb-true k j e in rw (e, lt-ltb k (j + 1) (omega arith), ap p same ∙ yea))
     (λ e. let other = eqb-false k j e in rw e (skip p j (j + 1) k (omega arith) (λ a b. absurd (omega (arith, other)))))
-
-pub kind-none : (s : List ℕ) (kind : ℕ) (p : ℕ → Bool) (k : ℕ) → p k ≡ false → ofKind s kind p k ≡ false
-kind-none s kind p k e = rw e (never (eqb (kindOf s k) kind))
-  where
-    never : (a : Bool) → (a && false) ≡ false
-    never true = refl
-    never false = refl
-
-pub kind-yes : (s : List ℕ) (kind : ℕ) (p : ℕ → Bool) (k : ℕ) → kindOf s k ≡ kind → p k ≡ true → ofKind s kind p k ≡ true
-kind-yes s kind p k is e = rw (eq-eqb (kindOf s k) kind is, e)
-
-pub kind-no : (s : List ℕ) (kind : ℕ) (p : ℕ → Bool) (k : ℕ) → (kindOf s k ≡ kind → ⊥) → ofKind s kind p k ≡ false
-kind-no s kind p k other = rw (ne-eqb (kindOf s k) kind other)
 
 pub record Gathered (s : List ℕ) (rows : ℕ) (p : ℕ → Bool) (j : ℕ) (values : Values) : Type 0 where
   pub valued : Valued s rows (λ k. ltb k j && p k) values
@@ -73,20 +57,6 @@ module _ (s : List ℕ) (rows : ℕ) (p : ℕ → Bool) (checked : Checked s row
           found = λ _. ap p (added .first-is) ∙ yea;
           none = λ out. absurd (omega (arith, added .first-is));
         }
-
-    pub gather-no : p j ≡ false → Gathered s rows p n v
-    gather-no nay =
-        record {
-          valued = valued-same s rows (λ k. ltb k j && p k) (λ k. ltb k n && p k) v checked
-              (λ k b. skip p j n k (omega arith) (λ x y. later k b x y)) (g .valued);
-          found = g .found;
-          none = λ out k b y. by-test (ltb k j) (λ e. g .none out k b (ltb-true k j e)) (λ e. later k b (ltb-false k j e) y);
-        }
-      where
-        later : (k : ℕ) → k < rows → j ≤ k → k < n → p k ≡ false
-        later k b x y =
-            by-test (eqb k j) (λ e. ap p (eqb-true k j e) ∙ nay)
-            (λ e. let other = eqb-false k j e in fails k (omega (arith, other)) y b)
 
   pub gather-done : (j : ℕ) (v : Values) → rows ≤ j → Gathered s rows p j v → (Found p rows (v .first)) × (Valued s rows p v)
   gather-done j v last g = (

@@ -114,16 +114,21 @@ valued-none s rows v label empty =
       label-is = subst (λ t. LabelIs (v .label) (labelOfSet pictureSignature (pictureTable s) t))
           (sym (filterFrom-none (λ j. false) 0 rows (λ j a b. tt))) label;
       kids-are = λ j l. empty j ∙ sym (none-hangs s j);
-      known = record { known = λ j l h. absurd (false≢true (sym (empty j) ∙ h)) };
+      known = record { rootless = empty 0; known = λ j l h. absurd (false≢true (sym (empty j) ∙ h)) };
     }
 
 with-hangs : (s : List ℕ) (q : ℕ → Bool) (c k : ℕ) → (hangs s (λ i. eqb i c) k || hangs s q k) ≡ hangs s (also c q) k
 unfolding hangs
 with-hangs s q c k = by-test (eqb k 0) (λ e. rw e) (λ e. rw e)
 
-pub known-with : (s : List ℕ) (rows c : ℕ) (kids r : Kids) → Known s rows kids → Hung s rows c kids r → Known s rows r
-known-with s rows c kids r known hung =
+root-hangs : (s : List ℕ) (q : ℕ → Bool) → hangs s q 0 ≡ false
+unfolding hangs
+root-hangs s q = refl
+
+pub known-with : (s : List ℕ) (rows c : ℕ) (kids r : Kids) → c < rows → Known s rows kids → Hung s rows c kids r → Known s rows r
+known-with s rows c kids r l known hung =
     record {
+      rootless = hung .set-is 0 (omega arith) ∙ ap (λ (b : Bool). b || holds (kids .set) 0) (root-hangs s (λ i. eqb i c)) ∙ known .rootless;
       known = λ k b h.
           ⊎-elim (λ e. hung .roles-met k b e) (λ e. hung .roles-kept _ (known .known k b e))
           (either (hangs s (λ i. eqb i c) k) (holds (kids .set) k) (sym (hung .set-is k b) ∙ h));
@@ -137,7 +142,7 @@ valued-with s rows q values c r l valued added =
       label-is = label-with s rows q values c (r .label) l valued (added .label-joins);
       kids-are = λ k b.
           hung .set-is k b ∙ ap (λ (t : Bool). hangs s (λ i. eqb i c) k || t) (valued .kids-are k b) ∙ with-hangs s q c k;
-      known = known-with s rows c (values .kids) (r .kids) (valued .known) hung;
+      known = known-with s rows c (values .kids) (r .kids) l (valued .known) hung;
     }
 
 same-hangs : (s : List ℕ) (rows : ℕ) (q q′ : ℕ → Bool) → Checked s rows → ((j : ℕ) → j < rows → q j ≡ q′ j) → (j : ℕ) → j < rows → hangs s q j ≡ hangs s q′ j

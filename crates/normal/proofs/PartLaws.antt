@@ -1,5 +1,5 @@
 -- The merged rows that the code's sets give are those of the theory, kind by role.
---   parts-same, successors-same              sets of the same rows give the same merged rows
+--   successors-same                          sets of the same rows give the same merged rows
 --   merged-node                              the tree of a set: its label, and the successors of what hangs from it
 --   successors-leaf, successors-roles        none at depth 0; role by role
 --   roles-none, roles-next, roles-skip, roles-more   role after role; roles without successors are skipped
@@ -101,7 +101,7 @@ module _ (s : List ℕ) (rows : ℕ) (p p′ : ℕ → Bool) (same : (j : ℕ) �
   kind-same kind n l =
       filter-same (ofKind s kind p) (ofKind s kind p′) n (λ j b. ap (λ (t : Bool). eqb (kindOf s j) kind && t) (same j (omega arith)))
 
-  pub parts-same : (depth role : ℕ) → partsAt s rows depth role p ≡ partsAt s rows depth role p′
+  parts-same : (depth role : ℕ) → partsAt s rows depth role p ≡ partsAt s rows depth role p′
   unfolding partsAt existsPartAt mergedAt
   parts-same depth role =
       ap (λ v. append pictureSignature (valuePart pictureSignature role h v) (some p)) (kind-same kindForAll rows (omega arith))
@@ -276,24 +276,28 @@ absorbed : (q : ℕ → Bool) (first j : ℕ) → q first ≡ true → (b : Bool
 absorbed q first j h true e = sym h ∙ ap q (sym (eqb-true j first e))
 absorbed q first j h false e = refl
 
-module _ (s : List ℕ) (rows depth role : ℕ) (p : ℕ → Bool) (first : ℕ) (found : Found (ofKind s kindForAll p) rows first) where
-  abbrev values : ℕ → Bool
-  values j = ofKind s kindForAll p j
-
+module _ (s : List ℕ) (rows depth role : ℕ) (all some : ℕ → Bool) (first : ℕ) (found : Found all rows first) where
   abbrev h : List ℕ → Tree pictureSignature
   h v = merged pictureSignature (pictureTable s) depth v
 
-  value-part : (b : Bool) → ltb first rows ≡ b → pick b (cons forAll role (h (filterBelow (also first values) rows)) nil) nil ≡ valuePart pictureSignature role h (filterBelow values rows)
+  value-part : (b : Bool) → ltb first rows ≡ b → pick b (cons forAll role (h (filterBelow (also first all) rows)) nil) nil ≡ valuePart pictureSignature role h (filterBelow all rows)
   value-part true e =
       let l = ltb-true first rows e in
-      ap (λ t. cons forAll role (h t) nil) (filter-same (also first values) values rows (λ i b. absorbed values first i (found .found l) (eqb i first) refl))
-      ∙ sym (value-some role h (filterBelow values rows) first (filterBelow-in values rows first (true-is (values first) (found .found l)) l))
+      ap (λ t. cons forAll role (h t) nil) (filter-same (also first all) all rows (λ i b. absorbed all first i (found .found l) (eqb i first) refl))
+      ∙ sym (value-some role h (filterBelow all rows) first (filterBelow-in all rows first (true-is (all first) (found .found l)) l))
   value-part false e =
-      ap (λ v. valuePart pictureSignature role h v) (sym (filter-none values rows (λ j l. found .none (ltb-false first rows e) j l)))
+      ap (λ v. valuePart pictureSignature role h v) (sym (filter-none all rows (λ j l. found .none (ltb-false first rows e) j l)))
 
-  pub role-parts : append pictureSignature (valuePartAt s rows depth role (ofKind s kindForAll p) first) (existsPartAt s rows depth role p (ofKind s kindForAll p) rows) ≡ partsAt s rows depth role p
-  unfolding valuePartAt partsAt mergedAt
-  role-parts = ap (λ v. append pictureSignature v (existsPartAt s rows depth role p (ofKind s kindForAll p) rows)) (value-part (ltb first rows) refl)
+  pub role-parts : (p : ℕ → Bool) → ((j : ℕ) → j < rows → all j ≡ ofKind s kindForAll p j) → ((j : ℕ) → j < rows → some j ≡ ofKind s kindExists p j) →
+      append pictureSignature (valuePartAt s rows depth role all first) (existsPartAt s rows depth role some all rows) ≡ partsAt s rows depth role p
+  unfolding valuePartAt partsAt existsPartAt mergedAt
+  role-parts p alls somes =
+      ap (λ v. append pictureSignature v (existsPartAt s rows depth role some all rows)) (value-part (ltb first rows) refl)
+      ∙ ap (λ v. append pictureSignature (valuePart pictureSignature role h v) (existsPartAt s rows depth role some all rows)) (filter-same all (ofKind s kindForAll p) rows alls)
+      ∙ ap (append pictureSignature (valuePart pictureSignature role h (filterBelow (ofKind s kindForAll p) rows)))
+      (exists-same role (λ j. h (filterBelow (also j all) rows)) (λ j. h (filterBelow (also j (ofKind s kindForAll p)) rows)) (filterBelow some rows)
+      (λ j. ap h (filter-same (also j all) (also j (ofKind s kindForAll p)) rows (λ i b. ap (λ (t : Bool). eqb i j || t) (alls i b))))
+      ∙ ap (existsParts pictureSignature role (λ j. h (filterBelow (also j (ofKind s kindForAll p)) rows))) (filter-same some (ofKind s kindExists p) rows somes))
 
 -- ---- row by row
 
@@ -306,7 +310,7 @@ module _ (s : List ℕ) (rows depth role : ℕ) (p q : ℕ → Bool) where
   upto n = existsPartAt s rows depth role p q n
 
   abbrev test : ℕ → Bool
-  test j = ofKind s kindExists p j
+  test j = p j
 
   abbrev each : List ℕ → Forest pictureSignature
   each v = existsParts pictureSignature role (λ i. mergedAt s rows depth (also i q)) v

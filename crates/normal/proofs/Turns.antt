@@ -3,15 +3,14 @@
 --   role-turn    the successors of one role more
 -- One turn of the loop over the some-successors of a role: row j is the next of the set, n the one after it.
 --   turn-start   no row of the set stands before j
---   turn-yes     row j is a some-successor; turn-no: it is not; turn-full: it is the last that the limit lets in
+--   turn-on      row j is one of them; turn-full: the last that the limit lets in
 --   turn-end     none is left
 use Prim.Native.Nat.{_+_, _<_, _≤_, min, ℕ}
 use mathlib.Core.Bool.{Bool, true}
 use mathlib.Core.List.{List}
 use mathlib.Core.Path.{_≡_, ap, refl, sym, _∙_}
 use native.Mathlib.Omega.{arith}
-use Rattle.table.specs.Fields.{kindOf}
-use Rattle.table.specs.Layout.{kindExists, roles}
+use Rattle.table.specs.Layout.{roles}
 use Rattle.ale.specs.PictureSignature.{pictureSignature}
 use Rattle.ale.specs.Tree.{Forest, cons, exists, nil}
 use Rattle.normal.specs.Grown.{Grown, Room}
@@ -19,7 +18,6 @@ use Rattle.normal.specs.Parts.{existsPartAt, mergedAt, partsAt, rolesAt}
 use Rattle.normal.specs.Rows.{Next, Unused, also, holds, ofRole}
 use Rattle.normal.specs.declared.grow.Branch.{Branch}
 use Rattle.normal.specs.declared.rows.RowSet.{RowSet}
-use Rattle.normal.proofs.Gathers.{kind-no, kind-none, kind-yes}
 use Rattle.normal.proofs.Growth.{grown-append, grown-full, grown-nil, grown-same}
 use Rattle.normal.proofs.PartLaws.{exists-more, exists-next, exists-none, exists-skip, roles-next, roles-skip}
 
@@ -45,7 +43,7 @@ module _ (s : List ℕ) (rows depth role : ℕ) (set : RowSet) (q : ℕ → Bool
   on from n l next =
       let o = next .onward in
       exists-skip s rows depth role (holds set) q from (min n rows) (omega arith)
-      (λ j x y. kind-none s kindExists (holds set) j (next .between j x (omega arith) (omega arith)))
+      (λ j x y. next .between j x (omega arith) (omega arith))
 
   pub turn-start : (j : ℕ) → Next set 0 rows j → Room limit b out → Grown limit parent b out (upto (min j rows)) b out
   turn-start j next room =
@@ -58,23 +56,14 @@ module _ (s : List ℕ) (rows depth role : ℕ) (set : RowSet) (q : ℕ → Bool
     here : Grown limit parent b out (upto j) m mid
     here = grown-same limit parent b m out mid (upto (min j rows)) (upto j) (ap upto (omega arith)) p
 
-    pub turn-no : (n : ℕ) (r : Branch) (end : List ℕ) → Next set (j + 1) rows n → (kindOf s j ≡ kindExists → ⊥) → r ≡ m → end ≡ mid → Grown limit parent b out (upto (min n rows)) r end
-    turn-no n r end next other er ee =
-        rw (er, ee)
-        (grown-same limit parent b m out mid (upto j) (upto (min n rows))
-        (exists-skip s rows depth role (holds set) q j (j + 1) (omega arith)
-        (λ k x y. let same : k ≡ j = omega arith in kind-no s kindExists (holds set) k (λ e. other (ap (kindOf s) (sym same) ∙ e)))
-        ∙ on (j + 1) n (omega arith) next) here)
-
-    module _ (r : Branch) (end : List ℕ) (held : holds set j ≡ true) (is : kindOf s j ≡ kindExists) (g : Grown limit parent m mid (one j) r end) where
+    module _ (r : Branch) (end : List ℕ) (held : holds set j ≡ true) (g : Grown limit parent m mid (one j) r end) where
       next : Grown limit parent b out (upto (j + 1)) r end
       next =
-          grown-same limit parent b r out end _ (upto (j + 1)) (exists-next s rows depth role (holds set) q j (kind-yes s kindExists (holds set) j is held))
+          grown-same limit parent b r out end _ (upto (j + 1)) (exists-next s rows depth role (holds set) q j held)
           (grown-append limit parent b m r out mid end (upto j) (one j) here g)
 
-      pub turn-yes : (n : ℕ) (r′ : Branch) (end′ : List ℕ) → Next set (j + 1) rows n → r′ ≡ r → end′ ≡ end → Grown limit parent b out (upto (min n rows)) r′ end′
-      turn-yes n r′ end′ nx er ee =
-          rw (er, ee) (grown-same limit parent b r out end (upto (j + 1)) (upto (min n rows)) (on (j + 1) n (omega arith) nx) next)
+      pub turn-on : (n : ℕ) → Next set (j + 1) rows n → Grown limit parent b out (upto (min n rows)) r end
+      turn-on n nx = grown-same limit parent b r out end (upto (j + 1)) (upto (min n rows)) (on (j + 1) n (omega arith) nx) next
 
       pub turn-full : limit < r .merged → Grown limit parent b out (upto rows) r end
       turn-full over = grown-full limit parent b r out end (upto (j + 1)) (upto rows) next over (exists-more s rows depth role (holds set) q (j + 1) rows (omega arith))

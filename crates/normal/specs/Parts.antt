@@ -1,7 +1,7 @@
 -- The merged rows that each function of the writer makes.
 --   mergedAt       the merged tree of a set
 --   valuePartAt    the all-successor for A = q, if A is not empty
---   existsPartAt   the some-successors below row n among those that hang, p, each standing for its row with A = q
+--   existsPartAt   the some-successors p below row n, each standing for its row with A = q
 --   partsAt        those of one role, where p are those that hang by it
 --   rolesAt        those of the roles below n
 --   successorsAt   those of all roles, down to a depth
@@ -27,13 +27,13 @@ module _ (s : List ℕ) (rows depth : ℕ) where
   valuePartAt role q first = pick (ltb first rows) (cons forAll role (mergedAt (also first q)) nil) nil
 
   unfoldable pub existsPartAt : ℕ → (ℕ → Bool) → (ℕ → Bool) → ℕ → Forest pictureSignature
-  existsPartAt role p q n = existsParts pictureSignature role (λ j. mergedAt (also j q)) (filterBelow (ofKind s kindExists p) n)
+  existsPartAt role p q n = existsParts pictureSignature role (λ j. mergedAt (also j q)) (filterBelow p n)
 
   unfoldable pub partsAt : ℕ → (ℕ → Bool) → Forest pictureSignature
   partsAt role p =
       append pictureSignature
       (valuePart pictureSignature role (λ t. merged pictureSignature (pictureTable s) depth t) (filterBelow (ofKind s kindForAll p) rows))
-      (existsPartAt role p (ofKind s kindForAll p) rows)
+      (existsPartAt role (ofKind s kindExists p) (ofKind s kindForAll p) rows)
 
   unfoldable pub rolesAt : (ℕ → Bool) → ℕ → Forest pictureSignature
   rolesAt p n = byRole pictureSignature (λ r. partsAt r (ofRole s r p)) n

@@ -7,9 +7,9 @@
 --   Next                   the lowest row of such a set from one on
 --   Zeros                  a table of zeros
 --   Nearest, Linked        the lowest row from one on that hangs from row c; the tables of them
---   Masked, Surveyed       the table of the rows of each role; the picture with these tables
+--   Masked, Surveyed       the table of the rows of each role and kind; the picture with these tables
 --   Hung                   what hangs from a set with row c, and its roles
---   Known                  the roles that the code has of such rows
+--   Known                  row 0 hangs from none, and the code has the roles of those that hang
 --   Unused                 a set has no row by a role from one to another
 --   Found                  a row that passes a test, or the number of rows if there is none
 use Prim.Native.Nat.{_*_, _+_, _/_, _%_, _<_, _≤_, ℕ}
@@ -73,7 +73,8 @@ pub record Linked (s : List ℕ) (rows : ℕ) (links : List ℕ) : Type 0 where
   pub later : (j : ℕ) → (j ≡ 0 → ⊥) → j < rows → Nearest s rows (parentOf s j) (j + 1) (getD links (maxRows + j) 0)
 
 pub record Masked (s : List ℕ) (rows : ℕ) (masks : List ℕ) : Type 0 where
-  pub masked : (j role : ℕ) → j < rows → role < roles → has (getD masks (4 * role + j / 64) 0) (j % 64) ≡ eqb (roleOf s j) role
+  pub masked : (j role kind : ℕ) → j < rows → role < roles → kind < 2 →
+      has (getD masks (4 * (2 * role + kind) + j / 64) 0) (j % 64) ≡ (eqb (roleOf s j) role && eqb (kindOf s j % 2) kind)
 
 pub record Surveyed (s : List ℕ) (rows : ℕ) (links masks : List ℕ) : Type 0 where
   pub checked : Checked s rows
@@ -86,6 +87,7 @@ pub record Hung (s : List ℕ) (rows c : ℕ) (kids r : Kids) : Type 0 where
   pub roles-met : (k : ℕ) → k < rows → hangs s (λ i. eqb i c) k ≡ true → has (r .roles) (roleOf s k) ≡ true
 
 pub record Known (s : List ℕ) (rows : ℕ) (kids : Kids) : Type 0 where
+  pub rootless : holds (kids .set) 0 ≡ false
   pub known : (j : ℕ) → j < rows → holds (kids .set) j ≡ true → has (kids .roles) (roleOf s j) ≡ true
 
 pub record Unused (s : List ℕ) (rows : ℕ) (p : ℕ → Bool) (least to : ℕ) : Type 0 where

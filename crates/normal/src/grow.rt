@@ -17,9 +17,8 @@ use table::layout::KIND_ROOT;
 use table::layout::Limits;
 use table::names::Names;
 use table::row::Row;
-use table::row::kind;
 ghost use mathlib.Core.Path.{_≡_};
-ghost use mathlib.Core.Bool.{Bool, _||_, not};
+ghost use mathlib.Core.Bool.{Bool, _||_, false, not};
 ghost use Prim.Native.Nat.{ℕ, _+_, _≤_, _<_};
 ghost use lib.Dec.{eqb};
 ghost use lib.ListN.{length};
@@ -29,7 +28,7 @@ ghost use Rattle.ale.specs.PictureSignature.{pictureSignature};
 ghost use Rattle.ale.specs.Tree.{cons, nil};
 ghost use Rattle.meaning.specs.File.{codeAt};
 ghost use Rattle.meaning.specs.Meaning.{kindAt};
-ghost use Rattle.normal.specs.Rows.{Checked, Known, Surveyed, also, holds, ofKind, ofRole};
+ghost use Rattle.normal.specs.Rows.{Checked, Known, Surveyed, also, holds, ofRole};
 ghost use Rattle.normal.specs.Labels.{Valued};
 ghost use Rattle.normal.specs.Parts.{existsPartAt, mergedAt, partsAt, successorsAt, valuePartAt};
 ghost use Rattle.normal.specs.Built.{Built};
@@ -241,18 +240,19 @@ fn graft_role(
     parent: usize,
     role: u8,
 ) -> Branch
-    requires { ⌜ (Surveyed (now s) rows (now links) (now masks)) × ((role < roles) × ((Room limit branch (now out)) × (0 < branch .table .rows))) ⌝ }
+    requires { ⌜ (Surveyed (now s) rows (now links) (now masks)) × (((role < roles) × (holds kids 0 ≡ false)) × ((Room limit branch (now out)) × (0 < branch .table .rows))) ⌝ }
     ensures { λ r. ⌜ Grown limit parent branch (now (out .entry)) (partsAt (now (s .entry)) rows depth role (ofRole (now (s .entry)) role (holds kids))) r (now (out .exit)) ⌝ }
 {
-    let set = kids.of_role(masks, role);
-    let values = gather(s, rows, links, set);
+    let all = kids.of_edge(masks, KIND_FOR_ALL, role);
+    let some = kids.of_edge(masks, KIND_EXISTS, role);
+    let values = gather(s, rows, links, all);
     let grown = graft_value(
         s,
         rows,
         limit,
         links,
         masks,
-        set,
+        all,
         values,
         depth,
         out,
@@ -266,7 +266,8 @@ fn graft_role(
         limit,
         links,
         masks,
-        set,
+        all,
+        some,
         values,
         depth,
         out,
@@ -282,7 +283,7 @@ fn graft_value(
     limit: usize,
     links: &[u8; LINKS],
     masks: &[u64; MASKS],
-    set: RowSet,
+    all: RowSet,
     values: Values,
     depth: usize,
     out: &mut [u8],
@@ -290,8 +291,8 @@ fn graft_value(
     parent: usize,
     role: u8,
 ) -> Branch
-    requires { ⌜ (Surveyed (now s) rows (now links) (now masks)) × ((Valued (now s) rows (ofKind (now s) kindForAll (holds set)) values) × ((Room limit branch (now out)) × (0 < branch .table .rows))) ⌝ }
-    ensures { λ r. ⌜ Grown limit parent branch (now (out .entry)) (valuePartAt (now (s .entry)) rows depth role (ofKind (now (s .entry)) kindForAll (holds set)) (values .first)) r (now (out .exit)) ⌝ }
+    requires { ⌜ (Surveyed (now s) rows (now links) (now masks)) × ((Valued (now s) rows (holds all) values) × ((Room limit branch (now out)) × (0 < branch .table .rows))) ⌝ }
+    ensures { λ r. ⌜ Grown limit parent branch (now (out .entry)) (valuePartAt (now (s .entry)) rows depth role (holds all) (values .first)) r (now (out .exit)) ⌝ }
 {
     let start = branch.table;
     if rows <= values.first {
@@ -333,7 +334,8 @@ fn graft_exists(
     limit: usize,
     links: &[u8; LINKS],
     masks: &[u64; MASKS],
-    set: RowSet,
+    all: RowSet,
+    some: RowSet,
     values: Values,
     depth: usize,
     out: &mut [u8],
@@ -341,8 +343,8 @@ fn graft_exists(
     parent: usize,
     role: u8,
 ) -> Branch
-    requires { ⌜ (Surveyed (now s) rows (now links) (now masks)) × ((Valued (now s) rows (ofKind (now s) kindForAll (holds set)) values) × ((Room limit branch (now out)) × (0 < branch .table .rows))) ⌝ }
-    ensures { λ r. ⌜ Grown limit parent branch (now (out .entry)) (existsPartAt (now (s .entry)) rows depth role (holds set) (ofKind (now (s .entry)) kindForAll (holds set)) rows) r (now (out .exit)) ⌝ }
+    requires { ⌜ (Surveyed (now s) rows (now links) (now masks)) × ((Valued (now s) rows (holds all) values) × ((Room limit branch (now out)) × (0 < branch .table .rows))) ⌝ }
+    ensures { λ r. ⌜ Grown limit parent branch (now (out .entry)) (existsPartAt (now (s .entry)) rows depth role (holds some) (holds all) rows) r (now (out .exit)) ⌝ }
 {
     let edge = Edge {
         parent,
@@ -350,37 +352,35 @@ fn graft_exists(
         role,
     };
     let mut grown = branch;
-    let mut j = set.next(0, rows);
+    let mut j = some.next(0, rows);
     while j < rows {
-        if kind(s, j) == KIND_EXISTS {
-            let more = graft(
-                s,
-                rows,
-                limit,
-                links,
-                masks,
-                values,
-                j,
-                depth,
-                out,
-                grown,
-                edge,
-            );
-            let table = more.table;
-            grown = Branch {
+        let more = graft(
+            s,
+            rows,
+            limit,
+            links,
+            masks,
+            values,
+            j,
+            depth,
+            out,
+            grown,
+            edge,
+        );
+        let table = more.table;
+        grown = Branch {
+            table,
+            merged: more.merged,
+            bottom: more.bottom,
+        };
+        if limit < more.merged {
+            return Branch {
                 table,
                 merged: more.merged,
                 bottom: more.bottom,
             };
-            if limit < grown.merged {
-                return Branch {
-                    table,
-                    merged: grown.merged,
-                    bottom: grown.bottom,
-                };
-            }
         }
-        j = set.next(j + 1, rows);
+        j = some.next(j + 1, rows);
     }
     let table = grown.table;
     Branch {

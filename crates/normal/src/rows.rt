@@ -2,6 +2,7 @@
 use table::layout::MAX_ROWS;
 use table::layout::ROLES;
 use table::number::wide;
+use table::row::kind;
 use table::row::parent;
 use table::row::role;
 ghost use mathlib.Core.Path.{_≡_};
@@ -21,7 +22,7 @@ pub const WORDS: usize = 4;
 
 pub const WORD_ROWS: usize = MAX_ROWS / WORDS;
 
-pub const MASKS: usize = WORDS * 32;
+pub const MASKS: usize = 64 * WORDS;
 
 pub const LINKS: usize = 2 * MAX_ROWS;
 
@@ -104,12 +105,12 @@ impl RowSet {
         }
     }
 
-    // Those of one role.
-    pub fn of_role(self, masks: &[u64; MASKS], role: u8) -> RowSet
+    // Those of one kind and role.
+    pub fn of_edge(self, masks: &[u64; MASKS], kind: u8, role: u8) -> RowSet
         requires { ⌜ role < roles ⌝ }
-        ensures { λ r. ⌜ ((j : ℕ) → j < maxRows → holds r j ≡ (holds self j && has (getD (now (masks .entry)) (4 * role + j / 64) 0) (j % 64))) ⌝ }
+        ensures { λ r. ⌜ ((j : ℕ) → j < maxRows → holds r j ≡ (holds self j && has (getD (now (masks .entry)) (4 * (2 * role + kind % 2) + j / 64) 0) (j % 64))) ⌝ }
     {
-        let at = WORDS * (wide(role) as usize);
+        let at = WORDS * (2 * (wide(role) as usize) + wide(kind) as usize % 2);
         RowSet {
             a: self.a & masks[at],
             b: self.b & masks[at + 1],
@@ -188,14 +189,15 @@ pub fn fill_links(s: &[u8], rows: usize, links: &mut [u8; LINKS])
     }
 }
 
-// For each role the rows of that role.
+// For each role the rows of each kind.
 pub fn fill_masks(s: &[u8], rows: usize, masks: &mut [u64; MASKS])
-    requires { ⌜ (Checked (now s) rows) × (Zeros 128 (now masks)) ⌝ }
+    requires { ⌜ (Checked (now s) rows) × (Zeros 256 (now masks)) ⌝ }
     ensures { λ _. ⌜ Masked (now (s .entry)) rows (now (masks .exit)) ⌝ }
 {
     let mut j = 0;
     while j < rows {
-        let at = WORDS * (wide(role(s, j)) as usize) + j / WORD_ROWS;
+        let of_kind = wide(kind(s, j)) as usize % 2;
+        let at = WORDS * (2 * (wide(role(s, j)) as usize) + of_kind) + j / WORD_ROWS;
         let new = bit(j % WORD_ROWS);
         masks[at] = masks[at] | new;
         j += 1;

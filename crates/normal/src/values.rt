@@ -4,15 +4,12 @@ use crate::label::join;
 use crate::rows::Kids;
 use crate::rows::LINKS;
 use crate::rows::RowSet;
-use table::layout::KIND_FOR_ALL;
-use table::row::kind;
 ghost use mathlib.Core.Path.{_≡_};
 ghost use mathlib.Core.Bool.{false};
 ghost use Prim.Native.Nat.{ℕ, _<_};
-ghost use Rattle.table.specs.Layout.{kindForAll};
 ghost use Rattle.ale.specs.PictureSignature.{pictureSignature};
 ghost use Rattle.ale.specs.Tree.{emptyLabel};
-ghost use Rattle.normal.specs.Rows.{Checked, Found, Linked, holds, ofKind};
+ghost use Rattle.normal.specs.Rows.{Checked, Found, Linked, holds};
 ghost use Rattle.normal.specs.Labels.{Added, LabelIs, Valued};
 
 // `first` is a row of the set; the number of rows if there is none.
@@ -50,17 +47,15 @@ impl Values {
     }
 }
 
-// Of the all-successors in a set (A of paper 01).
+// Of the rows of a set.
 pub fn gather(s: &[u8], rows: usize, links: &[u8; LINKS], set: RowSet) -> Values
     requires { ⌜ (Checked (now s) rows) × (Linked (now s) rows (now links)) ⌝ }
-    ensures { λ r. ⌜ (Found (ofKind (now (s .entry)) kindForAll (holds set)) rows (r .first)) × (Valued (now (s .entry)) rows (ofKind (now (s .entry)) kindForAll (holds set)) r) ⌝ }
+    ensures { λ r. ⌜ (Found (holds set) rows (r .first)) × (Valued (now (s .entry)) rows (holds set) r) ⌝ }
 {
     let mut values = Values::none(rows);
     let mut j = set.next(0, rows);
     while j < rows {
-        if kind(s, j) == KIND_FOR_ALL {
-            values = values.add(s, rows, links, j);
-        }
+        values = values.add(s, rows, links, j);
         j = set.next(j + 1, rows);
     }
     values

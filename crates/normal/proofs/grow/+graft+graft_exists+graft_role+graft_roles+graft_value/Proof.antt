@@ -1,25 +1,26 @@
 -- Each function grows its own forest; the remaining depth falls where a row's successors are made.
 use mathlib.Core.Bool.{Bool, true}
-use mathlib.Core.Logic.{⊎-elim}
+use mathlib.Core.Logic.{inl, inr}
 use mathlib.Core.Path.{_≡_, ap, refl, sym, _∙_}
 use native.Mathlib.Omega.{arith}
 use borrow.Author.Needs.{needs}
 use denote.Ref.{now}
-use Rattle.table.specs.Layout.{kindForAll, roles}
+use Rattle.table.specs.Layout.{kindExists, kindForAll, roles}
 use Rattle.ale.specs.Merged.{labelOfSet}
 use Rattle.ale.specs.PictureSignature.{pictureSignature}
 use Rattle.ale.specs.Rows.{filterBelow}
 use Rattle.ale.specs.Tree.{cons, exists, forAll, nil}
 use Rattle.meaning.specs.Meaning.{kindAt, pictureTable}
-use Rattle.normal.specs.Rows.{also, hangs, holds, ofKind, ofRole}
+use Rattle.normal.specs.Rows.{also, hangs, holds, ofRole}
 use Rattle.normal.specs.Grown.{Grown}
+use Rattle.normal.specs.Labels.{Valued}
 use Rattle.normal.specs.Parts.{existsPartAt, rolesAt, successorsAt}
 use Rattle.normal.proofs.Growth.{entered-length, entered-room, grown-append, grown-full, grown-nil, grown-over, grown-room, grown-same, grown-some}
 use Rattle.normal.proofs.LabelLaws.{known-with, valued-with}
-use Rattle.normal.proofs.Masks.{role-row}
+use Rattle.normal.proofs.Masks.{edge-row}
 use Rattle.normal.proofs.Nodes.{grown-node}
-use Rattle.normal.proofs.PartLaws.{code-later, merged-node, parts-same, role-parts, roles-more, roles-none, successors-leaf, successors-roles, successors-same, unused-roles, value-none, value-one}
-use Rattle.normal.proofs.Turns.{role-on, role-turn, turn-end, turn-full, turn-no, turn-start, turn-yes}
+use Rattle.normal.proofs.PartLaws.{code-later, merged-node, role-parts, roles-more, roles-none, successors-leaf, successors-roles, successors-same, unused-roles, value-none, value-one}
+use Rattle.normal.proofs.Turns.{role-on, role-turn, turn-end, turn-full, turn-on, turn-start}
 use Prim.Native.Nat.{ℕ, _*_, _+_, _-_, _<_, min}
 use borrow.Fn.Kinds.{In}
 use borrow.Fn.PlainCycle.{Measures, is, falls, and}
@@ -41,11 +42,10 @@ use Rattle.normal.proofs.grow.+graft+graft_exists+graft_role+graft_role
 use Rattle.normal.proofs.grow.enter.Reads as enter-reads
 use Rattle.normal.proofs.grow.leave.Reads as leave-reads
 use Rattle.normal.proofs.rows.RowSet.next.Reads as next-reads
-use Rattle.normal.proofs.rows.RowSet.of_role.Reads as of-role-reads
+use Rattle.normal.proofs.rows.RowSet.of_edge.Reads as of-edge-reads
 use Rattle.normal.proofs.rows.next_bit.Reads as next-bit-reads
 use Rattle.normal.proofs.values.Values.add.Reads as add-reads
 use Rattle.normal.proofs.values.gather.Reads as gather-reads
-use Rattle.table.proofs.row.kind.Reads as kind-reads
 use Rattle.normal.proofs.grow.+graft+graft_exists+graft_role+graft_roles+graft_value.{
   statement,
 }
@@ -57,7 +57,7 @@ abbrev μ-graft : Measures 4 graft-kinds.ps ℕ
 μ-graft κs a = 4 * a .1 .1 .1 .1 .1 .1 .1 .0 + 1
 
 abbrev μ-graft-exists : Measures 4 graft-exists-kinds.ps ℕ
-μ-graft-exists κs a = 4 * a .1 .1 .1 .1 .1 .1 .1 .0 + 2
+μ-graft-exists κs a = 4 * a .1 .1 .1 .1 .1 .1 .1 .1 .0 + 2
 
 abbrev μ-graft-role : Measures 4 graft-role-kinds.ps ℕ
 μ-graft-role κs a = 4 * a .1 .1 .1 .1 .1 .1 .0 + 3
@@ -198,7 +198,7 @@ graft-graft-roles-requires t c κs =
       (
         pre .0,
         (
-          known-with (now (a .s)) (a .rows) (a .c) (a .values .kids) (ad .result .kids) (pre .1 .0) (ad .ensures .kids-join),
+          known-with (now (a .s)) (a .rows) (a .c) (a .values .kids) (ad .result .kids) (pre .1 .1 .0) (pre .1 .0) (ad .ensures .kids-join),
           (
             entered-room (a .limit) (a .branch) (now (a .out)) (a .edge) _ (en .result) (en .last .0) room fits (en .ensures),
             omega (arith, en .ensures .one-more),
@@ -267,18 +267,16 @@ graft-returns-2 t c =
     (grown-node (a .limit) (a .branch) (now (a .out)) (a .edge) (ad .result .label) l (whole .label-is) (pre .1 .1 .1 .1) room fits f (en .result) (gr .result) (le .result) (en .last .0) (gr .last .1 .1 .1 .1 .1 .1 .1 .0) (le .last .0) (en .ensures) (grown-same (a .limit) (a .branch .table .rows) (en .result) (gr .result) (en .last .0) (gr .last .1 .1 .1 .1 .1 .1 .1 .0) _ _ (successors-same (now (a .s)) (a .rows) (holds (ad .result .kids .set)) (hangs (now (a .s)) (also (a .c) q)) (whole .kids-are) (a .depth)) (gr .ensures)) (le .ensures))
 
 abbrev graft-exists-Inv-loop : graft-exists-lts.InvT-loop
-graft-exists-Inv-loop s rows limit links masks set values depth out₀ parent role edge grown₀ j₀ out grown j =
-    (Grown limit parent grown₀ out₀ (existsPartAt s rows depth role (holds set) (ofKind s kindForAll (holds set)) (min j rows)) grown out) × (j < rows → holds set j ≡ true)
+graft-exists-Inv-loop s rows limit links masks some values depth out₀ parent role edge grown₀ j₀ out grown j =
+    ((q : ℕ → Bool) → Valued s rows q values → Grown limit parent grown₀ out₀ (existsPartAt s rows depth role (holds some) q (min j rows)) grown out) × (j < rows → holds some j ≡ true)
 
 abbrev graft-exists-μ-loop : graft-exists-lts.MeasureT-loop
-graft-exists-μ-loop s rows limit links masks set values depth out₀ parent role edge grown₀ j₀ out grown j =
+graft-exists-μ-loop s rows limit links masks some values depth out₀ parent role edge grown₀ j₀ out grown j =
     rows - j
 
 graft-exists-next-requires : (t : ℕ) → graft-exists-lts.Need-next-requires (
   next-reads.Asked,
   next-reads.Learnt,
-  kind-reads.Asked,
-  kind-reads.Learnt,
   graft-below t,
   graft.Post,
 ) (graft-exists-at t) graft-exists.Post graft-exists-Inv-loop graft-exists-μ-loop
@@ -291,8 +289,6 @@ graft-exists-next-requires t c κs =
 graft-exists-loop-holds : (t : ℕ) → graft-exists-lts.Need-loop-holds (
   next-reads.Asked,
   next-reads.Learnt,
-  kind-reads.Asked,
-  kind-reads.Learnt,
   graft-below t,
   graft.Post,
 ) (graft-exists-at t) graft-exists.Post graft-exists-Inv-loop graft-exists-μ-loop
@@ -300,88 +296,69 @@ graft-exists-loop-holds t c =
     let st = c .before .before .before in
     let a = st .args in
     let pre = st .pre .1 in
-    (turn-start (now (a .s)) (a .rows) (a .depth) (a .role) (a .set) (ofKind (now (a .s)) kindForAll (holds (a .set))) (a .limit) (a .parent) (a .branch) (now (a .out)) (c .next .result) (c .next .ensures) (pre .1 .1 .0), c .next .ensures .held)
-
-graft-exists-kind-requires : (t : ℕ) → graft-exists-lts.Need-kind-requires (
-  next-reads.Asked,
-  next-reads.Learnt,
-  kind-reads.Asked,
-  kind-reads.Learnt,
-  graft-below t,
-  graft.Post,
-) (graft-exists-at t) graft-exists.Post graft-exists-Inv-loop graft-exists-μ-loop
-graft-exists-kind-requires t c κs =
-    let st = c .before .before .before .before .before in
-    let a = st .args in
-    let pre = st .pre .1 in
-    (omega (arith, pre .0 .checked .most, c .loop-test .taken), omega (arith, pre .0 .checked .whole, c .loop-test .taken))
+    (λ q v. turn-start (now (a .s)) (a .rows) (a .depth) (a .role) (a .some) q (a .limit) (a .parent) (a .branch) (now (a .out)) (c .next .result) (c .next .ensures) (pre .1 .1 .0), c .next .ensures .held)
 
 graft-exists-graft-requires : (t : ℕ) → graft-exists-lts.Need-graft-requires (
   next-reads.Asked,
   next-reads.Learnt,
-  kind-reads.Asked,
-  kind-reads.Learnt,
   graft-below t,
   graft.Post,
 ) (graft-exists-at t) graft-exists.Post graft-exists-Inv-loop graft-exists-μ-loop
 graft-exists-graft-requires t c κs =
-    let st = c .before .before .before .before .before .before .before .before in
+    let st = c .before .before .before .before .before .before in
     let a = st .args in
     let pre = st .pre .1 in
-    let l = c .before .before .before .before .loop in
-    (omega (arith, st .pre .0), (pre .0, (pre .1 .0 .known, (c .before .before .before .loop-test .taken, (grown-room (a .limit) (a .parent) (a .branch) (l .grown) (now (a .out)) (l .out) _ (pre .1 .1 .0) (l .inv .0), code-later (l .grown .table .rows) exists (grown-some (a .limit) (a .parent) (a .branch) (l .grown) (now (a .out)) (l .out) _ (pre .1 .1 .1) (l .inv .0)))))))
+    let l = c .before .before .loop in
+    let g = l .inv .0 (holds (a .all)) (pre .1 .0) in
+    (omega (arith, st .pre .0), (pre .0, (pre .1 .0 .known, (c .before .loop-test .taken, (grown-room (a .limit) (a .parent) (a .branch) (l .grown) (now (a .out)) (l .out) _ (pre .1 .1 .0) g, code-later (l .grown .table .rows) exists (grown-some (a .limit) (a .parent) (a .branch) (l .grown) (now (a .out)) (l .out) _ (pre .1 .1 .1) g))))))
 
 graft-exists-same-length : (t : ℕ) → graft-exists-lts.Need-same-length (
   next-reads.Asked,
   next-reads.Learnt,
-  kind-reads.Asked,
-  kind-reads.Learnt,
   graft-below t,
   graft.Post,
 ) (graft-exists-at t) graft-exists.Post graft-exists-Inv-loop graft-exists-μ-loop
-graft-exists-same-length t c = search needs
+graft-exists-same-length t c =
+    let st = c .before .before .before .before .before .before .before .before .before .before .before .before in
+    let q = holds (st .args .all) in
+    let v = st .pre .1 .1 .0 in
+    c .before .before .before .before .before .graft .ensures q v .same ∙ c .before .before .before .before .before .before .before .before .loop .inv .0 q v .same
 
 graft-exists-returns : (t : ℕ) → graft-exists-lts.Need-returns (
   next-reads.Asked,
   next-reads.Learnt,
-  kind-reads.Asked,
-  kind-reads.Learnt,
   graft-below t,
   graft.Post,
 ) (graft-exists-at t) graft-exists.Post graft-exists-Inv-loop graft-exists-μ-loop
 graft-exists-returns t c =
-    let st = c .before .before .before .before .before .before .before .before .before .before .before .before .before .before in
+    let st = c .before .before .before .before .before .before .before .before .before .before .before .before in
     let a = st .args in
     let pre = st .pre .1 in
-    let l = c .before .before .before .before .before .before .before .before .before .before .loop in
+    let l = c .before .before .before .before .before .before .before .before .loop in
     let gr = c .before .before .before .before .before .graft in
-    let more = c .before .before .before .before .before .before .before .before .before .loop-test .taken in
-    turn-full (now (a .s)) (a .rows) (a .depth) (a .role) (a .set) (ofKind (now (a .s)) kindForAll (holds (a .set))) (a .limit) (a .parent) (a .branch) (now (a .out)) (l .j) more (l .grown) (l .out) (l .inv .0) (gr .result) _ (l .inv .1 more) (sym (c .before .before .before .before .before .before .before .before .kind .ensures) ∙ c .before .before .before .before .before .before .before .if1 .taken) (gr .ensures (ofKind (now (a .s)) kindForAll (holds (a .set))) (pre .1 .0)) (c .if2 .taken)
+    let more = c .before .before .before .before .before .before .before .loop-test .taken in
+    turn-full (now (a .s)) (a .rows) (a .depth) (a .role) (a .some) (holds (a .all)) (a .limit) (a .parent) (a .branch) (now (a .out)) (l .j) more (l .grown) (l .out) (l .inv .0 (holds (a .all)) (pre .1 .0)) (gr .result) _ (l .inv .1 more) (gr .ensures (holds (a .all)) (pre .1 .0)) (c .if1 .taken)
 
 graft-exists-add-next : (t : ℕ) → graft-exists-lts.Need-add-next (
   next-reads.Asked,
   next-reads.Learnt,
-  kind-reads.Asked,
-  kind-reads.Learnt,
   graft-below t,
   graft.Post,
 ) (graft-exists-at t) graft-exists.Post graft-exists-Inv-loop graft-exists-μ-loop
 graft-exists-add-next t c =
-    let st = c .before .before .before .before .before .before .before in
+    let st = c .before .before .before .before .before .before .before .before .before .before .before .before in
     let a = st .args in
     let pre = st .pre .1 in
-    omega (arith, c .before .before .loop-test .taken, pre .0 .checked .most)
+    omega (arith, c .before .before .before .before .before .before .before .loop-test .taken, pre .0 .checked .most)
 
 graft-exists-next-requires-2 : (t : ℕ) → graft-exists-lts.Need-next-requires-2 (
   next-reads.Asked,
   next-reads.Learnt,
-  kind-reads.Asked,
-  kind-reads.Learnt,
   graft-below t,
   graft.Post,
 ) (graft-exists-at t) graft-exists.Post graft-exists-Inv-loop graft-exists-μ-loop
 graft-exists-next-requires-2 t c κs =
-    let st = c .before .before .before .before .before .before .before in
+    let st = c .before .before .before .before .before .before .before .before .before .before .before .before in
     let a = st .args in
     let pre = st .pre .1 in
     pre .0 .checked .most
@@ -389,53 +366,43 @@ graft-exists-next-requires-2 t c κs =
 graft-exists-loop-less : (t : ℕ) → graft-exists-lts.Need-loop-less (
   next-reads.Asked,
   next-reads.Learnt,
-  kind-reads.Asked,
-  kind-reads.Learnt,
   graft-below t,
   graft.Post,
 ) (graft-exists-at t) graft-exists.Post graft-exists-Inv-loop graft-exists-μ-loop
 graft-exists-loop-less t c =
-    let st = c .before .before .before .before .before .before .before .before in
+    let st = c .before .before .before .before .before .before .before .before .before .before .before .before .before in
     let a = st .args in
     let pre = st .pre .1 in
-    omega (arith, c .before .before .before .loop-test .taken, c .next2 .ensures .onward)
+    omega (arith, c .before .before .before .before .before .before .before .before .loop-test .taken, c .next2 .ensures .onward)
 
 graft-exists-loop-again : (t : ℕ) → graft-exists-lts.Need-loop-again (
   next-reads.Asked,
   next-reads.Learnt,
-  kind-reads.Asked,
-  kind-reads.Learnt,
   graft-below t,
   graft.Post,
 ) (graft-exists-at t) graft-exists.Post graft-exists-Inv-loop graft-exists-μ-loop
 graft-exists-loop-again t c =
-    let st = c .before .before .before .before .before .before .before .before in
+    let st = c .before .before .before .before .before .before .before .before .before .before .before .before .before in
     let a = st .args in
     let pre = st .pre .1 in
-    let l = c .before .before .before .before .loop in
-    let more = c .before .before .before .loop-test .taken in
-    let k = c .before .before .kind .ensures in
-    let j = c .before .if1 in
-    (⊎-elim
-    (λ w. turn-yes (now (a .s)) (a .rows) (a .depth) (a .role) (a .set) (ofKind (now (a .s)) kindForAll (holds (a .set))) (a .limit) (a .parent) (a .branch) (now (a .out)) (l .j) more (l .grown) (l .out) (l .inv .0) (w .2 .result) _ (l .inv .1 more) (sym k ∙ w .0 .taken) (w .2 .ensures (ofKind (now (a .s)) kindForAll (holds (a .set))) (pre .1 .0)) (c .next2 .result) (j .grown) (j .out) (c .next2 .ensures) (w .9) (w .8))
-    (λ w. turn-no (now (a .s)) (a .rows) (a .depth) (a .role) (a .set) (ofKind (now (a .s)) kindForAll (holds (a .set))) (a .limit) (a .parent) (a .branch) (now (a .out)) (l .j) more (l .grown) (l .out) (l .inv .0) (c .next2 .result) (j .grown) (j .out) (c .next2 .ensures) (λ e. w .0 .left (k ∙ e)) (w .2) (w .1))
-    (j .came), c .next2 .ensures .held)
+    let l = c .before .before .before .before .before .before .before .before .before .loop in
+    let gr = c .before .before .before .before .before .before .graft in
+    let more = c .before .before .before .before .before .before .before .before .loop-test .taken in
+    (λ q v. turn-on (now (a .s)) (a .rows) (a .depth) (a .role) (a .some) q (a .limit) (a .parent) (a .branch) (now (a .out)) (l .j) more (l .grown) (l .out) (l .inv .0 q v) (gr .result) _ (l .inv .1 more) (gr .ensures q v) (c .next2 .result) (c .next2 .ensures), c .next2 .ensures .held)
 
 graft-exists-same-length-2 : (t : ℕ) → graft-exists-lts.Need-same-length-2 (
   next-reads.Asked,
   next-reads.Learnt,
-  kind-reads.Asked,
-  kind-reads.Learnt,
   graft-below t,
   graft.Post,
 ) (graft-exists-at t) graft-exists.Post graft-exists-Inv-loop graft-exists-μ-loop
-graft-exists-same-length-2 t c = c .before .before .loop .inv .0 .same
+graft-exists-same-length-2 t c =
+    let st = c .before .before .before .before .before .before in
+    c .before .before .loop .inv .0 (holds (st .args .all)) (st .pre .1 .1 .0) .same
 
 graft-exists-returns-2 : (t : ℕ) → graft-exists-lts.Need-returns-2 (
   next-reads.Asked,
   next-reads.Learnt,
-  kind-reads.Asked,
-  kind-reads.Learnt,
   graft-below t,
   graft.Post,
 ) (graft-exists-at t) graft-exists.Post graft-exists-Inv-loop graft-exists-μ-loop
@@ -444,11 +411,11 @@ graft-exists-returns-2 t c =
     let a = st .args in
     let pre = st .pre .1 in
     let l = c .before .before .loop in
-    turn-end (now (a .s)) (a .rows) (a .depth) (a .role) (a .set) (ofKind (now (a .s)) kindForAll (holds (a .set))) (a .limit) (a .parent) (a .branch) (now (a .out)) (l .j) (l .grown) (l .out) (c .before .loop-test .left) (l .inv .0)
+    turn-end (now (a .s)) (a .rows) (a .depth) (a .role) (a .some) (holds (a .all)) (a .limit) (a .parent) (a .branch) (now (a .out)) (l .j) (l .grown) (l .out) (c .before .loop-test .left) (l .inv .0 (holds (a .all)) (pre .1 .0))
 
-graft-role-of-role-requires : (t : ℕ) → graft-role-lts.Need-of-role-requires (
-  of-role-reads.Asked,
-  of-role-reads.Learnt,
+graft-role-of-edge-requires : (t : ℕ) → graft-role-lts.Need-of-edge-requires (
+  of-edge-reads.Asked,
+  of-edge-reads.Learnt,
   gather-reads.Asked,
   gather-reads.Learnt,
   graft-value-below t,
@@ -456,15 +423,31 @@ graft-role-of-role-requires : (t : ℕ) → graft-role-lts.Need-of-role-requires
   graft-exists-below t,
   graft-exists.Post,
 ) (graft-role-at t) graft-role.Post
-graft-role-of-role-requires t c κs =
+graft-role-of-edge-requires t c κs =
     let st = c .before .before in
     let a = st .args in
     let pre = st .pre .1 in
-    pre .1 .0
+    pre .1 .0 .0
+
+graft-role-of-edge-requires-2 : (t : ℕ) → graft-role-lts.Need-of-edge-requires-2 (
+  of-edge-reads.Asked,
+  of-edge-reads.Learnt,
+  gather-reads.Asked,
+  gather-reads.Learnt,
+  graft-value-below t,
+  graft-value.Post,
+  graft-exists-below t,
+  graft-exists.Post,
+) (graft-role-at t) graft-role.Post
+graft-role-of-edge-requires-2 t c κs =
+    let st = c .before .before .before in
+    let a = st .args in
+    let pre = st .pre .1 in
+    pre .1 .0 .0
 
 graft-role-gather-requires : (t : ℕ) → graft-role-lts.Need-gather-requires (
-  of-role-reads.Asked,
-  of-role-reads.Learnt,
+  of-edge-reads.Asked,
+  of-edge-reads.Learnt,
   gather-reads.Asked,
   gather-reads.Learnt,
   graft-value-below t,
@@ -473,14 +456,14 @@ graft-role-gather-requires : (t : ℕ) → graft-role-lts.Need-gather-requires (
   graft-exists.Post,
 ) (graft-role-at t) graft-role.Post
 graft-role-gather-requires t c κs =
-    let st = c .before .before .before in
+    let st = c .before .before .before .before in
     let a = st .args in
     let pre = st .pre .1 in
     (pre .0 .checked, pre .0 .linked)
 
 graft-role-graft-value-requires : (t : ℕ) → graft-role-lts.Need-graft-value-requires (
-  of-role-reads.Asked,
-  of-role-reads.Learnt,
+  of-edge-reads.Asked,
+  of-edge-reads.Learnt,
   gather-reads.Asked,
   gather-reads.Learnt,
   graft-value-below t,
@@ -489,14 +472,14 @@ graft-role-graft-value-requires : (t : ℕ) → graft-role-lts.Need-graft-value-
   graft-exists.Post,
 ) (graft-role-at t) graft-role.Post
 graft-role-graft-value-requires t c κs =
-    let st = c .before .before .before .before .before in
+    let st = c .before .before .before .before .before .before in
     let a = st .args in
     let pre = st .pre .1 in
     (omega (arith, st .pre .0), (pre .0, (c .before .gather .ensures .1, (pre .1 .1 .0, pre .1 .1 .1))))
 
 graft-role-graft-exists-requires : (t : ℕ) → graft-role-lts.Need-graft-exists-requires (
-  of-role-reads.Asked,
-  of-role-reads.Learnt,
+  of-edge-reads.Asked,
+  of-edge-reads.Learnt,
   gather-reads.Asked,
   gather-reads.Learnt,
   graft-value-below t,
@@ -505,15 +488,15 @@ graft-role-graft-exists-requires : (t : ℕ) → graft-role-lts.Need-graft-exist
   graft-exists.Post,
 ) (graft-role-at t) graft-role.Post
 graft-role-graft-exists-requires t c κs =
-    let st = c .before .before .before .before .before .before .before .before .before in
+    let st = c .before .before .before .before .before .before .before .before .before .before in
     let a = st .args in
     let pre = st .pre .1 in
     let gv = c .before .before .before .graft-value in
     (omega (arith, st .pre .0), (pre .0, (c .before .before .before .before .before .gather .ensures .1, (grown-room (a .limit) (a .parent) (a .branch) (gv .result) (now (a .out)) _ _ (pre .1 .1 .0) (gv .ensures), grown-some (a .limit) (a .parent) (a .branch) (gv .result) (now (a .out)) _ _ (pre .1 .1 .1) (gv .ensures)))))
 
 graft-role-same-length : (t : ℕ) → graft-role-lts.Need-same-length (
-  of-role-reads.Asked,
-  of-role-reads.Learnt,
+  of-edge-reads.Asked,
+  of-edge-reads.Learnt,
   gather-reads.Asked,
   gather-reads.Learnt,
   graft-value-below t,
@@ -524,8 +507,8 @@ graft-role-same-length : (t : ℕ) → graft-role-lts.Need-same-length (
 graft-role-same-length t c = search needs
 
 graft-role-returns : (t : ℕ) → graft-role-lts.Need-returns (
-  of-role-reads.Asked,
-  of-role-reads.Learnt,
+  of-edge-reads.Asked,
+  of-edge-reads.Learnt,
   gather-reads.Asked,
   gather-reads.Learnt,
   graft-value-below t,
@@ -534,14 +517,17 @@ graft-role-returns : (t : ℕ) → graft-role-lts.Need-returns (
   graft-exists.Post,
 ) (graft-role-at t) graft-role.Post
 graft-role-returns t c =
-    let st = c .before .before .before .before .before .before .before .before .before .before .before .before in
+    let st = c .before .before .before .before .before .before .before .before .before .before .before .before .before in
     let a = st .args in
     let pre = st .pre .1 in
-    let of = c .before .before .before .before .before .before .before .before .before .of-role in
+    let all = c .before .before .before .before .before .before .before .before .before .before .of-edge in
+    let some = c .before .before .before .before .before .before .before .before .before .of-edge2 in
     let ga = c .before .before .before .before .before .before .before .before .gather in
     let gv = c .before .before .before .before .before .before .graft-value in
     let ge = c .before .before .graft-exists in
-    grown-same (a .limit) (a .parent) (a .branch) (ge .result) (now (a .out)) _ _ _ (role-parts (now (a .s)) (a .rows) (a .depth) (a .role) (holds (of .result)) (ga .result .first) (ga .ensures .0) ∙ parts-same (now (a .s)) (a .rows) (holds (of .result)) (ofRole (now (a .s)) (a .role) (holds (a .kids))) (role-row (now (a .s)) (a .rows) (now (a .masks)) (of .result) (a .kids) (a .role) (pre .0 .masked) (pre .0 .checked .most) (pre .1 .0) (of .ensures)) (a .depth) (a .role))
+    grown-same (a .limit) (a .parent) (a .branch) (ge .result) (now (a .out)) _ _ _ (role-parts (now (a .s)) (a .rows) (a .depth) (a .role) (holds (all .result)) (holds (some .result)) (ga .result .first) (ga .ensures .0) (ofRole (now (a .s)) (a .role) (holds (a .kids)))
+    (edge-row (now (a .s)) (a .rows) (now (a .masks)) (all .result) (a .kids) kindForAll (a .role) (pre .0 .checked) (pre .0 .masked) (pre .1 .0 .0) (inr refl) (pre .1 .0 .1) (all .ensures))
+    (edge-row (now (a .s)) (a .rows) (now (a .masks)) (some .result) (a .kids) kindExists (a .role) (pre .0 .checked) (pre .0 .masked) (pre .1 .0 .0) (inl refl) (pre .1 .0 .1) (some .ensures)))
     (grown-append (a .limit) (a .parent) (a .branch) (gv .result) (ge .result) (now (a .out)) _ _ _ _ (gv .ensures) (ge .ensures))
 
 abbrev graft-roles-Inv-loop : graft-roles-lts.InvT-loop
@@ -613,7 +599,7 @@ graft-roles-graft-role-requires t c κs =
     let a = st .args in
     let pre = st .pre .1 in
     let l = c .before .before .before .loop in
-    (omega (arith, st .pre .0, c .before .before .before .before .before .if1 .left), (pre .0, (c .before .before .loop-test .taken, (grown-room (a .limit) (a .parent) (a .branch) (l .grown) (now (a .out)) (l .out) _ (pre .1 .1 .0) (l .inv), grown-some (a .limit) (a .parent) (a .branch) (l .grown) (now (a .out)) (l .out) _ (pre .1 .1 .1) (l .inv)))))
+    (omega (arith, st .pre .0, c .before .before .before .before .before .if1 .left), (pre .0, ((c .before .before .loop-test .taken, pre .1 .0 .rootless), (grown-room (a .limit) (a .parent) (a .branch) (l .grown) (now (a .out)) (l .out) _ (pre .1 .1 .0) (l .inv), grown-some (a .limit) (a .parent) (a .branch) (l .grown) (now (a .out)) (l .out) _ (pre .1 .1 .1) (l .inv)))))
 
 graft-roles-same-length : (t : ℕ) → graft-roles-lts.Need-same-length (
   next-bit-reads.Asked,
@@ -710,7 +696,7 @@ graft-value-returns t c =
     let st = c .before .before .before .before .before in
     let a = st .args in
     let pre = st .pre .1 in
-    grown-same (a .limit) (a .parent) (a .branch) (a .branch) (now (a .out)) (now (a .out)) _ _ (sym (value-none (now (a .s)) (a .rows) (a .depth) (a .role) (ofKind (now (a .s)) kindForAll (holds (a .set))) (a .values .first) (c .if1 .taken))) (grown-nil (a .limit) (a .parent) (a .branch) (now (a .out)) (pre .1 .1 .0))
+    grown-same (a .limit) (a .parent) (a .branch) (a .branch) (now (a .out)) (now (a .out)) _ _ (sym (value-none (now (a .s)) (a .rows) (a .depth) (a .role) (holds (a .all)) (a .values .first) (c .if1 .taken))) (grown-nil (a .limit) (a .parent) (a .branch) (now (a .out)) (pre .1 .1 .0))
 
 graft-value-graft-requires : (t : ℕ) → graft-value-lts.Need-graft-requires (
   graft-below t,
@@ -738,7 +724,7 @@ graft-value-returns-2 t c =
     let a = st .args in
     let pre = st .pre .1 in
     let gr = c .before .before .before .graft in
-    grown-same (a .limit) (a .parent) (a .branch) (gr .result) (now (a .out)) _ _ _ (sym (value-one (now (a .s)) (a .rows) (a .depth) (a .role) (ofKind (now (a .s)) kindForAll (holds (a .set))) (a .values .first) (omega (arith, c .before .before .before .before .before .if1 .left)))) (gr .ensures (ofKind (now (a .s)) kindForAll (holds (a .set))) (pre .1 .0))
+    grown-same (a .limit) (a .parent) (a .branch) (gr .result) (now (a .out)) _ _ _ (sym (value-one (now (a .s)) (a .rows) (a .depth) (a .role) (holds (a .all)) (a .values .first) (omega (arith, c .before .before .before .before .before .if1 .left)))) (gr .ensures (holds (a .all)) (pre .1 .0))
 
 pub +graft+graft-exists+graft-role+graft-roles+graft-value-spec : {M : Type 1} → statement M
 +graft+graft-exists+graft-role+graft-roles+graft-value-spec =
@@ -762,21 +748,14 @@ pub +graft+graft-exists+graft-role+graft-roles+graft-value-spec : {M : Type 1} �
     (graft-leave-requires t)
     (graft-same-length t)
     (graft-returns-2 t))
-    (λ t. graft-exists-lts.spec (
-      next-reads.Asked,
-      next-reads.Learnt,
-      kind-reads.Asked,
-      kind-reads.Learnt,
-      graft-below t,
-      graft.Post,
-    )
+    (λ t. graft-exists-lts.spec
+    (next-reads.Asked, next-reads.Learnt, graft-below t, graft.Post)
     (graft-exists-at t)
     graft-exists.Post
     graft-exists-Inv-loop
     graft-exists-μ-loop
     (graft-exists-next-requires t)
     (graft-exists-loop-holds t)
-    (graft-exists-kind-requires t)
     (graft-exists-graft-requires t)
     (graft-exists-same-length t)
     (graft-exists-returns t)
@@ -787,8 +766,8 @@ pub +graft+graft-exists+graft-role+graft-roles+graft-value-spec : {M : Type 1} �
     (graft-exists-same-length-2 t)
     (graft-exists-returns-2 t))
     (λ t. graft-role-lts.spec (
-      of-role-reads.Asked,
-      of-role-reads.Learnt,
+      of-edge-reads.Asked,
+      of-edge-reads.Learnt,
       gather-reads.Asked,
       gather-reads.Learnt,
       graft-value-below t,
@@ -798,7 +777,8 @@ pub +graft+graft-exists+graft-role+graft-roles+graft-value-spec : {M : Type 1} �
     )
     (graft-role-at t)
     graft-role.Post
-    (graft-role-of-role-requires t)
+    (graft-role-of-edge-requires t)
+    (graft-role-of-edge-requires-2 t)
     (graft-role-gather-requires t)
     (graft-role-graft-value-requires t)
     (graft-role-graft-exists-requires t)
