@@ -10,7 +10,7 @@
 use Prim.Native.Nat.{_+_, _<_, _≤_, suc, zero, ℕ}
 use borrow.Author.Tests.{eqb-false, eqb-true, ne-eqb}
 use lib.Dec.{eqb}
-use mathlib.Core.Bool.{Bool, _&&_, _||_, false, false≢true, not, true}
+use mathlib.Core.Bool.{Bool, _||_, false, false≢true, true}
 use mathlib.Core.List.{List, _∷_}
 use mathlib.Core.Logic.{⊎-elim}
 use mathlib.Core.Path.{_∙_, _≡_, ap, refl, subst, sym}

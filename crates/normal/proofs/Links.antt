@@ -7,9 +7,8 @@ use Prim.Native.Nat.{_+_, _-_, _<_, _≤_, ℕ}
 use borrow.Author.Tests.{eq-eqb, eqb-false, eqb-true, le-ltb, lt-ltb, ltb-false, ltb-true, ne-eqb, not-true}
 use lib.Dec.{eqb, ltb}
 use lib.ListN.{getD, length, length-set, set}
-use mathlib.Core.Bool.{Bool, _&&_, _||_, false, false≢true, not, true}
+use mathlib.Core.Bool.{Bool, _&&_, _||_, false, not, true}
 use mathlib.Core.List.{List}
-use mathlib.Core.Logic.{⊎-elim}
 use mathlib.Core.Path.{_∙_, _≡_, ap, refl, subst, sym}
 use native.Mathlib.Omega.{arith}
 use Rattle.table.proofs.Bools.{both}
@@ -20,7 +19,7 @@ use Rattle.table.specs.Pick.{pick}
 use Rattle.normal.specs.declared.rows.Kids.{Kids}
 use Rattle.normal.specs.Rows.{Hung, Linked, Nearest, Zeros, hangs, holds}
 use Rattle.normal.proofs.Stores.{stored}
-use Rattle.normal.proofs.Tests.{by-test, refuted}
+use Rattle.normal.proofs.Tests.{by-test}
 
 pub record LinkedFrom (s : List ℕ) (rows j : ℕ) (links : List ℕ) : Type 0 where
   pub size : length links ≡ maxRows + maxRows

@@ -25,7 +25,7 @@ use Rattle.ale.specs.Forest.{append, byRole}
 use Rattle.ale.specs.Merged.{existsParts, existsRows, labelOfSet, merged, roleParts, rowsBelow, successorOfSet, valuePart, valueRows}
 use Rattle.ale.specs.PictureSignature.{pictureSignature}
 use Rattle.ale.specs.Rows.{filterBelow, filterFrom, member, withRow}
-use Rattle.ale.specs.Tree.{Forest, Kind, Tree, cons, exists, forAll, nil, node, sameKind, sizes, successorsOf}
+use Rattle.ale.specs.Tree.{Forest, Kind, Tree, cons, exists, forAll, nil, node, sameKind, sizes}
 use Rattle.ale.proofs.Appends.{byRole-more, byRole-same, sizes-append}
 use Rattle.ale.proofs.RowLists.{filterBelow-in, filterBelow-out, filterFrom-none, filterFrom-same, filterFrom-split}
 use Rattle.picture.specs.View.{rowCount, viewOf}
@@ -34,7 +34,7 @@ use Rattle.meaning.specs.Meaning.{kindAt, pictureTable}
 use Rattle.normal.specs.Parts.{existsPartAt, mergedAt, partsAt, rolesAt, successorsAt, valuePartAt}
 use Rattle.normal.specs.Rows.{Checked, Found, Known, Unused, also, hangs, holds, ofKind, ofRole}
 use Rattle.normal.specs.declared.rows.Kids.{Kids}
-use Rattle.normal.proofs.Tests.{by-test, refuted}
+use Rattle.normal.proofs.Tests.{refuted}
 
 -- ---- lists of rows
 

@@ -8,7 +8,7 @@
 use Prim.Native.Nat.{_+_, _<_, _≤_, min, ℕ}
 use mathlib.Core.Bool.{Bool, true}
 use mathlib.Core.List.{List}
-use mathlib.Core.Path.{_≡_, ap, refl, sym, _∙_}
+use mathlib.Core.Path.{_≡_, ap, sym, _∙_}
 use native.Mathlib.Omega.{arith}
 use Rattle.table.specs.Layout.{roles}
 use Rattle.ale.specs.PictureSignature.{pictureSignature}

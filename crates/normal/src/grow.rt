@@ -4,6 +4,7 @@ use crate::label::Label;
 use crate::rows::Kids;
 use crate::rows::LINKS;
 use crate::rows::MASKS;
+use crate::rows::ROLE_BITS;
 use crate::rows::RowSet;
 use crate::rows::fill_links;
 use crate::rows::fill_masks;
@@ -203,7 +204,7 @@ fn graft_roles(
     }
     let mut grown = branch;
     let mut role = next_bit(kids.roles, 0);
-    while role < 32 {
+    while role < ROLE_BITS {
         let set = kids.set;
         grown = graft_role(
             s,

@@ -1,6 +1,5 @@
 // Sets of file rows, and the file rows that hang from a set.
 use table::layout::MAX_ROWS;
-use table::layout::ROLES;
 use table::number::wide;
 use table::row::kind;
 use table::row::parent;
@@ -9,21 +8,26 @@ ghost use mathlib.Core.Path.{_≡_};
 ghost use mathlib.Core.Bool.{Bool, _&&_, _||_, false, true};
 ghost use Prim.Native.Nat.{ℕ, _+_, _*_, _/_, _%_, _^_, _≤_, _<_};
 ghost use lib.Dec.{eqb};
-ghost use lib.ListN.{getD, length};
+ghost use lib.ListN.{getD};
 ghost use Rattle.table.specs.Bounds.{maxRows};
 ghost use Rattle.table.specs.Fields.{roleOf};
 ghost use Rattle.table.specs.Layout.{roles};
 ghost use Rattle.table.specs.NameSet.{has};
 ghost use Rattle.table.specs.Pick.{pick};
-ghost use Rattle.normal.specs.Rows.{Checked, Hung, Linked, Masked, Next, Surveyed, Zeros, holds, wordOf};
+ghost use Rattle.normal.specs.Rows.{Checked, Hung, Linked, Masked, Next, Zeros, holds, wordOf};
 
 // A set of rows takes this many words.
 pub const WORDS: usize = 4;
 
 pub const WORD_ROWS: usize = MAX_ROWS / WORDS;
 
-pub const MASKS: usize = 64 * WORDS;
+// A set of roles is one word, of which so many bits are used.
+pub const ROLE_BITS: usize = 32;
 
+// For each role and kind a set of rows.
+pub const MASKS: usize = 2 * ROLE_BITS * WORDS;
+
+// For each row the lowest that hangs from it, and the next that hangs where it does.
 pub const LINKS: usize = 2 * MAX_ROWS;
 
 // Row j is bit j % WORD_ROWS of word j / WORD_ROWS.

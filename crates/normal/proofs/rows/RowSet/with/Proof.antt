@@ -23,7 +23,7 @@ only-requires-4 : tie.Need-only-requires-4
 only-requires-4 c κs = search needs
 
 returns : tie.Need-returns
-returns c = 
+returns c =
     let a = c .before .before .before .before .before .before .before .before .before .args in
     with-row _ (a .self) (a .j) _ (c .before .before .before .before .before .before .before .before .bit .ensures) (ap (λ (w : ℕ). bitOr (a .self .a) w) (c .before .before .before .before .before .before .before .only .ensures)) (ap (λ (w : ℕ). bitOr (a .self .b) w) (c .before .before .before .before .before .only2 .ensures)) (ap (λ (w : ℕ). bitOr (a .self .c) w) (c .before .before .before .only3 .ensures)) (ap (λ (w : ℕ). bitOr (a .self .d) w) (c .before .only4 .ensures))
 
