@@ -257,7 +257,7 @@ pub value-none : (s : List ℕ) (rows depth role : ℕ) (q : ℕ → Bool) (firs
 unfolding valuePartAt
 value-none s rows depth role q first l = rw (le-ltb first rows l)
 
-pub value-one : (s : List ℕ) (rows depth role : ℕ) (q : ℕ → Bool) (first : ℕ) → first < rows → valuePartAt s rows depth role q first ≡ cons forAll role (mergedAt s rows depth (also first q)) nil
+pub value-one : (s : List ℕ) (rows depth role : ℕ) (q : ℕ → Bool) (first : ℕ) → first < rows → valuePartAt s rows depth role q first ≡ cons forAll role (mergedAt s rows depth q) nil
 unfolding valuePartAt
 value-one s rows depth role q first l = rw (lt-ltb first rows l)
 
@@ -271,20 +271,14 @@ value-some : (role : ℕ) (h : List ℕ → Tree pictureSignature) (v : List ℕ
 value-some role h [] j t = absurd t
 value-some role h (a ∷ v) j t = refl
 
--- a set with one of its rows
-absorbed : (q : ℕ → Bool) (first j : ℕ) → q first ≡ true → (b : Bool) → eqb j first ≡ b → (b || q j) ≡ q j
-absorbed q first j h true e = sym h ∙ ap q (sym (eqb-true j first e))
-absorbed q first j h false e = refl
-
 module _ (s : List ℕ) (rows depth role : ℕ) (all some : ℕ → Bool) (first : ℕ) (found : Found all rows first) where
   abbrev h : List ℕ → Tree pictureSignature
   h v = merged pictureSignature (pictureTable s) depth v
 
-  value-part : (b : Bool) → ltb first rows ≡ b → pick b (cons forAll role (h (filterBelow (also first all) rows)) nil) nil ≡ valuePart pictureSignature role h (filterBelow all rows)
+  value-part : (b : Bool) → ltb first rows ≡ b → pick b (cons forAll role (h (filterBelow all rows)) nil) nil ≡ valuePart pictureSignature role h (filterBelow all rows)
   value-part true e =
       let l = ltb-true first rows e in
-      ap (λ t. cons forAll role (h t) nil) (filter-same (also first all) all rows (λ i b. absorbed all first i (found .found l) (eqb i first) refl))
-      ∙ sym (value-some role h (filterBelow all rows) first (filterBelow-in all rows first (true-is (all first) (found .found l)) l))
+      sym (value-some role h (filterBelow all rows) first (filterBelow-in all rows first (true-is (all first) (found .found l)) l))
   value-part false e =
       ap (λ v. valuePart pictureSignature role h v) (sym (filter-none all rows (λ j l. found .none (ltb-false first rows e) j l)))
 

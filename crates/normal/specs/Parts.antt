@@ -24,7 +24,7 @@ module _ (s : List ℕ) (rows depth : ℕ) where
   mergedAt q = merged pictureSignature (pictureTable s) depth (filterBelow q rows)
 
   unfoldable pub valuePartAt : ℕ → (ℕ → Bool) → ℕ → Forest pictureSignature
-  valuePartAt role q first = pick (ltb first rows) (cons forAll role (mergedAt (also first q)) nil) nil
+  valuePartAt role q first = pick (ltb first rows) (cons forAll role (mergedAt q) nil) nil
 
   unfoldable pub existsPartAt : ℕ → (ℕ → Bool) → (ℕ → Bool) → ℕ → Forest pictureSignature
   existsPartAt role p q n = existsParts pictureSignature role (λ j. mergedAt (also j q)) (filterBelow p n)

@@ -29,7 +29,7 @@ ghost use Rattle.ale.specs.PictureSignature.{pictureSignature};
 ghost use Rattle.ale.specs.Tree.{cons, nil};
 ghost use Rattle.meaning.specs.File.{codeAt};
 ghost use Rattle.meaning.specs.Meaning.{kindAt};
-ghost use Rattle.normal.specs.Rows.{Checked, Known, Surveyed, also, holds, ofRole};
+ghost use Rattle.normal.specs.Rows.{Checked, Known, Surveyed, holds, ofRole};
 ghost use Rattle.normal.specs.Labels.{Valued};
 ghost use Rattle.normal.specs.Parts.{existsPartAt, mergedAt, partsAt, successorsAt, valuePartAt};
 ghost use Rattle.normal.specs.Built.{Built};
@@ -140,7 +140,7 @@ fn leave(out: &mut [u8], branch: Branch, edge: Edge, label: Label, below: Branch
     }
 }
 
-// One successor more: the merged row of a set with row c, with what hangs from it down to a depth.
+// One successor more: the merged row of a set, with what hangs from it down to a depth.
 fn graft(
     s: &[u8],
     rows: usize,
@@ -148,14 +148,13 @@ fn graft(
     links: &[u8; LINKS],
     masks: &[u64; MASKS],
     values: Values,
-    c: usize,
     depth: usize,
     out: &mut [u8],
     branch: Branch,
     edge: Edge,
 ) -> Branch
-    requires { ⌜ (Surveyed (now s) rows (now links) (now masks)) × ((Known (now s) rows (values .kids)) × ((c < rows) × ((Room limit branch (now out)) × (codeAt (branch .table .rows) (kindAt (edge .kind)) ≡ edge .kind)))) ⌝ }
-    ensures { λ r. ⌜ ((q : ℕ → Bool) → Valued (now (s .entry)) rows q values → Grown limit (edge .parent) branch (now (out .entry)) (cons (kindAt (edge .kind)) (edge .role) (mergedAt (now (s .entry)) rows depth (also c q)) nil) r (now (out .exit))) ⌝ }
+    requires { ⌜ (Surveyed (now s) rows (now links) (now masks)) × ((Known (now s) rows (values .kids)) × ((Room limit branch (now out)) × (codeAt (branch .table .rows) (kindAt (edge .kind)) ≡ edge .kind))) ⌝ }
+    ensures { λ r. ⌜ ((q : ℕ → Bool) → Valued (now (s .entry)) rows q values → Grown limit (edge .parent) branch (now (out .entry)) (cons (kindAt (edge .kind)) (edge .role) (mergedAt (now (s .entry)) rows depth q) nil) r (now (out .exit))) ⌝ }
 {
     let start = branch.table;
     if limit <= branch.merged {
@@ -165,8 +164,7 @@ fn graft(
             bottom: branch.bottom,
         };
     }
-    let whole = values.add(s, rows, links, c);
-    let label = whole.label;
+    let label = values.label;
     let entered = enter(out, branch, edge, label);
     let below = graft_roles(
         s,
@@ -174,7 +172,7 @@ fn graft(
         limit,
         links,
         masks,
-        whole.kids,
+        values.kids,
         depth,
         out,
         entered,
@@ -315,7 +313,6 @@ fn graft_value(
         links,
         masks,
         values,
-        values.first,
         depth,
         out,
         branch,
@@ -355,19 +352,8 @@ fn graft_exists(
     let mut grown = branch;
     let mut j = some.next(0, rows);
     while j < rows {
-        let more = graft(
-            s,
-            rows,
-            limit,
-            links,
-            masks,
-            values,
-            j,
-            depth,
-            out,
-            grown,
-            edge,
-        );
+        let whole = values.add(s, rows, links, j);
+        let more = graft(s, rows, limit, links, masks, whole, depth, out, grown, edge);
         let table = more.table;
         grown = Branch {
             table,
@@ -410,14 +396,15 @@ pub fn build(s: &[u8], rows: usize, limits: Limits, scratch: &mut [u8]) -> Branc
         kind: KIND_ROOT,
         role: 0,
     };
+    let none = Values::none(rows);
+    let root = none.add(s, rows, &links, 0);
     graft(
         s,
         rows,
         limits.rows,
         &links,
         &masks,
-        Values::none(rows),
-        0,
+        root,
         limits.depth,
         scratch,
         branch,

@@ -54,7 +54,7 @@ use Rattle.normal.proofs.grow.+graft+graft_exists+graft_role+graft_role
 }
 
 abbrev μ-graft : Measures 4 graft-kinds.ps ℕ
-μ-graft κs a = 4 * a .1 .1 .1 .1 .1 .1 .1 .0 + 1
+μ-graft κs a = 4 * a .1 .1 .1 .1 .1 .1 .0 + 1
 
 abbrev μ-graft-exists : Measures 4 graft-exists-kinds.ps ℕ
 μ-graft-exists κs a = 4 * a .1 .1 .1 .1 .1 .1 .1 .1 .0 + 2
@@ -110,9 +110,7 @@ abbrev graft-value-below : ℕ → In 4 graft-value-kinds.ps
 graft-value-below t =
     and 4 graft-value-kinds.ps (falls 4 graft-value-kinds.ps _<_ μ-graft-value t) graft-value.Pre
 
-graft-add-t18 : (t : ℕ) → graft-lts.Need-add-t18 (
-  add-reads.Asked,
-  add-reads.Learnt,
+graft-add-t16 : (t : ℕ) → graft-lts.Need-add-t16 (
   enter-reads.Asked,
   enter-reads.Learnt,
   graft-roles-below t,
@@ -120,15 +118,13 @@ graft-add-t18 : (t : ℕ) → graft-lts.Need-add-t18 (
   leave-reads.Asked,
   leave-reads.Learnt,
 ) (graft-at t) graft.Post
-graft-add-t18 t c =
+graft-add-t16 t c =
     let st = c .before .before .before .before .before in
     let a = st .args in
     let pre = st .pre .1 in
-    omega (arith, pre .1 .1 .1 .0 .limit-most)
+    omega (arith, pre .1 .1 .0 .limit-most)
 
 graft-returns : (t : ℕ) → graft-lts.Need-returns (
-  add-reads.Asked,
-  add-reads.Learnt,
   enter-reads.Asked,
   enter-reads.Learnt,
   graft-roles-below t,
@@ -140,27 +136,9 @@ graft-returns t c =
     let st = c .before .before .before .before .before in
     let a = st .args in
     let pre = st .pre .1 in
-    λ q v. grown-over (a .limit) (a .edge .parent) (a .branch) _ (now (a .out)) _ (a .edge .role) _ (pre .1 .1 .1 .0) (c .if1 .taken) refl refl
-
-graft-add-requires : (t : ℕ) → graft-lts.Need-add-requires (
-  add-reads.Asked,
-  add-reads.Learnt,
-  enter-reads.Asked,
-  enter-reads.Learnt,
-  graft-roles-below t,
-  graft-roles.Post,
-  leave-reads.Asked,
-  leave-reads.Learnt,
-) (graft-at t) graft.Post
-graft-add-requires t c κs =
-    let st = c .before .before .before .before .before in
-    let a = st .args in
-    let pre = st .pre .1 in
-    (pre .0 .checked, (pre .0 .linked, pre .1 .1 .0))
+    λ q v. grown-over (a .limit) (a .edge .parent) (a .branch) _ (now (a .out)) _ (a .edge .role) _ (pre .1 .1 .0) (c .if1 .taken) refl refl
 
 graft-enter-requires : (t : ℕ) → graft-lts.Need-enter-requires (
-  add-reads.Asked,
-  add-reads.Learnt,
   enter-reads.Asked,
   enter-reads.Learnt,
   graft-roles-below t,
@@ -169,16 +147,14 @@ graft-enter-requires : (t : ℕ) → graft-lts.Need-enter-requires (
   leave-reads.Learnt,
 ) (graft-at t) graft.Post
 graft-enter-requires t c κs =
-    let st = c .before .before .before .before .before .before .before .before in
+    let st = c .before .before .before .before .before .before .before in
     let a = st .args in
     let pre = st .pre .1 in
-    let room = pre .1 .1 .1 .0 in
-    let fits : a .branch .merged < a .limit = omega (arith, c .before .before .before .if1 .left) in
+    let room = pre .1 .1 .0 in
+    let fits : a .branch .merged < a .limit = omega (arith, c .before .before .if1 .left) in
     (omega (arith, room .fewer, room .limit-most), omega (arith, room .fewer, room .space), omega (arith, room .limit-most))
 
 graft-graft-roles-requires : (t : ℕ) → graft-lts.Need-graft-roles-requires (
-  add-reads.Asked,
-  add-reads.Learnt,
   enter-reads.Asked,
   enter-reads.Learnt,
   graft-roles-below t,
@@ -187,29 +163,15 @@ graft-graft-roles-requires : (t : ℕ) → graft-lts.Need-graft-roles-requires (
   leave-reads.Learnt,
 ) (graft-at t) graft.Post
 graft-graft-roles-requires t c κs =
-    let st = c .before .before .before .before .before .before .before .before .before .before .before .before in
+    let st = c .before .before .before .before .before .before .before .before .before .before .before in
     let a = st .args in
     let pre = st .pre .1 in
-    let room = pre .1 .1 .1 .0 in
-    let fits : a .branch .merged < a .limit = omega (arith, c .before .before .before .before .before .before .before .if1 .left) in
-    let ad = c .before .before .before .before .before .before .add in
-    let en = c .before .before .before .enter in (
-      omega (arith, st .pre .0),
-      (
-        pre .0,
-        (
-          known-with (now (a .s)) (a .rows) (a .c) (a .values .kids) (ad .result .kids) (pre .1 .1 .0) (pre .1 .0) (ad .ensures .kids-join),
-          (
-            entered-room (a .limit) (a .branch) (now (a .out)) (a .edge) _ (en .result) (en .last .0) room fits (en .ensures),
-            omega (arith, en .ensures .one-more),
-          ),
-        ),
-      ),
-    )
+    let room = pre .1 .1 .0 in
+    let fits : a .branch .merged < a .limit = omega (arith, c .before .before .before .before .before .before .if1 .left) in
+    let en = c .before .before .before .enter in
+    (omega (arith, st .pre .0), (pre .0, (pre .1 .0, (entered-room (a .limit) (a .branch) (now (a .out)) (a .edge) _ (en .result) (en .last .0) room fits (en .ensures), omega (arith, en .ensures .one-more)))))
 
 graft-leave-requires : (t : ℕ) → graft-lts.Need-leave-requires (
-  add-reads.Asked,
-  add-reads.Learnt,
   enter-reads.Asked,
   enter-reads.Learnt,
   graft-roles-below t,
@@ -218,18 +180,16 @@ graft-leave-requires : (t : ℕ) → graft-lts.Need-leave-requires (
   leave-reads.Learnt,
 ) (graft-at t) graft.Post
 graft-leave-requires t c κs =
-    let st = c .before .before .before .before .before .before .before .before .before .before .before .before .before .before .before .before in
+    let st = c .before .before .before .before .before .before .before .before .before .before .before .before .before .before .before in
     let a = st .args in
     let pre = st .pre .1 in
-    let room = pre .1 .1 .1 .0 in
-    let fits : a .branch .merged < a .limit = omega (arith, c .before .before .before .before .before .before .before .before .before .before .before .if1 .left) in
+    let room = pre .1 .1 .0 in
+    let fits : a .branch .merged < a .limit = omega (arith, c .before .before .before .before .before .before .before .before .before .before .if1 .left) in
     let en = c .before .before .before .before .before .before .before .enter in
     let gr = c .before .before .before .graft-roles in
     (omega (arith, room .fewer, room .limit-most), omega (arith, room .fewer, room .space, gr .ensures .same, entered-length (a .limit) (a .branch) (now (a .out)) (a .edge) _ (en .result) (en .last .0) room fits (en .ensures)))
 
 graft-same-length : (t : ℕ) → graft-lts.Need-same-length (
-  add-reads.Asked,
-  add-reads.Learnt,
   enter-reads.Asked,
   enter-reads.Learnt,
   graft-roles-below t,
@@ -240,8 +200,6 @@ graft-same-length : (t : ℕ) → graft-lts.Need-same-length (
 graft-same-length t c = search needs
 
 graft-returns-2 : (t : ℕ) → graft-lts.Need-returns-2 (
-  add-reads.Asked,
-  add-reads.Learnt,
   enter-reads.Asked,
   enter-reads.Learnt,
   graft-roles-below t,
@@ -250,21 +208,19 @@ graft-returns-2 : (t : ℕ) → graft-lts.Need-returns-2 (
   leave-reads.Learnt,
 ) (graft-at t) graft.Post
 graft-returns-2 t c =
-    let st = c .before .before .before .before .before .before .before .before .before .before .before .before .before .before .before .before .before .before .before in
+    let st = c .before .before .before .before .before .before .before .before .before .before .before .before .before .before .before .before .before .before in
     let a = st .args in
     let pre = st .pre .1 in
-    let room = pre .1 .1 .1 .0 in
-    let fits : a .branch .merged < a .limit = omega (arith, c .before .before .before .before .before .before .before .before .before .before .before .before .before .before .if1 .left) in
-    let ad = c .before .before .before .before .before .before .before .before .before .before .before .before .before .add in
+    let room = pre .1 .1 .0 in
+    let fits : a .branch .merged < a .limit = omega (arith, c .before .before .before .before .before .before .before .before .before .before .before .before .before .if1 .left) in
     let en = c .before .before .before .before .before .before .before .before .before .before .enter in
     let gr = c .before .before .before .before .before .before .graft-roles in
     let le = c .before .before .leave in
     λ q v.
-    let whole = valued-with (now (a .s)) (a .rows) q (a .values) (a .c) (ad .result) (pre .1 .1 .0) v (ad .ensures) in
-    let f = successorsAt (now (a .s)) (a .rows) (a .depth) (hangs (now (a .s)) (also (a .c) q)) in
-    let l = labelOfSet pictureSignature (pictureTable (now (a .s))) (filterBelow (also (a .c) q) (a .rows)) in
-    grown-same (a .limit) (a .edge .parent) (a .branch) (le .result) (now (a .out)) (le .last .0) _ _ (ap (λ t. cons (kindAt (a .edge .kind)) (a .edge .role) t nil) (sym (merged-node (now (a .s)) (a .rows) (pre .0 .checked) (also (a .c) q) (a .depth))))
-    (grown-node (a .limit) (a .branch) (now (a .out)) (a .edge) (ad .result .label) l (whole .label-is) (pre .1 .1 .1 .1) room fits f (en .result) (gr .result) (le .result) (en .last .0) (gr .last .1 .1 .1 .1 .1 .1 .1 .0) (le .last .0) (en .ensures) (grown-same (a .limit) (a .branch .table .rows) (en .result) (gr .result) (en .last .0) (gr .last .1 .1 .1 .1 .1 .1 .1 .0) _ _ (successors-same (now (a .s)) (a .rows) (holds (ad .result .kids .set)) (hangs (now (a .s)) (also (a .c) q)) (whole .kids-are) (a .depth)) (gr .ensures)) (le .ensures))
+    let f = successorsAt (now (a .s)) (a .rows) (a .depth) (hangs (now (a .s)) q) in
+    let l = labelOfSet pictureSignature (pictureTable (now (a .s))) (filterBelow q (a .rows)) in
+    grown-same (a .limit) (a .edge .parent) (a .branch) (le .result) (now (a .out)) (le .last .0) _ _ (ap (λ t. cons (kindAt (a .edge .kind)) (a .edge .role) t nil) (sym (merged-node (now (a .s)) (a .rows) (pre .0 .checked) q (a .depth))))
+    (grown-node (a .limit) (a .branch) (now (a .out)) (a .edge) (a .values .label) l (v .label-is) (pre .1 .1 .1) room fits f (en .result) (gr .result) (le .result) (en .last .0) (gr .last .1 .1 .1 .1 .1 .1 .1 .0) (le .last .0) (en .ensures) (grown-same (a .limit) (a .branch .table .rows) (en .result) (gr .result) (en .last .0) (gr .last .1 .1 .1 .1 .1 .1 .1 .0) _ _ (successors-same (now (a .s)) (a .rows) (holds (a .values .kids .set)) (hangs (now (a .s)) q) (v .kids-are) (a .depth)) (gr .ensures)) (le .ensures))
 
 abbrev graft-exists-Inv-loop : graft-exists-lts.InvT-loop
 graft-exists-Inv-loop s rows limit links masks some values depth out₀ parent role edge grown₀ j₀ out grown j =
@@ -277,6 +233,8 @@ graft-exists-μ-loop s rows limit links masks some values depth out₀ parent ro
 graft-exists-next-requires : (t : ℕ) → graft-exists-lts.Need-next-requires (
   next-reads.Asked,
   next-reads.Learnt,
+  add-reads.Asked,
+  add-reads.Learnt,
   graft-below t,
   graft.Post,
 ) (graft-exists-at t) graft-exists.Post graft-exists-Inv-loop graft-exists-μ-loop
@@ -289,6 +247,8 @@ graft-exists-next-requires t c κs =
 graft-exists-loop-holds : (t : ℕ) → graft-exists-lts.Need-loop-holds (
   next-reads.Asked,
   next-reads.Learnt,
+  add-reads.Asked,
+  add-reads.Learnt,
   graft-below t,
   graft.Post,
 ) (graft-exists-at t) graft-exists.Post graft-exists-Inv-loop graft-exists-μ-loop
@@ -298,67 +258,100 @@ graft-exists-loop-holds t c =
     let pre = st .pre .1 in
     (λ q v. turn-start (now (a .s)) (a .rows) (a .depth) (a .role) (a .some) q (a .limit) (a .parent) (a .branch) (now (a .out)) (c .next .result) (c .next .ensures) (pre .1 .1 .0), c .next .ensures .held)
 
+graft-exists-add-requires : (t : ℕ) → graft-exists-lts.Need-add-requires (
+  next-reads.Asked,
+  next-reads.Learnt,
+  add-reads.Asked,
+  add-reads.Learnt,
+  graft-below t,
+  graft.Post,
+) (graft-exists-at t) graft-exists.Post graft-exists-Inv-loop graft-exists-μ-loop
+graft-exists-add-requires t c κs =
+    let st = c .before .before .before .before .before in
+    let a = st .args in
+    let pre = st .pre .1 in
+    (pre .0 .checked, (pre .0 .linked, c .loop-test .taken))
+
 graft-exists-graft-requires : (t : ℕ) → graft-exists-lts.Need-graft-requires (
   next-reads.Asked,
   next-reads.Learnt,
+  add-reads.Asked,
+  add-reads.Learnt,
   graft-below t,
   graft.Post,
 ) (graft-exists-at t) graft-exists.Post graft-exists-Inv-loop graft-exists-μ-loop
 graft-exists-graft-requires t c κs =
-    let st = c .before .before .before .before .before .before in
+    let st = c .before .before .before .before .before .before .before in
     let a = st .args in
     let pre = st .pre .1 in
-    let l = c .before .before .loop in
+    let l = c .before .before .before .loop in
     let g = l .inv .0 (holds (a .all)) (pre .1 .0) in
-    (omega (arith, st .pre .0), (pre .0, (pre .1 .0 .known, (c .before .loop-test .taken, (grown-room (a .limit) (a .parent) (a .branch) (l .grown) (now (a .out)) (l .out) _ (pre .1 .1 .0) g, code-later (l .grown .table .rows) exists (grown-some (a .limit) (a .parent) (a .branch) (l .grown) (now (a .out)) (l .out) _ (pre .1 .1 .1) g))))))
+    let ad = c .before .add in
+    (omega (arith, st .pre .0), (pre .0, (known-with (now (a .s)) (a .rows) (l .j) (a .values .kids) (ad .result .kids) (c .before .before .loop-test .taken) (pre .1 .0 .known) (ad .ensures .kids-join), (grown-room (a .limit) (a .parent) (a .branch) (l .grown) (now (a .out)) (l .out) _ (pre .1 .1 .0) g, code-later (l .grown .table .rows) exists (grown-some (a .limit) (a .parent) (a .branch) (l .grown) (now (a .out)) (l .out) _ (pre .1 .1 .1) g)))))
 
 graft-exists-same-length : (t : ℕ) → graft-exists-lts.Need-same-length (
   next-reads.Asked,
   next-reads.Learnt,
+  add-reads.Asked,
+  add-reads.Learnt,
   graft-below t,
   graft.Post,
 ) (graft-exists-at t) graft-exists.Post graft-exists-Inv-loop graft-exists-μ-loop
 graft-exists-same-length t c =
-    let st = c .before .before .before .before .before .before .before .before .before .before .before .before in
-    let q = holds (st .args .all) in
-    let v = st .pre .1 .1 .0 in
-    c .before .before .before .before .before .graft .ensures q v .same ∙ c .before .before .before .before .before .before .before .before .loop .inv .0 q v .same
+    let st = c .before .before .before .before .before .before .before .before .before .before .before .before .before in
+    let a = st .args in
+    let pre = st .pre .1 in
+    let l = c .before .before .before .before .before .before .before .before .before .loop in
+    let ad = c .before .before .before .before .before .before .before .add in
+    let more = c .before .before .before .before .before .before .before .before .loop-test .taken in
+    let q = holds (a .all) in
+    let v = pre .1 .0 in
+    c .before .before .before .before .before .graft .ensures (also (l .j) q) (valued-with (now (a .s)) (a .rows) q (a .values) (l .j) (ad .result) more v (ad .ensures)) .same ∙ l .inv .0 q v .same
 
 graft-exists-returns : (t : ℕ) → graft-exists-lts.Need-returns (
   next-reads.Asked,
   next-reads.Learnt,
+  add-reads.Asked,
+  add-reads.Learnt,
   graft-below t,
   graft.Post,
 ) (graft-exists-at t) graft-exists.Post graft-exists-Inv-loop graft-exists-μ-loop
 graft-exists-returns t c =
-    let st = c .before .before .before .before .before .before .before .before .before .before .before .before in
+    let st = c .before .before .before .before .before .before .before .before .before .before .before .before .before in
     let a = st .args in
     let pre = st .pre .1 in
-    let l = c .before .before .before .before .before .before .before .before .loop in
+    let l = c .before .before .before .before .before .before .before .before .before .loop in
+    let ad = c .before .before .before .before .before .before .before .add in
     let gr = c .before .before .before .before .before .graft in
-    let more = c .before .before .before .before .before .before .before .loop-test .taken in
-    turn-full (now (a .s)) (a .rows) (a .depth) (a .role) (a .some) (holds (a .all)) (a .limit) (a .parent) (a .branch) (now (a .out)) (l .j) more (l .grown) (l .out) (l .inv .0 (holds (a .all)) (pre .1 .0)) (gr .result) _ (l .inv .1 more) (gr .ensures (holds (a .all)) (pre .1 .0)) (c .if1 .taken)
+    let more = c .before .before .before .before .before .before .before .before .loop-test .taken in
+    let q = holds (a .all) in
+    let v = pre .1 .0 in
+    turn-full (now (a .s)) (a .rows) (a .depth) (a .role) (a .some) q (a .limit) (a .parent) (a .branch) (now (a .out)) (l .j) more (l .grown) (l .out) (l .inv .0 q v) (gr .result) _ (l .inv .1 more) (gr .ensures (also (l .j) q) (valued-with (now (a .s)) (a .rows) q (a .values) (l .j) (ad .result) more v (ad .ensures))) (c .if1 .taken)
 
 graft-exists-add-next : (t : ℕ) → graft-exists-lts.Need-add-next (
   next-reads.Asked,
   next-reads.Learnt,
+  add-reads.Asked,
+  add-reads.Learnt,
   graft-below t,
   graft.Post,
 ) (graft-exists-at t) graft-exists.Post graft-exists-Inv-loop graft-exists-μ-loop
 graft-exists-add-next t c =
-    let st = c .before .before .before .before .before .before .before .before .before .before .before .before in
+    let st = c .before .before .before .before .before .before .before .before .before .before .before .before .before in
     let a = st .args in
     let pre = st .pre .1 in
-    omega (arith, c .before .before .before .before .before .before .before .loop-test .taken, pre .0 .checked .most)
+    omega (arith, c .before .before .before .before .before .before .before .before .loop-test .taken, pre .0 .checked .most)
 
 graft-exists-next-requires-2 : (t : ℕ) → graft-exists-lts.Need-next-requires-2 (
   next-reads.Asked,
   next-reads.Learnt,
+  add-reads.Asked,
+  add-reads.Learnt,
   graft-below t,
   graft.Post,
 ) (graft-exists-at t) graft-exists.Post graft-exists-Inv-loop graft-exists-μ-loop
 graft-exists-next-requires-2 t c κs =
-    let st = c .before .before .before .before .before .before .before .before .before .before .before .before in
+    let st = c .before .before .before .before .before .before .before .before .before .before .before .before .before in
     let a = st .args in
     let pre = st .pre .1 in
     pre .0 .checked .most
@@ -366,33 +359,40 @@ graft-exists-next-requires-2 t c κs =
 graft-exists-loop-less : (t : ℕ) → graft-exists-lts.Need-loop-less (
   next-reads.Asked,
   next-reads.Learnt,
+  add-reads.Asked,
+  add-reads.Learnt,
   graft-below t,
   graft.Post,
 ) (graft-exists-at t) graft-exists.Post graft-exists-Inv-loop graft-exists-μ-loop
 graft-exists-loop-less t c =
-    let st = c .before .before .before .before .before .before .before .before .before .before .before .before .before in
+    let st = c .before .before .before .before .before .before .before .before .before .before .before .before .before .before in
     let a = st .args in
     let pre = st .pre .1 in
-    omega (arith, c .before .before .before .before .before .before .before .before .loop-test .taken, c .next2 .ensures .onward)
+    omega (arith, c .before .before .before .before .before .before .before .before .before .loop-test .taken, c .next2 .ensures .onward)
 
 graft-exists-loop-again : (t : ℕ) → graft-exists-lts.Need-loop-again (
   next-reads.Asked,
   next-reads.Learnt,
+  add-reads.Asked,
+  add-reads.Learnt,
   graft-below t,
   graft.Post,
 ) (graft-exists-at t) graft-exists.Post graft-exists-Inv-loop graft-exists-μ-loop
 graft-exists-loop-again t c =
-    let st = c .before .before .before .before .before .before .before .before .before .before .before .before .before in
+    let st = c .before .before .before .before .before .before .before .before .before .before .before .before .before .before in
     let a = st .args in
     let pre = st .pre .1 in
-    let l = c .before .before .before .before .before .before .before .before .before .loop in
+    let l = c .before .before .before .before .before .before .before .before .before .before .loop in
+    let ad = c .before .before .before .before .before .before .before .before .add in
     let gr = c .before .before .before .before .before .before .graft in
-    let more = c .before .before .before .before .before .before .before .before .loop-test .taken in
-    (λ q v. turn-on (now (a .s)) (a .rows) (a .depth) (a .role) (a .some) q (a .limit) (a .parent) (a .branch) (now (a .out)) (l .j) more (l .grown) (l .out) (l .inv .0 q v) (gr .result) _ (l .inv .1 more) (gr .ensures q v) (c .next2 .result) (c .next2 .ensures), c .next2 .ensures .held)
+    let more = c .before .before .before .before .before .before .before .before .before .loop-test .taken in
+    (λ q v. turn-on (now (a .s)) (a .rows) (a .depth) (a .role) (a .some) q (a .limit) (a .parent) (a .branch) (now (a .out)) (l .j) more (l .grown) (l .out) (l .inv .0 q v) (gr .result) _ (l .inv .1 more) (gr .ensures (also (l .j) q) (valued-with (now (a .s)) (a .rows) q (a .values) (l .j) (ad .result) more v (ad .ensures))) (c .next2 .result) (c .next2 .ensures), c .next2 .ensures .held)
 
 graft-exists-same-length-2 : (t : ℕ) → graft-exists-lts.Need-same-length-2 (
   next-reads.Asked,
   next-reads.Learnt,
+  add-reads.Asked,
+  add-reads.Learnt,
   graft-below t,
   graft.Post,
 ) (graft-exists-at t) graft-exists.Post graft-exists-Inv-loop graft-exists-μ-loop
@@ -403,6 +403,8 @@ graft-exists-same-length-2 t c =
 graft-exists-returns-2 : (t : ℕ) → graft-exists-lts.Need-returns-2 (
   next-reads.Asked,
   next-reads.Learnt,
+  add-reads.Asked,
+  add-reads.Learnt,
   graft-below t,
   graft.Post,
 ) (graft-exists-at t) graft-exists.Post graft-exists-Inv-loop graft-exists-μ-loop
@@ -706,7 +708,7 @@ graft-value-graft-requires t c κs =
     let st = c .before .before .before .before .before .before in
     let a = st .args in
     let pre = st .pre .1 in
-    (omega (arith, st .pre .0), (pre .0, (pre .1 .0 .known, (omega (arith, c .before .if1 .left), (pre .1 .1 .0, code-later (a .branch .table .rows) forAll (pre .1 .1 .1))))))
+    (omega (arith, st .pre .0), (pre .0, (pre .1 .0 .known, (pre .1 .1 .0, code-later (a .branch .table .rows) forAll (pre .1 .1 .1)))))
 
 graft-value-same-length :
     (t : ℕ) →
@@ -729,8 +731,6 @@ graft-value-returns-2 t c =
 pub +graft+graft-exists+graft-role+graft-roles+graft-value-spec : {M : Type 1} → statement M
 +graft+graft-exists+graft-role+graft-roles+graft-value-spec =
     close μ-graft μ-graft-exists μ-graft-role μ-graft-roles μ-graft-value (λ t. graft-lts.spec (
-      add-reads.Asked,
-      add-reads.Learnt,
       enter-reads.Asked,
       enter-reads.Learnt,
       graft-roles-below t,
@@ -740,22 +740,28 @@ pub +graft+graft-exists+graft-role+graft-roles+graft-value-spec : {M : Type 1} �
     )
     (graft-at t)
     graft.Post
-    (graft-add-t18 t)
+    (graft-add-t16 t)
     (graft-returns t)
-    (graft-add-requires t)
     (graft-enter-requires t)
     (graft-graft-roles-requires t)
     (graft-leave-requires t)
     (graft-same-length t)
     (graft-returns-2 t))
-    (λ t. graft-exists-lts.spec
-    (next-reads.Asked, next-reads.Learnt, graft-below t, graft.Post)
+    (λ t. graft-exists-lts.spec (
+      next-reads.Asked,
+      next-reads.Learnt,
+      add-reads.Asked,
+      add-reads.Learnt,
+      graft-below t,
+      graft.Post,
+    )
     (graft-exists-at t)
     graft-exists.Post
     graft-exists-Inv-loop
     graft-exists-μ-loop
     (graft-exists-next-requires t)
     (graft-exists-loop-holds t)
+    (graft-exists-add-requires t)
     (graft-exists-graft-requires t)
     (graft-exists-same-length t)
     (graft-exists-returns t)
