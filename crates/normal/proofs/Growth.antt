@@ -26,9 +26,9 @@ use Rattle.table.proofs.Bools.{or-assoc, or-none}
 use Rattle.table.proofs.Puts.{length-put}
 use Rattle.table.proofs.Rows.{length-rowOf}
 use Rattle.normal.specs.Grown.{Entered, Grown, Room, Written, prefix}
-use Rattle.normal.specs.declared.grow.Edge.{Edge}
+use Rattle.normal.specs.declared.node.Edge.{Edge}
 use Rattle.normal.specs.declared.label.Label.{Label}
-use Rattle.normal.specs.declared.grow.Branch.{Branch}
+use Rattle.normal.specs.declared.node.Branch.{Branch}
 
 -- the rows of two forests, one after the other
 rows-append : (f g : Forest pictureSignature) (p o : ℕ) → rowsFrom o (encodeForest pictureSignature (append pictureSignature f g) p o) ≡ rowsFrom o (encodeForest pictureSignature f p o) ++ rowsFrom (o + sizes pictureSignature f) (encodeForest pictureSignature g p (o + sizes pictureSignature f))

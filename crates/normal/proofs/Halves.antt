@@ -23,7 +23,7 @@ use Rattle.table.specs.declared.layout.Limits.{Limits}
 use Rattle.normal.specs.Built.{Built}
 use Rattle.normal.specs.Grown.{prefix}
 use Rattle.normal.specs.Half.{halfOf}
-use Rattle.normal.specs.declared.grow.Branch.{Branch}
+use Rattle.normal.specs.declared.node.Branch.{Branch}
 use Rattle.normal.proofs.Normalizations.{built-file}
 
 pub length-prefix : (rows : ℕ) (scratch : List ℕ) → place rows 0 ≤ length scratch → length (prefix rows scratch ++ endBytes) ≡ place rows endSize

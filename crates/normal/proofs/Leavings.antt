@@ -1,5 +1,5 @@
 -- The three ways in which a row is left, by the two tests.
---   left-broken, left-dropped, left-whole
+--   left-inconsistent, left-dropped, left-whole
 use Prim.Native.Nat.{_+_, ℕ}
 use lib.Dec.{eqb}
 use mathlib.Core.Bool.{Bool, _||_, false, not, true}
@@ -10,14 +10,14 @@ use Rattle.table.specs.Layout.{kindForAll, «place»}
 use Rattle.table.specs.NameSet.{none}
 use Rattle.table.specs.Put.{put}
 use Rattle.table.proofs.Bools.{or-none}
-use Rattle.normal.specs.Grown.{Left, broken, «given-up»}
-use Rattle.normal.specs.declared.grow.Branch.{Branch}
-use Rattle.normal.specs.declared.grow.Edge.{Edge}
+use Rattle.normal.specs.Grown.{Left, isInconsistent, isDropped}
+use Rattle.normal.specs.declared.node.Branch.{Branch}
+use Rattle.normal.specs.declared.node.Edge.{Edge}
 use Rattle.normal.specs.declared.label.Label.{Label}
 
 module _ (b : Branch) (edge : Edge) (label : Label) (below r : Branch) (out end : List ℕ) where
-  pub left-broken : (w e : ℕ) → broken label below ≡ true → r .merged ≡ below .merged → r .table .rows ≡ b .table .rows + 1 → r .bottom ≡ (b .bottom || not (eqb (edge .kind) kindForAll)) → w ≡ none → e ≡ none → end ≡ put out (place (b .table .rows) 0) (rowOf (edge .parent) (edge .kind) (edge .role) 1 w e) → Left b edge label below out r end
-  left-broken w e β m n z ew ee p = record {
+  pub left-inconsistent : (w e : ℕ) → isInconsistent label below ≡ true → r .merged ≡ below .merged → r .table .rows ≡ b .table .rows + 1 → r .bottom ≡ (b .bottom || not (eqb (edge .kind) kindForAll)) → w ≡ none → e ≡ none → end ≡ put out (place (b .table .rows) 0) (rowOf (edge .parent) (edge .kind) (edge .role) 1 w e) → Left b edge label below out r end
+  left-inconsistent w e β m n z ew ee p = record {
     counted = m;
     rows-are = rw β n;
     bottom-is = rw β z;
@@ -27,8 +27,8 @@ module _ (b : Branch) (edge : Edge) (label : Label) (below r : Branch) (out end 
         ∙ ap (λ (x : ℕ). put out (place (b .table .rows) 0) (rowOf (edge .parent) (edge .kind) (edge .role) 1 none x)) ee);
   }
 
-  pub left-dropped : broken label below ≡ false → «given-up» b edge label below ≡ true → r .merged ≡ below .merged → r .table .rows ≡ b .table .rows → r .bottom ≡ b .bottom → end ≡ out → Left b edge label below out r end
+  pub left-dropped : isInconsistent label below ≡ false → isDropped b edge label below ≡ true → r .merged ≡ below .merged → r .table .rows ≡ b .table .rows → r .bottom ≡ b .bottom → end ≡ out → Left b edge label below out r end
   left-dropped β δ m n z p = record { counted = m; rows-are = rw (β, δ) n; bottom-is = rw β (z ∙ sym (or-none (b .bottom))); bytes-are = rw β p }
 
-  pub left-whole : broken label below ≡ false → «given-up» b edge label below ≡ false → r .merged ≡ below .merged → r .table .rows ≡ below .table .rows → r .bottom ≡ b .bottom → end ≡ out → Left b edge label below out r end
+  pub left-whole : isInconsistent label below ≡ false → isDropped b edge label below ≡ false → r .merged ≡ below .merged → r .table .rows ≡ below .table .rows → r .bottom ≡ b .bottom → end ≡ out → Left b edge label below out r end
   left-whole β δ m n z p = record { counted = m; rows-are = rw (β, δ) n; bottom-is = rw β (z ∙ sym (or-none (b .bottom))); bytes-are = rw β p }

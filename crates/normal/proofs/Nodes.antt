@@ -1,4 +1,4 @@
--- A merged row as it is left: broken, dropped, or with what hangs from it. The tests of the code are those of the theory, over any kind.
+-- A merged row as it is left: isInconsistent, dropped, or with what hangs from it. The tests of the code are those of the theory, over any kind.
 --   grown-node   a row that was written, with what hangs from it, and then left, is one successor more
 use Prim.Native.Nat.{_+_, _<_, _≤_, suc, ℕ}
 use lib.Bits.{and-zero-r, bitAnd}
@@ -26,10 +26,10 @@ use Rattle.ale.specs.Tree as tree
 use Rattle.ale.specs.Tree.{Forest, Kind, Tree, any, bottomLabel, bottomTree, cons, exists, forAll, nil, node, sameKind, sizes}
 use Rattle.meaning.specs.File.{codeAt, markCode, rowAt, rowsFrom}
 use Rattle.meaning.specs.Meaning.{kindAt}
-use Rattle.normal.specs.Grown.{Entered, Grown, Left, Room, Written, bare, broken, clash, «given-up», prefix}
+use Rattle.normal.specs.Grown.{Entered, Grown, Left, Room, Written, bare, isInconsistent, clash, isDropped, prefix}
 use Rattle.normal.specs.Labels.{LabelIs}
-use Rattle.normal.specs.declared.grow.Branch.{Branch}
-use Rattle.normal.specs.declared.grow.Edge.{Edge}
+use Rattle.normal.specs.declared.node.Branch.{Branch}
+use Rattle.normal.specs.declared.node.Edge.{Edge}
 use Rattle.normal.specs.declared.label.Label.{Label}
 use Rattle.normal.proofs.Growth.{entered-length}
 use Rattle.normal.proofs.Prefixes.{prefix-before, prefix-put}
@@ -44,8 +44,8 @@ eqb-swap a b false e = ne-eqb b a (λ z. eqb-false a b e (sym z))
 within-none : (x : ℕ) → eqb (bitAnd x 0) x ≡ eqb x 0
 within-none x = rw (and-zero-r x) (eqb-swap x 0 (eqb x 0) refl)
 
-broken-is : (label : Label) (l : tree.Label pictureSignature) (below : Branch) (g : Forest pictureSignature) → LabelIs label l → below .bottom ≡ any pictureSignature (bottomExists pictureSignature) g → broken label below ≡ inconsistent pictureSignature l g
-broken-is label l below g is e =
+inconsistent-is : (label : Label) (l : tree.Label pictureSignature) (below : Branch) (g : Forest pictureSignature) → LabelIs label l → below .bottom ≡ any pictureSignature (bottomExists pictureSignature) g → isInconsistent label below ≡ inconsistent pictureSignature l g
+inconsistent-is label l below g is e =
     rw (is .wanted-is, is .excluded-is, is .bottom-is, e, within-none (bitAnd (l .wanted .set) (l .excluded .set))) (or-assoc (l .bottom) _ _)
 
 nil-is : (n : ℕ) (g : Forest pictureSignature) → eqb (n + sizes pictureSignature g) n ≡ isNil pictureSignature g
@@ -68,7 +68,7 @@ trivial-is true true n = refl
 trivial-is true false n = refl
 trivial-is false e n = refl
 
-dropped-is : (b : Branch) (edge : Edge) (label : Label) (l : tree.Label pictureSignature) (below : Branch) (g : Forest pictureSignature) → LabelIs label l → below .table .rows ≡ b .table .rows + 1 + sizes pictureSignature g → l .bottom ≡ false → «given-up» b edge label below ≡ dropped pictureSignature (kindAt (edge .kind)) (node l g)
+dropped-is : (b : Branch) (edge : Edge) (label : Label) (l : tree.Label pictureSignature) (below : Branch) (g : Forest pictureSignature) → LabelIs label l → below .table .rows ≡ b .table .rows + 1 + sizes pictureSignature g → l .bottom ≡ false → isDropped b edge label below ≡ dropped pictureSignature (kindAt (edge .kind)) (node l g)
 dropped-is b edge label l below g is e possible =
     sym
     (by-kind (eqb (edge .kind) kindForAll) (node l g) (bare label && eqb (below .table .rows) (b .table .rows + 1))
@@ -196,8 +196,8 @@ module _ (limit : ℕ) (b : Branch) (out : List ℕ) (edge : Edge) (label : Labe
 
     pub grown-node : Grown limit (edge .parent) b out (cons (kindAt (edge .kind)) (edge .role) (node l f) nil) r end
     grown-node =
-        let β : Bool = broken label below in
-        let δ : Bool = «given-up» b edge label below in
+        let β : Bool = isInconsistent label below in
+        let δ : Bool = isDropped b edge label below in
         record {
           count = omega (arith, le .counted, gr .count, en .counted);
           fewer = subst (λ (n : ℕ). n ≤ r .merged) (sym (le .rows-are)) (left-most β δ (r .merged) (omega (arith, le .counted, gr .count, en .counted, room .fewer)) (omega (arith, le .counted, gr .fewer)));
@@ -205,7 +205,7 @@ module _ (limit : ℕ) (b : Branch) (out : List ℕ) (edge : Edge) (label : Labe
           same = end-length β (le .bytes-are) ∙ gr .same ∙ first-length;
           written = λ h.
               let w = gr .written (omega (arith, en .counted)) in
-              let e : β ≡ inconsistent pictureSignature l (tidyAll pictureSignature f) = broken-is label l below (tidyAll pictureSignature f) is (w .bottom-is ∙ ap (λ (c : Bool). c || any pictureSignature (bottomExists pictureSignature) (tidyAll pictureSignature f)) (en .none-yet)) in
+              let e : β ≡ inconsistent pictureSignature l (tidyAll pictureSignature f) = inconsistent-is label l below (tidyAll pictureSignature f) is (w .bottom-is ∙ ap (λ (c : Bool). c || any pictureSignature (bottomExists pictureSignature) (tidyAll pictureSignature f)) (en .none-yet)) in
               let possible : (β ≡ false → l .bottom ≡ false) = (λ z. kept-possible l (tidyAll pictureSignature f) (sym e ∙ z)) in
               let st = standing w in
               subst (λ t. Written (edge .parent) b out t r end)

@@ -20,7 +20,7 @@ use Rattle.table.specs.Put.{put}
 use Rattle.table.specs.declared.layout.Limits.{Limits}
 use Rattle.normal.specs.Built.{Built}
 use Rattle.normal.specs.Grown.{prefix}
-use Rattle.normal.specs.declared.grow.Branch.{Branch}
+use Rattle.normal.specs.declared.node.Branch.{Branch}
 
 pub table-put : (rows n : ℕ) (scratch out l₁ l₂ : List ℕ) → n ≡ place rows 0 → place rows 0 ≤ length scratch →
     place rows endSize ≤ length out → l₁ ≡ put out 0 (take n scratch) → l₂ ≡ put l₁ (place rows 0) endBytes →

@@ -23,7 +23,7 @@ use Rattle.normal.specs.Built.{Built}
 use Rattle.normal.specs.Grown.{Grown}
 use Rattle.normal.specs.Parts.{mergedAt}
 use Rattle.normal.specs.Rows.{also}
-use Rattle.normal.specs.declared.grow.Branch.{Branch}
+use Rattle.normal.specs.declared.node.Branch.{Branch}
 
 pub rows-root : (rows : ℕ) → 0 < rows → filterBelow (also 0 (λ j. false)) rows ≡ 0 ∷ []
 rows-root zero rooted = absurd (omega arith)

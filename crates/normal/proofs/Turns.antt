@@ -16,7 +16,7 @@ use Rattle.ale.specs.Tree.{Forest, cons, exists, nil}
 use Rattle.normal.specs.Grown.{Grown, Room}
 use Rattle.normal.specs.Parts.{existsPartAt, mergedAt, partsAt, rolesAt}
 use Rattle.normal.specs.Rows.{Next, Unused, also, holds, ofRole}
-use Rattle.normal.specs.declared.grow.Branch.{Branch}
+use Rattle.normal.specs.declared.node.Branch.{Branch}
 use Rattle.normal.specs.declared.rows.RowSet.{RowSet}
 use Rattle.normal.proofs.Growth.{grown-append, grown-full, grown-nil, grown-same}
 use Rattle.normal.proofs.PartLaws.{exists-more, exists-next, exists-none, exists-skip, roles-next, roles-skip}

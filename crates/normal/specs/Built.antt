@@ -11,7 +11,7 @@ use Rattle.ale.specs.Tree.{size}
 use Rattle.meaning.specs.File.{rowsFrom}
 use Rattle.meaning.specs.NormalTable.{mergedCount, normalTreeOf}
 use Rattle.normal.specs.Grown.{capped, prefix}
-use Rattle.normal.specs.declared.grow.Branch.{Branch}
+use Rattle.normal.specs.declared.node.Branch.{Branch}
 
 pub record Built (limits : Limits) (s : List ℕ) (out : List ℕ) (r : Branch) (end : List ℕ) : Type 0 where
   pub count : r .merged ≡ capped (limits .rows) (mergedCount limits s)

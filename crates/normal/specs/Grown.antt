@@ -6,7 +6,7 @@
 --   Written    the rows of a forest stand after those that were there, and whether a some-successor is ⊥
 --   Grown      a forest was counted, and what tidying leaves of it was written if the count is within the limit
 --   Entered    a row was written, and what hangs from it is to follow
---   broken, given-up, Left   01, "broken", "dropped": how a row is left once what hangs from it is there
+--   isInconsistent, isDropped, Left   01, "broken", "dropped": how a row is left once what hangs from it is there
 use Prim.Native.Nat.{_+_, _<_, _≤_, min, suc, ℕ}
 use lib.Dec.{eqb}
 use lib.ListN.{length, take}
@@ -24,8 +24,8 @@ use Rattle.ale.specs.Normal.{bottomExists, tidyAll}
 use Rattle.ale.specs.PictureSignature.{pictureSignature}
 use Rattle.ale.specs.Tree.{Forest, any, sizes}
 use Rattle.meaning.specs.File.{rowsFrom}
-use Rattle.normal.specs.declared.grow.Branch.{Branch}
-use Rattle.normal.specs.declared.grow.Edge.{Edge}
+use Rattle.normal.specs.declared.node.Branch.{Branch}
+use Rattle.normal.specs.declared.node.Edge.{Edge}
 use Rattle.normal.specs.declared.label.Label.{Label}
 
 abbrev pub prefix : ℕ → List ℕ → List ℕ
@@ -69,20 +69,20 @@ clash label = eqb (label .bottom) 1 || overlap (setOf (label .wanted)) (setOf (l
 abbrev pub bare : Label → Bool
 bare label = eqb (setOf (label .wanted)) none && eqb (setOf (label .excluded)) none
 
-abbrev pub broken : Label → Branch → Bool
-broken label below = clash label || below .bottom
+abbrev pub isInconsistent : Label → Branch → Bool
+isInconsistent label below = clash label || below .bottom
 
-abbrev pub given-up : Branch → Edge → Label → Branch → Bool
-given-up b edge label below = eqb (edge .kind) kindForAll && (bare label && eqb (below .table .rows) (b .table .rows + 1))
+abbrev pub isDropped : Branch → Edge → Label → Branch → Bool
+isDropped b edge label below = eqb (edge .kind) kindForAll && (bare label && eqb (below .table .rows) (b .table .rows + 1))
 
 pub record Left (b : Branch) (edge : Edge) (label : Label) (below : Branch) (out : List ℕ) (r : Branch) (end : List ℕ) : Type 0 where
   pub counted : r .merged ≡ below .merged
   pub rows-are :
       r .table .rows
-      ≡ pick (broken label below) (b .table .rows + 1) (pick (given-up b edge label below) (b .table .rows) (below .table .rows))
-  pub bottom-is : r .bottom ≡ (b .bottom || (broken label below && not (eqb (edge .kind) kindForAll)))
+      ≡ pick (isInconsistent label below) (b .table .rows + 1) (pick (isDropped b edge label below) (b .table .rows) (below .table .rows))
+  pub bottom-is : r .bottom ≡ (b .bottom || (isInconsistent label below && not (eqb (edge .kind) kindForAll)))
   pub bytes-are :
       end
-      ≡ pick (broken label below)
+      ≡ pick (isInconsistent label below)
       (put out (place (b .table .rows) 0) (rowOf (edge .parent) (edge .kind) (edge .role) 1 none none))
       out

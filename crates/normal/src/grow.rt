@@ -1,6 +1,8 @@
-// Merged rows, made depth first: each is counted, written into the lent part, and tidied once what hangs from it is there. A table
-// under construction is a value, so a row that is broken or dropped is given up by going on from the earlier value.
-use crate::label::Label;
+// Merged rows, made depth first: each is counted, written into the lent part, and left once what hangs from it is there.
+use crate::node::Branch;
+use crate::node::Edge;
+use crate::node::enter;
+use crate::node::leave;
 use crate::rows::Kids;
 use crate::rows::LINKS;
 use crate::rows::MASKS;
@@ -16,16 +18,12 @@ use table::layout::KIND_EXISTS;
 use table::layout::KIND_FOR_ALL;
 use table::layout::KIND_ROOT;
 use table::layout::Limits;
-use table::names::Names;
-use table::row::Row;
 ghost use mathlib.Core.Path.{_≡_};
-ghost use mathlib.Core.Bool.{Bool, _||_, false, not};
+ghost use mathlib.Core.Bool.{Bool, false, not};
 ghost use Prim.Native.Nat.{ℕ, _+_, _≤_, _<_};
-ghost use lib.Dec.{eqb};
 ghost use lib.ListN.{length};
-ghost use Rattle.table.specs.Bounds.{Bounded, maxRows};
-ghost use Rattle.table.specs.Layout.{kindForAll, «place», roles, rowSize};
-ghost use Rattle.ale.specs.PictureSignature.{pictureSignature};
+ghost use Rattle.table.specs.Bounds.{Bounded};
+ghost use Rattle.table.specs.Layout.{«place», roles};
 ghost use Rattle.ale.specs.Tree.{cons, nil};
 ghost use Rattle.meaning.specs.File.{codeAt};
 ghost use Rattle.meaning.specs.Meaning.{kindAt};
@@ -33,112 +31,7 @@ ghost use Rattle.normal.specs.Rows.{Checked, Known, Surveyed, holds, ofR
 ghost use Rattle.normal.specs.Labels.{Valued};
 ghost use Rattle.normal.specs.Parts.{existsPartAt, mergedAt, partsAt, successorsAt, valuePartAt};
 ghost use Rattle.normal.specs.Built.{Built};
-ghost use Rattle.normal.specs.Grown.{Entered, Grown, Left, Room, broken, «given-up»};
-
-// Successors written so far: the table with them, the merged rows counted, and whether a some-successor is ⊥.
-pub struct Branch {
-    pub table: Builder,
-    pub merged: usize,
-    pub bottom: bool,
-}
-
-// The edge by which a row hangs.
-pub struct Edge {
-    pub parent: usize,
-    pub kind: u8,
-    pub role: u8,
-}
-
-// Writes a row after those that are there; its mark is set only when it is left.
-fn enter(out: &mut [u8], branch: Branch, edge: Edge, label: Label) -> Branch
-    requires { ⌜ (branch .table .rows < maxRows) × («place» (branch .table .rows) rowSize ≤ length (now out)) × (branch .merged < maxRows) ⌝ }
-    ensures { λ r. ⌜ Entered branch (now (out .entry)) edge label r (now (out .exit)) ⌝ }
-{
-    let table = branch.table;
-    let wanted = label.wanted;
-    let excluded = label.excluded;
-    let row = Row {
-        parent: edge.parent,
-        kind: edge.kind,
-        role: edge.role,
-        impossible: 0,
-        wanted,
-        excluded,
-    };
-    Branch {
-        table: table.push(out, row),
-        merged: branch.merged + 1,
-        bottom: false,
-    }
-}
-
-fn is_broken(label: Label, below: Branch) -> bool
-    ensures { λ r. ⌜ r ≡ broken label below ⌝ }
-{
-    if label.clashes() {
-        return true;
-    }
-    below.bottom
-}
-
-fn is_given_up(branch: Branch, edge: Edge, label: Label, below: Branch) -> bool
-    requires { ⌜ branch .table .rows < maxRows ⌝ }
-    ensures { λ r. ⌜ r ≡ «given-up» branch edge label below ⌝ }
-{
-    if edge.kind != KIND_FOR_ALL {
-        return false;
-    }
-    if !label.is_bare() {
-        return false;
-    }
-    below.table.rows == branch.table.rows + 1
-}
-
-// Whether a some-successor is ⊥ once this one is, which is broken.
-fn spoils(branch: Branch, edge: Edge) -> bool
-    ensures { λ r. ⌜ r ≡ (branch .bottom || not (eqb (edge .kind) kindForAll)) ⌝ }
-{
-    if branch.bottom {
-        return true;
-    }
-    edge.kind != KIND_FOR_ALL
-}
-
-// The row as it is left: broken, dropped, or with what hangs from it.
-fn leave(out: &mut [u8], branch: Branch, edge: Edge, label: Label, below: Branch) -> Branch
-    requires { ⌜ (branch .table .rows < maxRows) × («place» (branch .table .rows) rowSize ≤ length (now out)) ⌝ }
-    ensures { λ r. ⌜ Left branch edge label below (now (out .entry)) r (now (out .exit)) ⌝ }
-{
-    let table = branch.table;
-    if is_broken(label, below) {
-        let row = Row {
-            parent: edge.parent,
-            kind: edge.kind,
-            role: edge.role,
-            impossible: 1,
-            wanted: Names::none(),
-            excluded: Names::none(),
-        };
-        return Branch {
-            table: table.push(out, row),
-            merged: below.merged,
-            bottom: spoils(branch, edge),
-        };
-    }
-    if is_given_up(branch, edge, label, below) {
-        return Branch {
-            table,
-            merged: below.merged,
-            bottom: branch.bottom,
-        };
-    }
-    let whole = below.table;
-    Branch {
-        table: whole,
-        merged: below.merged,
-        bottom: branch.bottom,
-    }
-}
+ghost use Rattle.normal.specs.Grown.{Grown, Room};
 
 // One successor more: the merged row of a set, with what hangs from it down to a depth.
 fn graft(

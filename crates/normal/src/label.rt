@@ -54,7 +54,7 @@ impl Label {
 }
 
 // The mark of row j, or else a label's.
-fn marked(s: &[u8], rows: usize, bottom: u64, j: usize) -> u64
+fn bottom_with(s: &[u8], rows: usize, bottom: u64, j: usize) -> u64
     requires { ⌜ (Checked (now s) rows) × (j < rows) ⌝ }
     ensures { λ r. ⌜ eqb r 1 ≡ (eqb (impossibleOf (now (s .entry)) j) 1 || eqb bottom 1) ⌝ }
 {
@@ -69,7 +69,7 @@ pub fn join(s: &[u8], rows: usize, label: Label, j: usize) -> Label
     requires { ⌜ (Checked (now s) rows) × (j < rows) ⌝ }
     ensures { λ r. ⌜ Joined (now (s .entry)) j label r ⌝ }
 {
-    let bottom = marked(s, rows, label.bottom, j);
+    let bottom = bottom_with(s, rows, label.bottom, j);
     let more_wanted = wanted(s, j);
     let more_excluded = excluded(s, j);
     Label {

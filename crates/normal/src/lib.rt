@@ -2,6 +2,7 @@
 pub mod grow;
 pub mod half;
 pub mod label;
+pub mod node;
 pub mod normalize;
 pub mod rows;
 pub mod values;

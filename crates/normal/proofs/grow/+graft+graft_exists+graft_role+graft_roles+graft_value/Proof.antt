@@ -39,8 +39,8 @@ use Rattle.normal.proofs.grow.+graft+graft_exists+graft_role+graft_role
 use Rattle.normal.proofs.grow.graft_value.Reads as graft-value
 use Rattle.normal.proofs.grow.graft_value.Kinds as graft-value-kinds
 use Rattle.normal.proofs.grow.+graft+graft_exists+graft_role+graft_roles+graft_value.Lts-graft_value as graft-value-lts
-use Rattle.normal.proofs.grow.enter.Reads as enter-reads
-use Rattle.normal.proofs.grow.leave.Reads as leave-reads
+use Rattle.normal.proofs.node.enter.Reads as enter-reads
+use Rattle.normal.proofs.node.leave.Reads as leave-reads
 use Rattle.normal.proofs.rows.RowSet.next.Reads as next-reads
 use Rattle.normal.proofs.rows.RowSet.of_edge.Reads as of-edge-reads
 use Rattle.normal.proofs.rows.next_bit.Reads as next-bit-reads
@@ -110,42 +110,36 @@ abbrev graft-value-below : ℕ → In 4 graft-value-kinds.ps
 graft-value-below t =
     and 4 graft-value-kinds.ps (falls 4 graft-value-kinds.ps _<_ μ-graft-value t) graft-value.Pre
 
-graft-add-t16 : (t : ℕ) → graft-lts.Need-add-t16 (
-  enter-reads.Asked,
-  enter-reads.Learnt,
-  graft-roles-below t,
-  graft-roles.Post,
-  leave-reads.Asked,
-  leave-reads.Learnt,
-) (graft-at t) graft.Post
+abbrev graft-exists-claims : ℕ → graft-exists-lts.Claims
+graft-exists-claims t = (next-reads.Asked, next-reads.Learnt, add-reads.Asked, add-reads.Learnt, graft-below t, graft.Post)
+
+abbrev graft-roles-claims : ℕ → graft-roles-lts.Claims
+graft-roles-claims t = (next-bit-reads.Asked, next-bit-reads.Learnt, graft-role-below t, graft-role.Post)
+
+abbrev graft-role-claims : ℕ → graft-role-lts.Claims
+graft-role-claims t = (of-edge-reads.Asked, of-edge-reads.Learnt, gather-reads.Asked, gather-reads.Learnt, graft-value-below t, graft-value.Post, graft-exists-below t, graft-exists.Post)
+
+abbrev graft-value-claims : ℕ → graft-value-lts.Claims
+graft-value-claims t = (graft-below t, graft.Post)
+
+abbrev graft-claims : ℕ → graft-lts.Claims
+graft-claims t = (enter-reads.Asked, enter-reads.Learnt, graft-roles-below t, graft-roles.Post, leave-reads.Asked, leave-reads.Learnt)
+
+graft-add-t16 : (t : ℕ) → graft-lts.Need-add-t16 (graft-claims t) (graft-at t) graft.Post
 graft-add-t16 t c =
     let st = c .before .before .before .before .before in
     let a = st .args in
     let pre = st .pre .1 in
     omega (arith, pre .1 .1 .0 .limit-most)
 
-graft-returns : (t : ℕ) → graft-lts.Need-returns (
-  enter-reads.Asked,
-  enter-reads.Learnt,
-  graft-roles-below t,
-  graft-roles.Post,
-  leave-reads.Asked,
-  leave-reads.Learnt,
-) (graft-at t) graft.Post
+graft-returns : (t : ℕ) → graft-lts.Need-returns (graft-claims t) (graft-at t) graft.Post
 graft-returns t c =
     let st = c .before .before .before .before .before in
     let a = st .args in
     let pre = st .pre .1 in
     λ q v. grown-over (a .limit) (a .edge .parent) (a .branch) _ (now (a .out)) _ (a .edge .role) _ (pre .1 .1 .0) (c .if1 .taken) refl refl
 
-graft-enter-requires : (t : ℕ) → graft-lts.Need-enter-requires (
-  enter-reads.Asked,
-  enter-reads.Learnt,
-  graft-roles-below t,
-  graft-roles.Post,
-  leave-reads.Asked,
-  leave-reads.Learnt,
-) (graft-at t) graft.Post
+graft-enter-requires : (t : ℕ) → graft-lts.Need-enter-requires (graft-claims t) (graft-at t) graft.Post
 graft-enter-requires t c κs =
     let st = c .before .before .before .before .before .before .before in
     let a = st .args in
@@ -154,14 +148,7 @@ graft-enter-requires t c κs =
     let fits : a .branch .merged < a .limit = omega (arith, c .before .before .if1 .left) in
     (omega (arith, room .fewer, room .limit-most), omega (arith, room .fewer, room .space), omega (arith, room .limit-most))
 
-graft-graft-roles-requires : (t : ℕ) → graft-lts.Need-graft-roles-requires (
-  enter-reads.Asked,
-  enter-reads.Learnt,
-  graft-roles-below t,
-  graft-roles.Post,
-  leave-reads.Asked,
-  leave-reads.Learnt,
-) (graft-at t) graft.Post
+graft-graft-roles-requires : (t : ℕ) → graft-lts.Need-graft-roles-requires (graft-claims t) (graft-at t) graft.Post
 graft-graft-roles-requires t c κs =
     let st = c .before .before .before .before .before .before .before .before .before .before .before in
     let a = st .args in
@@ -171,14 +158,7 @@ graft-graft-roles-requires t c κs =
     let en = c .before .before .before .enter in
     (omega (arith, st .pre .0), (pre .0, (pre .1 .0, (entered-room (a .limit) (a .branch) (now (a .out)) (a .edge) _ (en .result) (en .last .0) room fits (en .ensures), omega (arith, en .ensures .one-more)))))
 
-graft-leave-requires : (t : ℕ) → graft-lts.Need-leave-requires (
-  enter-reads.Asked,
-  enter-reads.Learnt,
-  graft-roles-below t,
-  graft-roles.Post,
-  leave-reads.Asked,
-  leave-reads.Learnt,
-) (graft-at t) graft.Post
+graft-leave-requires : (t : ℕ) → graft-lts.Need-leave-requires (graft-claims t) (graft-at t) graft.Post
 graft-leave-requires t c κs =
     let st = c .before .before .before .before .before .before .before .before .before .before .before .before .before .before .before in
     let a = st .args in
@@ -189,24 +169,10 @@ graft-leave-requires t c κs =
     let gr = c .before .before .before .graft-roles in
     (omega (arith, room .fewer, room .limit-most), omega (arith, room .fewer, room .space, gr .ensures .same, entered-length (a .limit) (a .branch) (now (a .out)) (a .edge) _ (en .result) (en .last .0) room fits (en .ensures)))
 
-graft-same-length : (t : ℕ) → graft-lts.Need-same-length (
-  enter-reads.Asked,
-  enter-reads.Learnt,
-  graft-roles-below t,
-  graft-roles.Post,
-  leave-reads.Asked,
-  leave-reads.Learnt,
-) (graft-at t) graft.Post
+graft-same-length : (t : ℕ) → graft-lts.Need-same-length (graft-claims t) (graft-at t) graft.Post
 graft-same-length t c = search needs
 
-graft-returns-2 : (t : ℕ) → graft-lts.Need-returns-2 (
-  enter-reads.Asked,
-  enter-reads.Learnt,
-  graft-roles-below t,
-  graft-roles.Post,
-  leave-reads.Asked,
-  leave-reads.Learnt,
-) (graft-at t) graft.Post
+graft-returns-2 : (t : ℕ) → graft-lts.Need-returns-2 (graft-claims t) (graft-at t) graft.Post
 graft-returns-2 t c =
     let st = c .before .before .before .before .before .before .before .before .before .before .before .before .before .before .before .before .before .before in
     let a = st .args in
@@ -230,56 +196,28 @@ abbrev graft-exists-μ-loop : graft-exists-lts.MeasureT-loop
 graft-exists-μ-loop s rows limit links masks some values depth out₀ parent role edge grown₀ j₀ out grown j =
     rows - j
 
-graft-exists-next-requires : (t : ℕ) → graft-exists-lts.Need-next-requires (
-  next-reads.Asked,
-  next-reads.Learnt,
-  add-reads.Asked,
-  add-reads.Learnt,
-  graft-below t,
-  graft.Post,
-) (graft-exists-at t) graft-exists.Post graft-exists-Inv-loop graft-exists-μ-loop
+graft-exists-next-requires : (t : ℕ) → graft-exists-lts.Need-next-requires (graft-exists-claims t) (graft-exists-at t) graft-exists.Post graft-exists-Inv-loop graft-exists-μ-loop
 graft-exists-next-requires t c κs =
     let st = c .before .before in
     let a = st .args in
     let pre = st .pre .1 in
     pre .0 .checked .most
 
-graft-exists-loop-holds : (t : ℕ) → graft-exists-lts.Need-loop-holds (
-  next-reads.Asked,
-  next-reads.Learnt,
-  add-reads.Asked,
-  add-reads.Learnt,
-  graft-below t,
-  graft.Post,
-) (graft-exists-at t) graft-exists.Post graft-exists-Inv-loop graft-exists-μ-loop
+graft-exists-loop-holds : (t : ℕ) → graft-exists-lts.Need-loop-holds (graft-exists-claims t) (graft-exists-at t) graft-exists.Post graft-exists-Inv-loop graft-exists-μ-loop
 graft-exists-loop-holds t c =
     let st = c .before .before .before in
     let a = st .args in
     let pre = st .pre .1 in
     (λ q v. turn-start (now (a .s)) (a .rows) (a .depth) (a .role) (a .some) q (a .limit) (a .parent) (a .branch) (now (a .out)) (c .next .result) (c .next .ensures) (pre .1 .1 .0), c .next .ensures .held)
 
-graft-exists-add-requires : (t : ℕ) → graft-exists-lts.Need-add-requires (
-  next-reads.Asked,
-  next-reads.Learnt,
-  add-reads.Asked,
-  add-reads.Learnt,
-  graft-below t,
-  graft.Post,
-) (graft-exists-at t) graft-exists.Post graft-exists-Inv-loop graft-exists-μ-loop
+graft-exists-add-requires : (t : ℕ) → graft-exists-lts.Need-add-requires (graft-exists-claims t) (graft-exists-at t) graft-exists.Post graft-exists-Inv-loop graft-exists-μ-loop
 graft-exists-add-requires t c κs =
     let st = c .before .before .before .before .before in
     let a = st .args in
     let pre = st .pre .1 in
     (pre .0 .checked, (pre .0 .linked, c .loop-test .taken))
 
-graft-exists-graft-requires : (t : ℕ) → graft-exists-lts.Need-graft-requires (
-  next-reads.Asked,
-  next-reads.Learnt,
-  add-reads.Asked,
-  add-reads.Learnt,
-  graft-below t,
-  graft.Post,
-) (graft-exists-at t) graft-exists.Post graft-exists-Inv-loop graft-exists-μ-loop
+graft-exists-graft-requires : (t : ℕ) → graft-exists-lts.Need-graft-requires (graft-exists-claims t) (graft-exists-at t) graft-exists.Post graft-exists-Inv-loop graft-exists-μ-loop
 graft-exists-graft-requires t c κs =
     let st = c .before .before .before .before .before .before .before in
     let a = st .args in
@@ -289,14 +227,7 @@ graft-exists-graft-requires t c κs =
     let ad = c .before .add in
     (omega (arith, st .pre .0), (pre .0, (known-with (now (a .s)) (a .rows) (l .j) (a .values .kids) (ad .result .kids) (c .before .before .loop-test .taken) (pre .1 .0 .known) (ad .ensures .kids-join), (grown-room (a .limit) (a .parent) (a .branch) (l .grown) (now (a .out)) (l .out) _ (pre .1 .1 .0) g, code-later (l .grown .table .rows) exists (grown-some (a .limit) (a .parent) (a .branch) (l .grown) (now (a .out)) (l .out) _ (pre .1 .1 .1) g)))))
 
-graft-exists-same-length : (t : ℕ) → graft-exists-lts.Need-same-length (
-  next-reads.Asked,
-  next-reads.Learnt,
-  add-reads.Asked,
-  add-reads.Learnt,
-  graft-below t,
-  graft.Post,
-) (graft-exists-at t) graft-exists.Post graft-exists-Inv-loop graft-exists-μ-loop
+graft-exists-same-length : (t : ℕ) → graft-exists-lts.Need-same-length (graft-exists-claims t) (graft-exists-at t) graft-exists.Post graft-exists-Inv-loop graft-exists-μ-loop
 graft-exists-same-length t c =
     let st = c .before .before .before .before .before .before .before .before .before .before .before .before .before in
     let a = st .args in
@@ -308,14 +239,7 @@ graft-exists-same-length t c =
     let v = pre .1 .0 in
     c .before .before .before .before .before .graft .ensures (also (l .j) q) (valued-with (now (a .s)) (a .rows) q (a .values) (l .j) (ad .result) more v (ad .ensures)) .same ∙ l .inv .0 q v .same
 
-graft-exists-returns : (t : ℕ) → graft-exists-lts.Need-returns (
-  next-reads.Asked,
-  next-reads.Learnt,
-  add-reads.Asked,
-  add-reads.Learnt,
-  graft-below t,
-  graft.Post,
-) (graft-exists-at t) graft-exists.Post graft-exists-Inv-loop graft-exists-μ-loop
+graft-exists-returns : (t : ℕ) → graft-exists-lts.Need-returns (graft-exists-claims t) (graft-exists-at t) graft-exists.Post graft-exists-Inv-loop graft-exists-μ-loop
 graft-exists-returns t c =
     let st = c .before .before .before .before .before .before .before .before .before .before .before .before .before in
     let a = st .args in
@@ -328,56 +252,28 @@ graft-exists-returns t c =
     let v = pre .1 .0 in
     turn-full (now (a .s)) (a .rows) (a .depth) (a .role) (a .some) q (a .limit) (a .parent) (a .branch) (now (a .out)) (l .j) more (l .grown) (l .out) (l .inv .0 q v) (gr .result) _ (l .inv .1 more) (gr .ensures (also (l .j) q) (valued-with (now (a .s)) (a .rows) q (a .values) (l .j) (ad .result) more v (ad .ensures))) (c .if1 .taken)
 
-graft-exists-add-next : (t : ℕ) → graft-exists-lts.Need-add-next (
-  next-reads.Asked,
-  next-reads.Learnt,
-  add-reads.Asked,
-  add-reads.Learnt,
-  graft-below t,
-  graft.Post,
-) (graft-exists-at t) graft-exists.Post graft-exists-Inv-loop graft-exists-μ-loop
+graft-exists-add-next : (t : ℕ) → graft-exists-lts.Need-add-next (graft-exists-claims t) (graft-exists-at t) graft-exists.Post graft-exists-Inv-loop graft-exists-μ-loop
 graft-exists-add-next t c =
     let st = c .before .before .before .before .before .before .before .before .before .before .before .before .before in
     let a = st .args in
     let pre = st .pre .1 in
     omega (arith, c .before .before .before .before .before .before .before .before .loop-test .taken, pre .0 .checked .most)
 
-graft-exists-next-requires-2 : (t : ℕ) → graft-exists-lts.Need-next-requires-2 (
-  next-reads.Asked,
-  next-reads.Learnt,
-  add-reads.Asked,
-  add-reads.Learnt,
-  graft-below t,
-  graft.Post,
-) (graft-exists-at t) graft-exists.Post graft-exists-Inv-loop graft-exists-μ-loop
+graft-exists-next-requires-2 : (t : ℕ) → graft-exists-lts.Need-next-requires-2 (graft-exists-claims t) (graft-exists-at t) graft-exists.Post graft-exists-Inv-loop graft-exists-μ-loop
 graft-exists-next-requires-2 t c κs =
     let st = c .before .before .before .before .before .before .before .before .before .before .before .before .before in
     let a = st .args in
     let pre = st .pre .1 in
     pre .0 .checked .most
 
-graft-exists-loop-less : (t : ℕ) → graft-exists-lts.Need-loop-less (
-  next-reads.Asked,
-  next-reads.Learnt,
-  add-reads.Asked,
-  add-reads.Learnt,
-  graft-below t,
-  graft.Post,
-) (graft-exists-at t) graft-exists.Post graft-exists-Inv-loop graft-exists-μ-loop
+graft-exists-loop-less : (t : ℕ) → graft-exists-lts.Need-loop-less (graft-exists-claims t) (graft-exists-at t) graft-exists.Post graft-exists-Inv-loop graft-exists-μ-loop
 graft-exists-loop-less t c =
     let st = c .before .before .before .before .before .before .before .before .before .before .before .before .before .before in
     let a = st .args in
     let pre = st .pre .1 in
     omega (arith, c .before .before .before .before .before .before .before .before .before .loop-test .taken, c .next2 .ensures .onward)
 
-graft-exists-loop-again : (t : ℕ) → graft-exists-lts.Need-loop-again (
-  next-reads.Asked,
-  next-reads.Learnt,
-  add-reads.Asked,
-  add-reads.Learnt,
-  graft-below t,
-  graft.Post,
-) (graft-exists-at t) graft-exists.Post graft-exists-Inv-loop graft-exists-μ-loop
+graft-exists-loop-again : (t : ℕ) → graft-exists-lts.Need-loop-again (graft-exists-claims t) (graft-exists-at t) graft-exists.Post graft-exists-Inv-loop graft-exists-μ-loop
 graft-exists-loop-again t c =
     let st = c .before .before .before .before .before .before .before .before .before .before .before .before .before .before in
     let a = st .args in
@@ -388,26 +284,12 @@ graft-exists-loop-again t c =
     let more = c .before .before .before .before .before .before .before .before .before .loop-test .taken in
     (λ q v. turn-on (now (a .s)) (a .rows) (a .depth) (a .role) (a .some) q (a .limit) (a .parent) (a .branch) (now (a .out)) (l .j) more (l .grown) (l .out) (l .inv .0 q v) (gr .result) _ (l .inv .1 more) (gr .ensures (also (l .j) q) (valued-with (now (a .s)) (a .rows) q (a .values) (l .j) (ad .result) more v (ad .ensures))) (c .next2 .result) (c .next2 .ensures), c .next2 .ensures .held)
 
-graft-exists-same-length-2 : (t : ℕ) → graft-exists-lts.Need-same-length-2 (
-  next-reads.Asked,
-  next-reads.Learnt,
-  add-reads.Asked,
-  add-reads.Learnt,
-  graft-below t,
-  graft.Post,
-) (graft-exists-at t) graft-exists.Post graft-exists-Inv-loop graft-exists-μ-loop
+graft-exists-same-length-2 : (t : ℕ) → graft-exists-lts.Need-same-length-2 (graft-exists-claims t) (graft-exists-at t) graft-exists.Post graft-exists-Inv-loop graft-exists-μ-loop
 graft-exists-same-length-2 t c =
     let st = c .before .before .before .before .before .before in
     c .before .before .loop .inv .0 (holds (st .args .all)) (st .pre .1 .1 .0) .same
 
-graft-exists-returns-2 : (t : ℕ) → graft-exists-lts.Need-returns-2 (
-  next-reads.Asked,
-  next-reads.Learnt,
-  add-reads.Asked,
-  add-reads.Learnt,
-  graft-below t,
-  graft.Post,
-) (graft-exists-at t) graft-exists.Post graft-exists-Inv-loop graft-exists-μ-loop
+graft-exists-returns-2 : (t : ℕ) → graft-exists-lts.Need-returns-2 (graft-exists-claims t) (graft-exists-at t) graft-exists.Post graft-exists-Inv-loop graft-exists-μ-loop
 graft-exists-returns-2 t c =
     let st = c .before .before .before .before .before .before in
     let a = st .args in
@@ -415,80 +297,35 @@ graft-exists-returns-2 t c =
     let l = c .before .before .loop in
     turn-end (now (a .s)) (a .rows) (a .depth) (a .role) (a .some) (holds (a .all)) (a .limit) (a .parent) (a .branch) (now (a .out)) (l .j) (l .grown) (l .out) (c .before .loop-test .left) (l .inv .0 (holds (a .all)) (pre .1 .0))
 
-graft-role-of-edge-requires : (t : ℕ) → graft-role-lts.Need-of-edge-requires (
-  of-edge-reads.Asked,
-  of-edge-reads.Learnt,
-  gather-reads.Asked,
-  gather-reads.Learnt,
-  graft-value-below t,
-  graft-value.Post,
-  graft-exists-below t,
-  graft-exists.Post,
-) (graft-role-at t) graft-role.Post
+graft-role-of-edge-requires : (t : ℕ) → graft-role-lts.Need-of-edge-requires (graft-role-claims t) (graft-role-at t) graft-role.Post
 graft-role-of-edge-requires t c κs =
     let st = c .before .before in
     let a = st .args in
     let pre = st .pre .1 in
     pre .1 .0 .0
 
-graft-role-of-edge-requires-2 : (t : ℕ) → graft-role-lts.Need-of-edge-requires-2 (
-  of-edge-reads.Asked,
-  of-edge-reads.Learnt,
-  gather-reads.Asked,
-  gather-reads.Learnt,
-  graft-value-below t,
-  graft-value.Post,
-  graft-exists-below t,
-  graft-exists.Post,
-) (graft-role-at t) graft-role.Post
+graft-role-of-edge-requires-2 : (t : ℕ) → graft-role-lts.Need-of-edge-requires-2 (graft-role-claims t) (graft-role-at t) graft-role.Post
 graft-role-of-edge-requires-2 t c κs =
     let st = c .before .before .before in
     let a = st .args in
     let pre = st .pre .1 in
     pre .1 .0 .0
 
-graft-role-gather-requires : (t : ℕ) → graft-role-lts.Need-gather-requires (
-  of-edge-reads.Asked,
-  of-edge-reads.Learnt,
-  gather-reads.Asked,
-  gather-reads.Learnt,
-  graft-value-below t,
-  graft-value.Post,
-  graft-exists-below t,
-  graft-exists.Post,
-) (graft-role-at t) graft-role.Post
+graft-role-gather-requires : (t : ℕ) → graft-role-lts.Need-gather-requires (graft-role-claims t) (graft-role-at t) graft-role.Post
 graft-role-gather-requires t c κs =
     let st = c .before .before .before .before in
     let a = st .args in
     let pre = st .pre .1 in
     (pre .0 .checked, pre .0 .linked)
 
-graft-role-graft-value-requires : (t : ℕ) → graft-role-lts.Need-graft-value-requires (
-  of-edge-reads.Asked,
-  of-edge-reads.Learnt,
-  gather-reads.Asked,
-  gather-reads.Learnt,
-  graft-value-below t,
-  graft-value.Post,
-  graft-exists-below t,
-  graft-exists.Post,
-) (graft-role-at t) graft-role.Post
+graft-role-graft-value-requires : (t : ℕ) → graft-role-lts.Need-graft-value-requires (graft-role-claims t) (graft-role-at t) graft-role.Post
 graft-role-graft-value-requires t c κs =
     let st = c .before .before .before .before .before .before in
     let a = st .args in
     let pre = st .pre .1 in
     (omega (arith, st .pre .0), (pre .0, (c .before .gather .ensures .1, (pre .1 .1 .0, pre .1 .1 .1))))
 
-graft-role-graft-exists-requires : (t : ℕ) → graft-role-lts.Need-graft-exists-requires (
-  of-edge-reads.Asked,
-  of-edge-reads.Learnt,
-  gather-reads.Asked,
-  gather-reads.Learnt,
-  graft-value-below t,
-  graft-value.Post,
-  graft-exists-below t,
-  graft-exists.Post,
-) (graft-role-at t) graft-role.Post
+graft-role-graft-exists-requires : (t : ℕ) → graft-role-lts.Need-graft-exists-requires (graft-role-claims t) (graft-role-at t) graft-role.Post
 graft-role-graft-exists-requires t c κs =
     let st = c .before .before .before .before .before .before .before .before .before .before in
     let a = st .args in
@@ -496,28 +333,10 @@ graft-role-graft-exists-requires t c κs =
     let gv = c .before .before .before .graft-value in
     (omega (arith, st .pre .0), (pre .0, (c .before .before .before .before .before .gather .ensures .1, (grown-room (a .limit) (a .parent) (a .branch) (gv .result) (now (a .out)) _ _ (pre .1 .1 .0) (gv .ensures), grown-some (a .limit) (a .parent) (a .branch) (gv .result) (now (a .out)) _ _ (pre .1 .1 .1) (gv .ensures)))))
 
-graft-role-same-length : (t : ℕ) → graft-role-lts.Need-same-length (
-  of-edge-reads.Asked,
-  of-edge-reads.Learnt,
-  gather-reads.Asked,
-  gather-reads.Learnt,
-  graft-value-below t,
-  graft-value.Post,
-  graft-exists-below t,
-  graft-exists.Post,
-) (graft-role-at t) graft-role.Post
+graft-role-same-length : (t : ℕ) → graft-role-lts.Need-same-length (graft-role-claims t) (graft-role-at t) graft-role.Post
 graft-role-same-length t c = search needs
 
-graft-role-returns : (t : ℕ) → graft-role-lts.Need-returns (
-  of-edge-reads.Asked,
-  of-edge-reads.Learnt,
-  gather-reads.Asked,
-  gather-reads.Learnt,
-  graft-value-below t,
-  graft-value.Post,
-  graft-exists-below t,
-  graft-exists.Post,
-) (graft-role-at t) graft-role.Post
+graft-role-returns : (t : ℕ) → graft-role-lts.Need-returns (graft-role-claims t) (graft-role-at t) graft-role.Post
 graft-role-returns t c =
     let st = c .before .before .before .before .before .before .before .before .before .before .before .before .before in
     let a = st .args in
@@ -540,32 +359,17 @@ abbrev graft-roles-μ-loop : graft-roles-lts.MeasureT-loop
 graft-roles-μ-loop s rows limit links masks kids depth out₀ parent grown₀ role₀ out grown role =
     roles - role
 
-graft-roles-returns : (t : ℕ) → graft-roles-lts.Need-returns (
-  next-bit-reads.Asked,
-  next-bit-reads.Learnt,
-  graft-role-below t,
-  graft-role.Post,
-) (graft-roles-at t) graft-roles.Post graft-roles-Inv-loop graft-roles-μ-loop
+graft-roles-returns : (t : ℕ) → graft-roles-lts.Need-returns (graft-roles-claims t) (graft-roles-at t) graft-roles.Post graft-roles-Inv-loop graft-roles-μ-loop
 graft-roles-returns t c =
     let st = c .before .before .before in
     let a = st .args in
     let pre = st .pre .1 in
     grown-same (a .limit) (a .parent) (a .branch) (a .branch) (now (a .out)) (now (a .out)) _ _ (sym (successors-leaf (now (a .s)) (a .rows) (holds (a .kids .set)) (a .depth) (c .if1 .taken))) (grown-nil (a .limit) (a .parent) (a .branch) (now (a .out)) (pre .1 .1 .0))
 
-graft-roles-next-bit-requires : (t : ℕ) → graft-roles-lts.Need-next-bit-requires (
-  next-bit-reads.Asked,
-  next-bit-reads.Learnt,
-  graft-role-below t,
-  graft-role.Post,
-) (graft-roles-at t) graft-roles.Post graft-roles-Inv-loop graft-roles-μ-loop
+graft-roles-next-bit-requires : (t : ℕ) → graft-roles-lts.Need-next-bit-requires (graft-roles-claims t) (graft-roles-at t) graft-roles.Post graft-roles-Inv-loop graft-roles-μ-loop
 graft-roles-next-bit-requires t c κs = omega arith
 
-graft-roles-loop-holds : (t : ℕ) → graft-roles-lts.Need-loop-holds (
-  next-bit-reads.Asked,
-  next-bit-reads.Learnt,
-  graft-role-below t,
-  graft-role.Post,
-) (graft-roles-at t) graft-roles.Post graft-roles-Inv-loop graft-roles-μ-loop
+graft-roles-loop-holds : (t : ℕ) → graft-roles-lts.Need-loop-holds (graft-roles-claims t) (graft-roles-at t) graft-roles.Post graft-roles-Inv-loop graft-roles-μ-loop
 graft-roles-loop-holds t c =
     let st = c .before .before .before .before in
     let a = st .args in
@@ -574,28 +378,13 @@ graft-roles-loop-holds t c =
     role-on (now (a .s)) (a .rows) (a .depth - 1) (holds (a .kids .set)) (a .limit) (a .parent) (a .branch) (now (a .out)) 0 (nb .result) (a .branch) (now (a .out)) (omega arith) (omega arith) (unused-roles (now (a .s)) (a .rows) (a .kids) 0 (nb .result) (min (nb .result) roles) (pre .1 .0) (omega arith) (nb .ensures .2))
     (grown-same (a .limit) (a .parent) (a .branch) (a .branch) (now (a .out)) (now (a .out)) _ _ (sym (roles-none (now (a .s)) (a .rows) (holds (a .kids .set)) (a .depth - 1))) (grown-nil (a .limit) (a .parent) (a .branch) (now (a .out)) (pre .1 .1 .0)))
 
-graft-roles-sub-graft-role : (t : ℕ) → graft-roles-lts.Need-sub-graft-role (
-  next-bit-reads.Asked,
-  next-bit-reads.Learnt,
-  graft-role-below t,
-  graft-role.Post,
-) (graft-roles-at t) graft-roles.Post graft-roles-Inv-loop graft-roles-μ-loop
+graft-roles-sub-graft-role : (t : ℕ) → graft-roles-lts.Need-sub-graft-role (graft-roles-claims t) (graft-roles-at t) graft-roles.Post graft-roles-Inv-loop graft-roles-μ-loop
 graft-roles-sub-graft-role t c = omega (arith, c .before .before .before .before .if1 .left)
 
-graft-roles-cast-graft-role : (t : ℕ) → graft-roles-lts.Need-cast-graft-role (
-  next-bit-reads.Asked,
-  next-bit-reads.Learnt,
-  graft-role-below t,
-  graft-role.Post,
-) (graft-roles-at t) graft-roles.Post graft-roles-Inv-loop graft-roles-μ-loop
+graft-roles-cast-graft-role : (t : ℕ) → graft-roles-lts.Need-cast-graft-role (graft-roles-claims t) (graft-roles-at t) graft-roles.Post graft-roles-Inv-loop graft-roles-μ-loop
 graft-roles-cast-graft-role t c = omega (arith, c .before .before .loop-test .taken)
 
-graft-roles-graft-role-requires : (t : ℕ) → graft-roles-lts.Need-graft-role-requires (
-  next-bit-reads.Asked,
-  next-bit-reads.Learnt,
-  graft-role-below t,
-  graft-role.Post,
-) (graft-roles-at t) graft-roles.Post graft-roles-Inv-loop graft-roles-μ-loop
+graft-roles-graft-role-requires : (t : ℕ) → graft-roles-lts.Need-graft-role-requires (graft-roles-claims t) (graft-roles-at t) graft-roles.Post graft-roles-Inv-loop graft-roles-μ-loop
 graft-roles-graft-role-requires t c κs =
     let st = c .before .before .before .before .before .before .before .before in
     let a = st .args in
@@ -603,20 +392,10 @@ graft-roles-graft-role-requires t c κs =
     let l = c .before .before .before .loop in
     (omega (arith, st .pre .0, c .before .before .before .before .before .if1 .left), (pre .0, ((c .before .before .loop-test .taken, pre .1 .0 .rootless), (grown-room (a .limit) (a .parent) (a .branch) (l .grown) (now (a .out)) (l .out) _ (pre .1 .1 .0) (l .inv), grown-some (a .limit) (a .parent) (a .branch) (l .grown) (now (a .out)) (l .out) _ (pre .1 .1 .1) (l .inv)))))
 
-graft-roles-same-length : (t : ℕ) → graft-roles-lts.Need-same-length (
-  next-bit-reads.Asked,
-  next-bit-reads.Learnt,
-  graft-role-below t,
-  graft-role.Post,
-) (graft-roles-at t) graft-roles.Post graft-roles-Inv-loop graft-roles-μ-loop
+graft-roles-same-length : (t : ℕ) → graft-roles-lts.Need-same-length (graft-roles-claims t) (graft-roles-at t) graft-roles.Post graft-roles-Inv-loop graft-roles-μ-loop
 graft-roles-same-length t c = search needs
 
-graft-roles-returns-2 : (t : ℕ) → graft-roles-lts.Need-returns-2 (
-  next-bit-reads.Asked,
-  next-bit-reads.Learnt,
-  graft-role-below t,
-  graft-role.Post,
-) (graft-roles-at t) graft-roles.Post graft-roles-Inv-loop graft-roles-μ-loop
+graft-roles-returns-2 : (t : ℕ) → graft-roles-lts.Need-returns-2 (graft-roles-claims t) (graft-roles-at t) graft-roles.Post graft-roles-Inv-loop graft-roles-μ-loop
 graft-roles-returns-2 t c =
     let st = c .before .before .before .before .before .before .before .before .before .before .before .before .before in
     let a = st .args in
@@ -627,36 +406,16 @@ graft-roles-returns-2 t c =
     grown-same (a .limit) (a .parent) (a .branch) (gr .result) (now (a .out)) _ _ _ (sym (successors-roles (now (a .s)) (a .rows) (holds (a .kids .set)) (a .depth) (c .before .before .before .before .before .before .before .before .before .before .if1 .left)))
     (grown-full (a .limit) (a .parent) (a .branch) (gr .result) (now (a .out)) _ _ _ (role-turn (now (a .s)) (a .rows) (a .depth - 1) (holds (a .kids .set)) (a .limit) (a .parent) (a .branch) (now (a .out)) (l .role) (l .grown) (gr .result) (l .out) _ more (l .inv) (gr .ensures)) (c .if2 .taken) (roles-more (now (a .s)) (a .rows) (holds (a .kids .set)) (a .depth - 1) (l .role + 1) roles (omega (arith, more))))
 
-graft-roles-add-next-bit : (t : ℕ) → graft-roles-lts.Need-add-next-bit (
-  next-bit-reads.Asked,
-  next-bit-reads.Learnt,
-  graft-role-below t,
-  graft-role.Post,
-) (graft-roles-at t) graft-roles.Post graft-roles-Inv-loop graft-roles-μ-loop
+graft-roles-add-next-bit : (t : ℕ) → graft-roles-lts.Need-add-next-bit (graft-roles-claims t) (graft-roles-at t) graft-roles.Post graft-roles-Inv-loop graft-roles-μ-loop
 graft-roles-add-next-bit t c = omega (arith, c .before .before .before .before .before .before .before .loop-test .taken)
 
-graft-roles-next-bit-requires-2 : (t : ℕ) → graft-roles-lts.Need-next-bit-requires-2 (
-  next-bit-reads.Asked,
-  next-bit-reads.Learnt,
-  graft-role-below t,
-  graft-role.Post,
-) (graft-roles-at t) graft-roles.Post graft-roles-Inv-loop graft-roles-μ-loop
+graft-roles-next-bit-requires-2 : (t : ℕ) → graft-roles-lts.Need-next-bit-requires-2 (graft-roles-claims t) (graft-roles-at t) graft-roles.Post graft-roles-Inv-loop graft-roles-μ-loop
 graft-roles-next-bit-requires-2 t c κs = omega (arith, c .before .before .before .before .before .before .before .loop-test .taken)
 
-graft-roles-loop-less : (t : ℕ) → graft-roles-lts.Need-loop-less (
-  next-bit-reads.Asked,
-  next-bit-reads.Learnt,
-  graft-role-below t,
-  graft-role.Post,
-) (graft-roles-at t) graft-roles.Post graft-roles-Inv-loop graft-roles-μ-loop
+graft-roles-loop-less : (t : ℕ) → graft-roles-lts.Need-loop-less (graft-roles-claims t) (graft-roles-at t) graft-roles.Post graft-roles-Inv-loop graft-roles-μ-loop
 graft-roles-loop-less t c = omega (arith, c .next-bit2 .ensures .0, c .before .before .before .before .before .before .before .before .loop-test .taken)
 
-graft-roles-loop-again : (t : ℕ) → graft-roles-lts.Need-loop-again (
-  next-bit-reads.Asked,
-  next-bit-reads.Learnt,
-  graft-role-below t,
-  graft-role.Post,
-) (graft-roles-at t) graft-roles.Post graft-roles-Inv-loop graft-roles-μ-loop
+graft-roles-loop-again : (t : ℕ) → graft-roles-lts.Need-loop-again (graft-roles-claims t) (graft-roles-at t) graft-roles.Post graft-roles-Inv-loop graft-roles-μ-loop
 graft-roles-loop-again t c =
     let st = c .before .before .before .before .before .before .before .before .before .before .before .before .before .before in
     let a = st .args in
@@ -668,20 +427,10 @@ graft-roles-loop-again t c =
     role-on (now (a .s)) (a .rows) (a .depth - 1) (holds (a .kids .set)) (a .limit) (a .parent) (a .branch) (now (a .out)) (l .role + 1) (nb .result) (gr .result) _ (nb .ensures .0) (omega (arith, more)) (unused-roles (now (a .s)) (a .rows) (a .kids) (l .role + 1) (nb .result) (min (nb .result) roles) (pre .1 .0) (omega arith) (nb .ensures .2))
     (role-turn (now (a .s)) (a .rows) (a .depth - 1) (holds (a .kids .set)) (a .limit) (a .parent) (a .branch) (now (a .out)) (l .role) (l .grown) (gr .result) (l .out) _ more (l .inv) (gr .ensures))
 
-graft-roles-same-length-2 : (t : ℕ) → graft-roles-lts.Need-same-length-2 (
-  next-bit-reads.Asked,
-  next-bit-reads.Learnt,
-  graft-role-below t,
-  graft-role.Post,
-) (graft-roles-at t) graft-roles.Post graft-roles-Inv-loop graft-roles-μ-loop
+graft-roles-same-length-2 : (t : ℕ) → graft-roles-lts.Need-same-length-2 (graft-roles-claims t) (graft-roles-at t) graft-roles.Post graft-roles-Inv-loop graft-roles-μ-loop
 graft-roles-same-length-2 t c = search needs
 
-graft-roles-returns-3 : (t : ℕ) → graft-roles-lts.Need-returns-3 (
-  next-bit-reads.Asked,
-  next-bit-reads.Learnt,
-  graft-role-below t,
-  graft-role.Post,
-) (graft-roles-at t) graft-roles.Post graft-roles-Inv-loop graft-roles-μ-loop
+graft-roles-returns-3 : (t : ℕ) → graft-roles-lts.Need-returns-3 (graft-roles-claims t) (graft-roles-at t) graft-roles.Post graft-roles-Inv-loop graft-roles-μ-loop
 graft-roles-returns-3 t c =
     let st = c .before .before .before .before .before .before in
     let a = st .args in
@@ -693,17 +442,14 @@ graft-roles-returns-3 t c =
 
 graft-value-returns :
     (t : ℕ) →
-    graft-value-lts.Need-returns (graft-below t, graft.Post) (graft-value-at t) graft-value.Post
+    graft-value-lts.Need-returns (graft-value-claims t) (graft-value-at t) graft-value.Post
 graft-value-returns t c =
     let st = c .before .before .before .before .before in
     let a = st .args in
     let pre = st .pre .1 in
     grown-same (a .limit) (a .parent) (a .branch) (a .branch) (now (a .out)) (now (a .out)) _ _ (sym (value-none (now (a .s)) (a .rows) (a .depth) (a .role) (holds (a .all)) (a .values .first) (c .if1 .taken))) (grown-nil (a .limit) (a .parent) (a .branch) (now (a .out)) (pre .1 .1 .0))
 
-graft-value-graft-requires : (t : ℕ) → graft-value-lts.Need-graft-requires (
-  graft-below t,
-  graft.Post,
-) (graft-value-at t) graft-value.Post
+graft-value-graft-requires : (t : ℕ) → graft-value-lts.Need-graft-requires (graft-value-claims t) (graft-value-at t) graft-value.Post
 graft-value-graft-requires t c κs =
     let st = c .before .before .before .before .before .before in
     let a = st .args in
@@ -713,14 +459,14 @@ graft-value-graft-requires t c κs =
 graft-value-same-length :
     (t : ℕ) →
     graft-value-lts.Need-same-length
-    (graft-below t, graft.Post)
+    (graft-value-claims t)
     (graft-value-at t)
     graft-value.Post
 graft-value-same-length t c = search needs
 
 graft-value-returns-2 :
     (t : ℕ) →
-    graft-value-lts.Need-returns-2 (graft-below t, graft.Post) (graft-value-at t) graft-value.Post
+    graft-value-lts.Need-returns-2 (graft-value-claims t) (graft-value-at t) graft-value.Post
 graft-value-returns-2 t c =
     let st = c .before .before .before .before .before .before .before .before .before .before in
     let a = st .args in
@@ -730,14 +476,7 @@ graft-value-returns-2 t c =
 
 pub +graft+graft-exists+graft-role+graft-roles+graft-value-spec : {M : Type 1} → statement M
 +graft+graft-exists+graft-role+graft-roles+graft-value-spec =
-    close μ-graft μ-graft-exists μ-graft-role μ-graft-roles μ-graft-value (λ t. graft-lts.spec (
-      enter-reads.Asked,
-      enter-reads.Learnt,
-      graft-roles-below t,
-      graft-roles.Post,
-      leave-reads.Asked,
-      leave-reads.Learnt,
-    )
+    close μ-graft μ-graft-exists μ-graft-role μ-graft-roles μ-graft-value (λ t. graft-lts.spec (graft-claims t)
     (graft-at t)
     graft.Post
     (graft-add-t16 t)
@@ -747,14 +486,7 @@ pub +graft+graft-exists+graft-role+graft-roles+graft-value-spec : {M : Type 1} �
     (graft-leave-requires t)
     (graft-same-length t)
     (graft-returns-2 t))
-    (λ t. graft-exists-lts.spec (
-      next-reads.Asked,
-      next-reads.Learnt,
-      add-reads.Asked,
-      add-reads.Learnt,
-      graft-below t,
-      graft.Post,
-    )
+    (λ t. graft-exists-lts.spec (graft-exists-claims t)
     (graft-exists-at t)
     graft-exists.Post
     graft-exists-Inv-loop
@@ -771,16 +503,7 @@ pub +graft+graft-exists+graft-role+graft-roles+graft-value-spec : {M : Type 1} �
     (graft-exists-loop-again t)
     (graft-exists-same-length-2 t)
     (graft-exists-returns-2 t))
-    (λ t. graft-role-lts.spec (
-      of-edge-reads.Asked,
-      of-edge-reads.Learnt,
-      gather-reads.Asked,
-      gather-reads.Learnt,
-      graft-value-below t,
-      graft-value.Post,
-      graft-exists-below t,
-      graft-exists.Post,
-    )
+    (λ t. graft-role-lts.spec (graft-role-claims t)
     (graft-role-at t)
     graft-role.Post
     (graft-role-of-edge-requires t)
@@ -790,12 +513,7 @@ pub +graft+graft-exists+graft-role+graft-roles+graft-value-spec : {M : Type 1} �
     (graft-role-graft-exists-requires t)
     (graft-role-same-length t)
     (graft-role-returns t))
-    (λ t. graft-roles-lts.spec (
-      next-bit-reads.Asked,
-      next-bit-reads.Learnt,
-      graft-role-below t,
-      graft-role.Post,
-    )
+    (λ t. graft-roles-lts.spec (graft-roles-claims t)
     (graft-roles-at t)
     graft-roles.Post
     graft-roles-Inv-loop
@@ -815,7 +533,7 @@ pub +graft+graft-exists+graft-role+graft-roles+graft-value-spec : {M : Type 1} �
     (graft-roles-same-length-2 t)
     (graft-roles-returns-3 t))
     λ t. graft-value-lts.spec
-    (graft-below t, graft.Post)
+    (graft-value-claims t)
     (graft-value-at t)
     graft-value.Post
     (graft-value-returns t)

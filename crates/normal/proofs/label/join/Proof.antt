@@ -7,8 +7,8 @@ use Rattle.table.specs.NameSet.{setOf, union}
 use Rattle.normal.proofs.label.join.Statement.{statement}
 use Rattle.normal.proofs.label.join.Tie as tie
 
-marked-requires : tie.Need-marked-requires
-marked-requires c κs = search needs
+bottom-with-requires : tie.Need-bottom-with-requires
+bottom-with-requires c κs = search needs
 
 wanted-requires : tie.Need-wanted-requires
 wanted-requires c κs = search needs
@@ -30,7 +30,7 @@ returns c =
     record {
       wanted-joins = c .before .union .ensures ∙ ap (λ w. union w (setOf (label .wanted))) (wants .0);
       excluded-joins = c .union2 .ensures ∙ ap (λ w. union w (setOf (label .excluded))) (excludes .0);
-      bottom-joins = c .before .before .before .before .marked .ensures;
+      bottom-joins = c .before .before .before .before .bottom-with .ensures;
       wanted-fits = subst (λ w. w < 2 ^ nameCount) (wants .0) (wants .1);
       excluded-fits = subst (λ w. w < 2 ^ nameCount) (excludes .0) (excludes .1);
     }
@@ -39,7 +39,7 @@ pub join-spec : {M : Type 1} → statement M
 join-spec =
     tie.close
     (tie.spec
-    marked-requires
+    bottom-with-requires
     wanted-requires
     excluded-requires
     union-requires

@@ -2,8 +2,8 @@
 use borrow.Author.Tests.{eq-eqb, ne-eqb, not-true, not-false, le-leb, lt-leb, lt-ltb, le-ltb}
 use mathlib.Core.Path.{_≡_, sym, _∙_, refl, ap}
 use borrow.Author.Needs.{needs}
-use Rattle.normal.proofs.grow.is_given_up.Statement.{statement}
-use Rattle.normal.proofs.grow.is_given_up.Tie as tie
+use Rattle.normal.proofs.node.is_dropped.Statement.{statement}
+use Rattle.normal.proofs.node.is_dropped.Tie as tie
 
 returns : tie.Need-returns
 returns c = simp (ne-eqb _ _ (c .if1 .taken))
@@ -20,5 +20,5 @@ add-result c = search needs
 returns-3 : tie.Need-returns-3
 returns-3 c = simp (eq-eqb _ _ (c .before .before .before .before .if1 .left), sym (c .before .before .before .is-bare .ensures) ∙ not-false _ (c .before .before .if2 .left))
 
-pub is-given-up-spec : {M : Type 1} → statement M
-is-given-up-spec = tie.close (tie.spec returns is-bare-requires returns-2 add-result returns-3)
+pub is-dropped-spec : {M : Type 1} → statement M
+is-dropped-spec = tie.close (tie.spec returns is-bare-requires returns-2 add-result returns-3)

@@ -2,8 +2,8 @@
 use borrow.Author.Tests.{eq-eqb, ne-eqb}
 use mathlib.Core.Path.{sym}
 use borrow.Author.Needs.{needs}
-use Rattle.normal.proofs.label.marked.Statement.{statement}
-use Rattle.normal.proofs.label.marked.Tie as tie
+use Rattle.normal.proofs.label.bottom_with.Statement.{statement}
+use Rattle.normal.proofs.label.bottom_with.Tie as tie
 
 impossible-requires : tie.Need-impossible-requires
 impossible-requires c κs = search needs
@@ -14,5 +14,5 @@ returns c = rw (sym (c .before .impossible .ensures)) (simp (eq-eqb _ _ (c .if1 
 returns-2 : tie.Need-returns-2
 returns-2 c = rw (sym (c .before .impossible .ensures)) (simp (ne-eqb _ _ (c .if1 .left)))
 
-pub marked-spec : {M : Type 1} → statement M
-marked-spec = tie.close (tie.spec impossible-requires returns returns-2)
+pub bottom-with-spec : {M : Type 1} → statement M
+bottom-with-spec = tie.close (tie.spec impossible-requires returns returns-2)

@@ -2,8 +2,8 @@
 use borrow.Author.Tests.{eq-eqb, ne-eqb, not-true, not-false, le-leb, lt-leb, lt-ltb, le-ltb}
 use mathlib.Core.Path.{_≡_, sym, _∙_, refl, ap}
 use borrow.Author.Needs.{needs}
-use Rattle.normal.proofs.grow.is_broken.Statement.{statement}
-use Rattle.normal.proofs.grow.is_broken.Tie as tie
+use Rattle.normal.proofs.node.is_inconsistent.Statement.{statement}
+use Rattle.normal.proofs.node.is_inconsistent.Tie as tie
 
 clashes-requires : tie.Need-clashes-requires
 clashes-requires c κs = search needs
@@ -14,5 +14,5 @@ returns c = simp (sym (c .before .clashes .ensures) ∙ c .if1 .taken)
 returns-2 : tie.Need-returns-2
 returns-2 c = simp (sym (c .before .clashes .ensures) ∙ c .if1 .left)
 
-pub is-broken-spec : {M : Type 1} → statement M
-is-broken-spec = tie.close (tie.spec clashes-requires returns returns-2)
+pub is-inconsistent-spec : {M : Type 1} → statement M
+is-inconsistent-spec = tie.close (tie.spec clashes-requires returns returns-2)

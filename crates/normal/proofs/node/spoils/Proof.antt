@@ -2,8 +2,8 @@
 use borrow.Author.Tests.{eq-eqb, ne-eqb, not-true, not-false, le-leb, lt-leb, lt-ltb, le-ltb}
 use mathlib.Core.Path.{_≡_, sym, _∙_, refl, ap}
 use borrow.Author.Needs.{needs}
-use Rattle.normal.proofs.grow.spoils.Statement.{statement}
-use Rattle.normal.proofs.grow.spoils.Tie as tie
+use Rattle.normal.proofs.node.spoils.Statement.{statement}
+use Rattle.normal.proofs.node.spoils.Tie as tie
 
 returns : tie.Need-returns
 returns c = search needs
