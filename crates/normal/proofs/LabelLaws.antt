@@ -1,5 +1,4 @@
 -- Laws of the labels of sets of rows, and of what else the code has of a set.
---   filter-same    tests that agree give the same rows
 --   part-with      a part of the label of a set with row c is that of row c joined with that of the set: a union has no order and takes a row once
 --   part-joined    the same of what is equal to those parts
 --   label-with     so the label of a set, joined with that of row c, is the label of the set with row c
@@ -16,7 +15,7 @@ use mathlib.Core.Logic.{⊎-elim}
 use mathlib.Core.Path.{_∙_, _≡_, ap, refl, subst, sym}
 use native.Mathlib.Nat.{mod-eq-of-lt}
 use native.Mathlib.Omega.{arith}
-use Rattle.ale.proofs.RowLists.{filterFrom-none, filterFrom-same}
+use Rattle.ale.proofs.RowLists.{filterFrom-same, filterFrom-none, filterFrom-same}
 use Rattle.ale.specs.Merged.{labelOfSet, labelUnion}
 use Rattle.ale.specs.PictureSignature.{pictureSignature}
 use Rattle.ale.specs.Rows.{filterBelow, filterFrom}
@@ -36,11 +35,6 @@ use Rattle.normal.specs.declared.values.Values.{Values}
 use Rattle.normal.specs.Labels.{Added, Joined, LabelIs, Valued}
 use Rattle.normal.specs.Rows.{Checked, Hung, Known, also, hangs, holds}
 use Rattle.normal.proofs.Tests.{by-test, or-again, or-swap}
-
-pub filter-same : (q q′ : ℕ → Bool) (o n : ℕ) → ((j : ℕ) → o ≤ j → q j ≡ q′ j) → filterFrom q o n ≡ filterFrom q′ o n
-filter-same q q′ o zero h = refl
-filter-same q q′ o (suc n) h =
-    rw (h o (omega arith)) (ap (λ t. pick (q′ o) (o ∷ t) t) (filter-same q q′ (suc o) n (λ j l. h j (omega arith))))
 
 module _ (S : Signature) (p : Table S) {A : Type 0} (part : Label S → A) (op : A → A → A)
     (joins : (l m : Label S) → part (labelUnion S l m) ≡ op (part l) (part m)) (swap : (a b c : A) → op a (op b c) ≡ op b (op a c))
@@ -71,7 +65,7 @@ module _ (S : Signature) (p : Table S) {A : Type 0} (part : Label S → A) (op :
       let t = filterFrom q (suc o) n in
       by-test (eqb o c)
       (λ e. let same = eqb-true o c e in
-      rw (e, filter-same (λ j. eqb j c || q j) q (suc o) n (λ j l. rw (ne-eqb j c (λ z. omega arith))))
+      rw (e, filterFrom-same (λ j. eqb j c || q j) q (suc o) n (λ j l b. rw (ne-eqb j c (λ z. omega arith))))
       (at-row o t (q o) ∙ ap (λ i. op (row i) (whole (pick (q o) (o ∷ t) t))) same))
       (λ e. let other = eqb-false o c e in rw e (before-row c o t _ (q o) (part-with q c (suc o) n (omega (arith, other)) (omega arith))))
 

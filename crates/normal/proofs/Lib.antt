@@ -1,6 +1,7 @@
 -- The laws of the writer, by subject.
 -- tests, tables, sets of rows and what hangs from them
 pub mod Tests
+pub mod RowFilters
 pub mod Stores
 pub mod Words
 pub mod Links

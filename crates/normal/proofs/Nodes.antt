@@ -32,17 +32,14 @@ use Rattle.normal.specs.declared.node.Branch.{Branch}
 use Rattle.normal.specs.declared.node.Edge.{Edge}
 use Rattle.normal.specs.declared.label.Label.{Label}
 use Rattle.normal.proofs.Growth.{entered-length}
+use Rattle.normal.proofs.Tests.{eqb-same}
 use Rattle.normal.proofs.Prefixes.{prefix-before, prefix-put}
 
 -- ---- the tests
 
-eqb-swap : (a b : ℕ) (c : Bool) → eqb a b ≡ c → eqb b a ≡ c
-eqb-swap a b true e = eq-eqb b a (sym (eqb-true a b e))
-eqb-swap a b false e = ne-eqb b a (λ z. eqb-false a b e (sym z))
-
 -- within the empty set is empty
 within-none : (x : ℕ) → eqb (bitAnd x 0) x ≡ eqb x 0
-within-none x = rw (and-zero-r x) (eqb-swap x 0 (eqb x 0) refl)
+within-none x = rw (and-zero-r x) (eqb-same 0 x)
 
 inconsistent-is : (label : Label) (l : tree.Label pictureSignature) (below : Branch) (g : Forest pictureSignature) → LabelIs label l → below .bottom ≡ any pictureSignature (bottomExists pictureSignature) g → isInconsistent label below ≡ inconsistent pictureSignature l g
 inconsistent-is label l below g is e =

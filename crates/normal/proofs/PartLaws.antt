@@ -34,42 +34,10 @@ use Rattle.meaning.specs.Meaning.{kindAt, pictureTable}
 use Rattle.normal.specs.Parts.{existsPartAt, mergedAt, partsAt, rolesAt, successorsAt, valuePartAt}
 use Rattle.normal.specs.Rows.{Checked, Found, Known, Unused, also, hangs, holds, ofKind, ofRole}
 use Rattle.normal.specs.declared.rows.Kids.{Kids}
-use Rattle.normal.proofs.Tests.{refuted}
-
--- ---- lists of rows
-
-filter-same : (q r : ℕ → Bool) (n : ℕ) → ((j : ℕ) → j < n → q j ≡ r j) → filterBelow q n ≡ filterBelow r n
-filter-same q r n h = filterFrom-same q r 0 n (λ j l b. h j (omega arith))
-
-filter-none : (q : ℕ → Bool) (n : ℕ) → ((j : ℕ) → j < n → q j ≡ false) → filterBelow q n ≡ []
-filter-none q n h = filterFrom-none q 0 n (λ j l b. false-is (q j) (h j (omega arith)))
-
-same-test : (a b : Bool) → (T a → T b) → (T b → T a) → a ≡ b
-same-test true true f g = refl
-same-test true false f g = absurd (f tt)
-same-test false true f g = absurd (g tt)
-same-test false false f g = refl
-
-member-filter : (q : ℕ → Bool) (n j : ℕ) → j < n → member j (filterBelow q n) ≡ q j
-member-filter q n j l = same-test (member j (filterBelow q n)) (q j) (λ t. filterBelow-out q n j t .0) (λ t. filterBelow-in q n j t l)
-
-filter-next : (q : ℕ → Bool) (n : ℕ) → filterBelow q (n + 1) ≡ filterBelow q n ++ pick (q n) (n ∷ []) []
-filter-next q n = filterFrom-split q 0 n 1 (n + 1) n (omega arith) (omega arith)
-
-filter-yes : (q : ℕ → Bool) (n : ℕ) → q n ≡ true → filterBelow q (n + 1) ≡ filterBelow q n ++ (n ∷ [])
-filter-yes q n e = filter-next q n ∙ ap (λ (b : Bool). filterBelow q n ++ pick b (n ∷ []) []) e
-
-filter-no : (q : ℕ → Bool) (n : ℕ) → q n ≡ false → filterBelow q (n + 1) ≡ filterBelow q n
-filter-no q n e = filter-next q n ∙ ap (λ (b : Bool). filterBelow q n ++ pick b (n ∷ []) []) e ∙ append-nil (filterBelow q n)
+use Rattle.normal.proofs.RowFilters.{filter-none, filter-same, filter-no, filter-yes, member-filter}
+use Rattle.normal.proofs.Tests.{eqb-same, refuted}
 
 -- ---- the tests of an edge
-
-eqb-same : (a b : ℕ) → eqb a b ≡ eqb b a
-eqb-same a b = swap (eqb a b) refl
-  where
-    swap : (t : Bool) → eqb a b ≡ t → t ≡ eqb b a
-    swap true e = sym (eq-eqb b a (sym (eqb-true a b e)))
-    swap false e = sym (ne-eqb b a (λ z. eqb-false a b e (sym z)))
 
 kind-test : (code : ℕ) (k : Kind) → (code ≡ kindExists) ⊎ (code ≡ kindForAll) → sameKind k (kindAt code) ≡ eqb code (kindCode k)
 kind-test code exists (inl e) = rw e

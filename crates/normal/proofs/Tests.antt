@@ -2,8 +2,12 @@
 --   by-test            a fact that follows from either answer
 --   refuted            a test that cannot pass fails
 --   or-swap, or-again  a disjunction has no order, and takes a test once
+--   eqb-same           equality has no order
+use Prim.Native.Nat.{ℕ}
+use borrow.Author.Tests.{eq-eqb, eqb-false, eqb-true, ne-eqb}
+use lib.Dec.{eqb}
 use mathlib.Core.Bool.{Bool, _||_, false, true}
-use mathlib.Core.Path.{_≡_, refl}
+use mathlib.Core.Path.{_≡_, refl, sym}
 
 pub by-test : {A : Type 0} (b : Bool) → (b ≡ true → A) → (b ≡ false → A) → A
 by-test true p q = p refl
@@ -20,3 +24,10 @@ or-swap false b c = refl
 pub or-again : (a b : Bool) → (a || (a || b)) ≡ (a || b)
 or-again true b = refl
 or-again false b = refl
+
+pub eqb-same : (a b : ℕ) → eqb a b ≡ eqb b a
+eqb-same a b = swap (eqb a b) refl
+  where
+    swap : (t : Bool) → eqb a b ≡ t → t ≡ eqb b a
+    swap true e = sym (eq-eqb b a (sym (eqb-true a b e)))
+    swap false e = sym (ne-eqb b a (λ z. eqb-false a b e (sym z)))
