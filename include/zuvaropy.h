@@ -250,7 +250,7 @@ uint64_t zuvaropy_validate(const uint8_t *picture, size_t picture_len);
  *          further than that.
  *
  * Any bytes of any length may be given as the picture. The two buffers must
- * not overlap.
+ * not overlap. The call takes about 17 KB of stack.
  *
  * A normal table is a picture, and can be given to any call. Its own normal
  * table has the same instances, but need not be the same bytes, and its merged
