@@ -30,7 +30,7 @@ use Rattle.table.specs.Fields.{impossibleOf, parentOf}
 use Rattle.table.specs.NameSet.{has, union}
 use Rattle.table.specs.Pick.{pick}
 use Rattle.normal.specs.declared.label.Label as code
-use Rattle.normal.specs.declared.rows.Kids.{Kids}
+use Rattle.normal.specs.declared.rows.Successors.{Successors}
 use Rattle.normal.specs.declared.values.Values.{Values}
 use Rattle.normal.specs.Labels.{Added, Joined, LabelIs, Valued}
 use Rattle.normal.specs.Rows.{Checked, Hung, Known, also, hangs, holds}
@@ -102,12 +102,12 @@ unfolding hangs
 none-hangs s j = by-test (eqb j 0) (λ e. rw e) (λ e. rw e)
 
 pub valued-none : (s : List ℕ) (rows : ℕ) (v : Values) → LabelIs (v .label) (emptyLabel pictureSignature) →
-    ((j : ℕ) → holds (v .kids .set) j ≡ false) → Valued s rows (λ j. false) v
+    ((j : ℕ) → holds (v .successors .set) j ≡ false) → Valued s rows (λ j. false) v
 valued-none s rows v label empty =
     record {
       label-is = subst (λ t. LabelIs (v .label) (labelOfSet pictureSignature (pictureTable s) t))
           (sym (filterFrom-none (λ j. false) 0 rows (λ j a b. tt))) label;
-      kids-are = λ j l. empty j ∙ sym (none-hangs s j);
+      successors-are = λ j l. empty j ∙ sym (none-hangs s j);
       known = record { rootless = empty 0; known = λ j l h. absurd (false≢true (sym (empty j) ∙ h)) };
     }
 
@@ -119,24 +119,24 @@ root-hangs : (s : List ℕ) (q : ℕ → Bool) → hangs s q 0 ≡ false
 unfolding hangs
 root-hangs s q = refl
 
-pub known-with : (s : List ℕ) (rows c : ℕ) (kids r : Kids) → c < rows → Known s rows kids → Hung s rows c kids r → Known s rows r
-known-with s rows c kids r l known hung =
+pub known-with : (s : List ℕ) (rows c : ℕ) (successors r : Successors) → c < rows → Known s rows successors → Hung s rows c successors r → Known s rows r
+known-with s rows c successors r l known hung =
     record {
-      rootless = hung .set-is 0 (omega arith) ∙ ap (λ (b : Bool). b || holds (kids .set) 0) (root-hangs s (λ i. eqb i c)) ∙ known .rootless;
+      rootless = hung .set-is 0 (omega arith) ∙ ap (λ (b : Bool). b || holds (successors .set) 0) (root-hangs s (λ i. eqb i c)) ∙ known .rootless;
       known = λ k b h.
           ⊎-elim (λ e. hung .roles-met k b e) (λ e. hung .roles-kept _ (known .known k b e))
-          (either (hangs s (λ i. eqb i c) k) (holds (kids .set) k) (sym (hung .set-is k b) ∙ h));
+          (either (hangs s (λ i. eqb i c) k) (holds (successors .set) k) (sym (hung .set-is k b) ∙ h));
     }
 
 pub valued-with : (s : List ℕ) (rows : ℕ) (q : ℕ → Bool) (values : Values) (c : ℕ) (r : Values) → c < rows →
     Valued s rows q values → Added s rows c values r → Valued s rows (also c q) r
 valued-with s rows q values c r l valued added =
-    let hung = added .kids-join in
+    let hung = added .successors-join in
     record {
       label-is = label-with s rows q values c (r .label) l valued (added .label-joins);
-      kids-are = λ k b.
-          hung .set-is k b ∙ ap (λ (t : Bool). hangs s (λ i. eqb i c) k || t) (valued .kids-are k b) ∙ with-hangs s q c k;
-      known = known-with s rows c (values .kids) (r .kids) l (valued .known) hung;
+      successors-are = λ k b.
+          hung .set-is k b ∙ ap (λ (t : Bool). hangs s (λ i. eqb i c) k || t) (valued .successors-are k b) ∙ with-hangs s q c k;
+      known = known-with s rows c (values .successors) (r .successors) l (valued .known) hung;
     }
 
 same-hangs : (s : List ℕ) (rows : ℕ) (q q′ : ℕ → Bool) → Checked s rows → ((j : ℕ) → j < rows → q j ≡ q′ j) → (j : ℕ) → j < rows → hangs s q j ≡ hangs s q′ j
@@ -150,6 +150,6 @@ valued-same s rows q q′ v checked same valued =
     record {
       label-is = subst (λ t. LabelIs (v .label) (labelOfSet pictureSignature (pictureTable s) t))
           (filterFrom-same q q′ 0 rows (λ j a b. same j (omega arith))) (valued .label-is);
-      kids-are = λ j l. valued .kids-are j l ∙ same-hangs s rows q q′ checked same j l;
+      successors-are = λ j l. valued .successors-are j l ∙ same-hangs s rows q q′ checked same j l;
       known = valued .known;
     }

@@ -1,6 +1,6 @@
 -- Laws of what hangs from each row.
 --   LinkedFrom, link-none, link-next, link-done     the tables of the rows that hang, filled from the last row down
---   kid-hangs, hangs-kid                            a row that hangs from row c
+--   successor-hangs, hangs-successor                            a row that hangs from row c
 --   Walked, walk-none, walk-next, walk-done         a walk along the rows that hang from row c, each added to a set
 --   walk-less                                       which ends
 use Prim.Native.Nat.{_+_, _-_, _<_, _≤_, ℕ}
@@ -16,7 +16,7 @@ use Rattle.table.specs.Bounds.{maxRows}
 use Rattle.table.specs.Fields.{parentOf, roleOf}
 use Rattle.table.specs.NameSet.{has}
 use Rattle.table.specs.Pick.{pick}
-use Rattle.normal.specs.declared.rows.Kids.{Kids}
+use Rattle.normal.specs.declared.rows.Successors.{Successors}
 use Rattle.normal.specs.Rows.{Hung, Linked, Nearest, Zeros, hangs, holds}
 use Rattle.normal.proofs.Stores.{stored}
 use Rattle.normal.proofs.Tests.{by-test}
@@ -80,21 +80,21 @@ link-done s rows j links under linked =
 
 -- ---- the rows that hang from row c
 
-pub kid-hangs : (s : List ℕ) (c k : ℕ) → (k ≡ 0 → ⊥) → parentOf s k ≡ c → hangs s (λ i. eqb i c) k ≡ true
+pub successor-hangs : (s : List ℕ) (c k : ℕ) → (k ≡ 0 → ⊥) → parentOf s k ≡ c → hangs s (λ i. eqb i c) k ≡ true
 unfolding hangs
-kid-hangs s c k z e = rw (ne-eqb k 0 z, eq-eqb (parentOf s k) c e)
+successor-hangs s c k z e = rw (ne-eqb k 0 z, eq-eqb (parentOf s k) c e)
 
-pub hangs-kid : (s : List ℕ) (c k : ℕ) → hangs s (λ i. eqb i c) k ≡ true → (k ≡ 0 → ⊥) × (parentOf s k ≡ c)
+pub hangs-successor : (s : List ℕ) (c k : ℕ) → hangs s (λ i. eqb i c) k ≡ true → (k ≡ 0 → ⊥) × (parentOf s k ≡ c)
 unfolding hangs
-hangs-kid s c k h =
+hangs-successor s c k h =
     let (a, b) = both (not (eqb k 0)) (eqb (parentOf s k) c) h in (eqb-false k 0 (not-true (eqb k 0) a), eqb-true (parentOf s k) c b)
 
-pub record Walked (s : List ℕ) (rows c j : ℕ) (old kids : Kids) : Type 0 where
+pub record Walked (s : List ℕ) (rows c j : ℕ) (old successors : Successors) : Type 0 where
   pub low : ℕ
   pub next : Nearest s rows c low j
-  pub set-is : (k : ℕ) → k < rows → holds (kids .set) k ≡ ((hangs s (λ i. eqb i c) k && ltb k low) || holds (old .set) k)
-  pub roles-kept : (i : ℕ) → has (old .roles) i ≡ true → has (kids .roles) i ≡ true
-  pub roles-met : (k : ℕ) → k < rows → k < low → hangs s (λ i. eqb i c) k ≡ true → has (kids .roles) (roleOf s k) ≡ true
+  pub set-is : (k : ℕ) → k < rows → holds (successors .set) k ≡ ((hangs s (λ i. eqb i c) k && ltb k low) || holds (old .set) k)
+  pub roles-kept : (i : ℕ) → has (old .roles) i ≡ true → has (successors .roles) i ≡ true
+  pub roles-met : (k : ℕ) → k < rows → k < low → hangs s (λ i. eqb i c) k ≡ true → has (successors .roles) (roleOf s k) ≡ true
 
 and-none : (a : Bool) → (a && false) ≡ false
 and-none true = refl
@@ -108,9 +108,9 @@ or-true : (a b : Bool) → b ≡ true → (a || b) ≡ true
 or-true true b e = refl
 or-true false b e = e
 
-module _ (s : List ℕ) (rows c : ℕ) (old : Kids) where
-  abbrev kid : ℕ → Bool
-  kid k = hangs s (λ i. eqb i c) k
+module _ (s : List ℕ) (rows c : ℕ) (old : Successors) where
+  abbrev follows : ℕ → Bool
+  follows k = hangs s (λ i. eqb i c) k
 
   pub walk-none : (j : ℕ) → Nearest s rows c 1 j → Walked s rows c j old old
   walk-none j n =
@@ -119,26 +119,26 @@ module _ (s : List ℕ) (rows c : ℕ) (old : Kids) where
         next = n;
         set-is = λ k l. sym (ap (λ (b : Bool). b || holds (old .set) k) (none k));
         roles-kept = λ i h. h;
-        roles-met = λ k l b h. absurd (hangs-kid s c k h .0 (omega arith));
+        roles-met = λ k l b h. absurd (hangs-successor s c k h .0 (omega arith));
       }
     where
-      none : (k : ℕ) → (kid k && ltb k 1) ≡ false
+      none : (k : ℕ) → (follows k && ltb k 1) ≡ false
       none k =
-          by-test (kid k) (λ h. let z = hangs-kid s c k h .0 in rw h (le-ltb k 1 (omega (arith, z)))) (λ h. rw h)
+          by-test (follows k) (λ h. let z = hangs-successor s c k h .0 in rw h (le-ltb k 1 (omega (arith, z)))) (λ h. rw h)
 
-  module _ (j : ℕ) (kids : Kids) (w : Walked s rows c j old kids) where
-    pub walk-next : (r : Kids) (n : ℕ) → (j ≡ 0 → ⊥) → Nearest s rows c (j + 1) n → rows ≤ maxRows → ((k : ℕ) → k < maxRows → holds (r .set) k ≡ (eqb k j || holds (kids .set) k)) → ((i : ℕ) → has (r .roles) i ≡ (eqb i (roleOf s j) || has (kids .roles) i)) → Walked s rows c n old r
+  module _ (j : ℕ) (successors : Successors) (w : Walked s rows c j old successors) where
+    pub walk-next : (r : Successors) (n : ℕ) → (j ≡ 0 → ⊥) → Nearest s rows c (j + 1) n → rows ≤ maxRows → ((k : ℕ) → k < maxRows → holds (r .set) k ≡ (eqb k j || holds (successors .set) k)) → ((i : ℕ) → has (r .roles) i ≡ (eqb i (roleOf s j) || has (successors .roles) i)) → Walked s rows c n old r
     walk-next r n z on most sets roles =
         record {
           low = j + 1;
           next = on;
           set-is = λ k l. sets k (omega arith) ∙ ap (λ (b : Bool). eqb k j || b) (w .set-is k l) ∙ joins k l;
-          roles-kept = λ i h. roles i ∙ or-true (eqb i (roleOf s j)) (has (kids .roles) i) (w .roles-kept i h);
+          roles-kept = λ i h. roles i ∙ or-true (eqb i (roleOf s j)) (has (successors .roles) i) (w .roles-kept i h);
           roles-met = λ k l b h.
               roles (roleOf s k)
               ∙ by-test (ltb k (w .low))
-              (λ e. or-true (eqb (roleOf s k) (roleOf s j)) (has (kids .roles) (roleOf s k)) (w .roles-met k l (ltb-true k (w .low) e) h))
-              (λ e. let (y, p) = hangs-kid s c k h in
+              (λ e. or-true (eqb (roleOf s k) (roleOf s j)) (has (successors .roles) (roleOf s k)) (w .roles-met k l (ltb-true k (w .low) e) h))
+              (λ e. let (y, p) = hangs-successor s c k h in
               let m = w .next .first k y (ltb-false k (w .low) e) l p .1 in
               let same : k ≡ j = omega arith in
               rw (eq-eqb (roleOf s k) (roleOf s j) (ap (roleOf s) same)));
@@ -147,21 +147,21 @@ module _ (s : List ℕ) (rows c : ℕ) (old : Kids) where
         hung : (w .low ≤ j) × (j < rows) × (parentOf s j ≡ c)
         hung = w .next .hung z
 
-        joins : (k : ℕ) → k < rows → (eqb k j || ((kid k && ltb k (w .low)) || holds (old .set) k)) ≡ ((kid k && ltb k (j + 1)) || holds (old .set) k)
+        joins : (k : ℕ) → k < rows → (eqb k j || ((follows k && ltb k (w .low)) || holds (old .set) k)) ≡ ((follows k && ltb k (j + 1)) || holds (old .set) k)
         joins k l =
             by-test (eqb k j)
             (λ e. let same = eqb-true k j e in
-            let h : kid k ≡ true = kid-hangs s c k (λ y. z (sym same ∙ y)) (ap (parentOf s) same ∙ hung .2) in
+            let h : follows k ≡ true = successor-hangs s c k (λ y. z (sym same ∙ y)) (ap (parentOf s) same ∙ hung .2) in
             rw (e, h, lt-ltb k (j + 1) (omega arith)))
             (λ e. let u = eqb-false k j e in
-            by-test (kid k)
-            (λ h. let (y, p) = hangs-kid s c k h in
+            by-test (follows k)
+            (λ h. let (y, p) = hangs-successor s c k h in
             by-test (ltb k (w .low))
             (λ b. let m = ltb-true k (w .low) b in let o = hung .0 in rw (e, h, b, lt-ltb k (j + 1) (omega arith)))
             (λ b. let m = w .next .first k y (ltb-false k (w .low) b) l p .1 in rw (e, h, b, le-ltb k (j + 1) (omega (arith, u)))))
             (λ h. rw (e, h)))
 
-    pub walk-done : j ≡ 0 → Hung s rows c old kids
+    pub walk-done : j ≡ 0 → Hung s rows c old successors
     walk-done z =
         record {
           set-is = λ k l. w .set-is k l ∙ ap (λ (b : Bool). b || holds (old .set) k) (whole k l);
@@ -169,13 +169,13 @@ module _ (s : List ℕ) (rows c : ℕ) (old : Kids) where
           roles-met = λ k l h. w .roles-met k l (all k l h) h;
         }
       where
-        all : (k : ℕ) → k < rows → kid k ≡ true → k < w .low
+        all : (k : ℕ) → k < rows → follows k ≡ true → k < w .low
         all k l h =
-            let (y, p) = hangs-kid s c k h in
+            let (y, p) = hangs-successor s c k h in
             by-test (ltb k (w .low)) (λ e. ltb-true k (w .low) e) (λ e. absurd (w .next .first k y (ltb-false k (w .low) e) l p .0 z))
 
-        whole : (k : ℕ) → k < rows → (kid k && ltb k (w .low)) ≡ kid k
-        whole k l = by-test (kid k) (λ h. rw h (lt-ltb k (w .low) (all k l h))) (λ h. rw h)
+        whole : (k : ℕ) → k < rows → (follows k && ltb k (w .low)) ≡ follows k
+        whole k l = by-test (follows k) (λ h. rw h (lt-ltb k (w .low) (all k l h))) (λ h. rw h)
 
 pub walk-less : (rows j n : ℕ) → (j ≡ 0 → ⊥) → j < rows → ((n ≡ 0 → ⊥) → j + 1 ≤ n) → pick (eqb n 0) 0 (rows + 1 - n) < pick (eqb j 0) 0 (rows + 1 - j)
 walk-less rows j n z l on =

@@ -116,15 +116,15 @@ none-of true true = refl
 none-of true false = refl
 none-of false r = refl
 
-pub edge-row : (s : List ℕ) (rows : ℕ) (masks : List ℕ) (r kids : RowSet) (kind role : ℕ) → Checked s rows → Masked s rows masks → role < roles → (kind ≡ kindExists) ⊎ (kind ≡ kindForAll) → holds kids 0 ≡ false →
-    ((j : ℕ) → j < maxRows → holds r j ≡ (holds kids j && has (getD masks (4 * (2 * role + kind % 2) + j / 64) 0) (j % 64))) →
-    (j : ℕ) → j < rows → holds r j ≡ ofKind s kind (ofRole s role (holds kids)) j
-edge-row s rows masks r kids kind role checked masked below is rootless meets j l =
+pub edge-row : (s : List ℕ) (rows : ℕ) (masks : List ℕ) (r successors : RowSet) (kind role : ℕ) → Checked s rows → Masked s rows masks → role < roles → (kind ≡ kindExists) ⊎ (kind ≡ kindForAll) → holds successors 0 ≡ false →
+    ((j : ℕ) → j < maxRows → holds r j ≡ (holds successors j && has (getD masks (4 * (2 * role + kind % 2) + j / 64) 0) (j % 64))) →
+    (j : ℕ) → j < rows → holds r j ≡ ofKind s kind (ofRole s role (holds successors)) j
+edge-row s rows masks r successors kind role checked masked below is rootless meets j l =
     let most = checked .most in
     meets j (omega arith)
-    ∙ ap (λ (b : Bool). holds kids j && b) (masked .masked j role (kind % 2) l below (omega arith))
+    ∙ ap (λ (b : Bool). holds successors j && b) (masked .masked j role (kind % 2) l below (omega arith))
     ∙ by-test (eqb j 0)
-    (λ e. let root : holds kids j ≡ false = ap (holds kids) (eqb-true j 0 e) ∙ rootless in
+    (λ e. let root : holds successors j ≡ false = ap (holds successors) (eqb-true j 0 e) ∙ rootless in
     rw root (sym (none-of (eqb (kindOf s j) kind) (eqb (roleOf s j) role))))
-    (λ e. ap (λ (b : Bool). holds kids j && (eqb (roleOf s j) role && b)) (kind-is (kindOf s j) kind (checked .kinds j (eqb-false j 0 e) l) is)
-    ∙ turned (holds kids j) (eqb (roleOf s j) role) (eqb (kindOf s j) kind))
+    (λ e. ap (λ (b : Bool). holds successors j && (eqb (roleOf s j) role && b)) (kind-is (kindOf s j) kind (checked .kinds j (eqb-false j 0 e) l) is)
+    ∙ turned (holds successors j) (eqb (roleOf s j) role) (eqb (kindOf s j) kind))

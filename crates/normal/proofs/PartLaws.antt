@@ -33,7 +33,7 @@ use Rattle.meaning.specs.File.{codeAt, kindCode}
 use Rattle.meaning.specs.Meaning.{kindAt, pictureTable}
 use Rattle.normal.specs.Parts.{existsPartAt, mergedAt, partsAt, rolesAt, successorsAt, valuePartAt}
 use Rattle.normal.specs.Rows.{Checked, Found, Known, Unused, also, hangs, holds, ofKind, ofRole}
-use Rattle.normal.specs.declared.rows.Kids.{Kids}
+use Rattle.normal.specs.declared.rows.Successors.{Successors}
 use Rattle.normal.proofs.RowFilters.{filter-none, filter-same, filter-no, filter-yes, member-filter}
 use Rattle.normal.proofs.Tests.{eqb-same, refuted}
 
@@ -212,11 +212,11 @@ module _ (s : List ℕ) (rows : ℕ) (p : ℕ → Bool) (least to : ℕ) (unused
   unfolding rolesAt
   roles-skip depth l = byRole-same pictureSignature (λ r. partsAt s rows depth r (ofRole s r p)) least to l (λ r i b. part-none depth r i b)
 
-pub unused-roles : (s : List ℕ) (rows : ℕ) (kids : Kids) (least to end : ℕ) → Known s rows kids → end ≤ to → ((k : ℕ) → least ≤ k → k < to → has (kids .roles) k ≡ false) → Unused s rows (holds (kids .set)) least end
-unused-roles s rows kids least to end known l none =
+pub unused-roles : (s : List ℕ) (rows : ℕ) (successors : Successors) (least to end : ℕ) → Known s rows successors → end ≤ to → ((k : ℕ) → least ≤ k → k < to → has (successors .roles) k ≡ false) → Unused s rows (holds (successors .set)) least end
+unused-roles s rows successors least to end known l none =
     record {
       none = λ j b x y.
-          refuted (holds (kids .set) j) (λ h. false≢true (sym (none (roleOf s j) x (omega arith)) ∙ known .known j b h));
+          refuted (holds (successors .set) j) (λ h. false≢true (sym (none (roleOf s j) x (omega arith)) ∙ known .known j b h));
     }
 
 -- ---- one role

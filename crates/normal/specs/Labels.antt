@@ -35,9 +35,9 @@ pub record Joined (s : List ℕ) (j : ℕ) (label r : Label) : Type 0 where
 pub record Added (s : List ℕ) (rows j : ℕ) (values r : Values) : Type 0 where
   pub label-joins : Joined s j (values .label) (r .label)
   pub first-is : r .first ≡ j
-  pub kids-join : Hung s rows j (values .kids) (r .kids)
+  pub successors-join : Hung s rows j (values .successors) (r .successors)
 
 pub record Valued (s : List ℕ) (rows : ℕ) (q : ℕ → Bool) (values : Values) : Type 0 where
   pub label-is : LabelIs (values .label) (labelOfSet pictureSignature (pictureTable s) (filterBelow q rows))
-  pub kids-are : (j : ℕ) → j < rows → holds (values .kids .set) j ≡ hangs s q j
-  pub known : Known s rows (values .kids)
+  pub successors-are : (j : ℕ) → j < rows → holds (values .successors .set) j ≡ hangs s q j
+  pub known : Known s rows (values .successors)

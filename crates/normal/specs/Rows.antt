@@ -25,7 +25,7 @@ use Rattle.table.specs.Layout.{kindExists, kindForAll, «place», roles}
 use Rattle.table.specs.NameSet.{has}
 use Rattle.table.specs.Pick.{pick}
 use Rattle.picture.specs.View.{rowCount}
-use Rattle.normal.specs.declared.rows.Kids.{Kids}
+use Rattle.normal.specs.declared.rows.Successors.{Successors}
 use Rattle.normal.specs.declared.rows.RowSet.{RowSet}
 
 pub record Checked (s : List ℕ) (rows : ℕ) : Type 0 where
@@ -81,14 +81,14 @@ pub record Surveyed (s : List ℕ) (rows : ℕ) (links masks : List ℕ) : Type 
   pub linked : Linked s rows links
   pub masked : Masked s rows masks
 
-pub record Hung (s : List ℕ) (rows c : ℕ) (kids r : Kids) : Type 0 where
-  pub set-is : (k : ℕ) → k < rows → holds (r .set) k ≡ (hangs s (λ i. eqb i c) k || holds (kids .set) k)
-  pub roles-kept : (i : ℕ) → has (kids .roles) i ≡ true → has (r .roles) i ≡ true
+pub record Hung (s : List ℕ) (rows c : ℕ) (successors r : Successors) : Type 0 where
+  pub set-is : (k : ℕ) → k < rows → holds (r .set) k ≡ (hangs s (λ i. eqb i c) k || holds (successors .set) k)
+  pub roles-kept : (i : ℕ) → has (successors .roles) i ≡ true → has (r .roles) i ≡ true
   pub roles-met : (k : ℕ) → k < rows → hangs s (λ i. eqb i c) k ≡ true → has (r .roles) (roleOf s k) ≡ true
 
-pub record Known (s : List ℕ) (rows : ℕ) (kids : Kids) : Type 0 where
-  pub rootless : holds (kids .set) 0 ≡ false
-  pub known : (j : ℕ) → j < rows → holds (kids .set) j ≡ true → has (kids .roles) (roleOf s j) ≡ true
+pub record Known (s : List ℕ) (rows : ℕ) (successors : Successors) : Type 0 where
+  pub rootless : holds (successors .set) 0 ≡ false
+  pub known : (j : ℕ) → j < rows → holds (successors .set) j ≡ true → has (successors .roles) (roleOf s j) ≡ true
 
 pub record Unused (s : List ℕ) (rows : ℕ) (p : ℕ → Bool) (least to : ℕ) : Type 0 where
   pub none : (j : ℕ) → j < rows → least ≤ roleOf s j → roleOf s j < to → p j ≡ false

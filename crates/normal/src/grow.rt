@@ -3,11 +3,11 @@ use crate::node::Branch;
 use crate::node::Edge;
 use crate::node::enter;
 use crate::node::leave;
-use crate::rows::Kids;
 use crate::rows::LINKS;
 use crate::rows::MASKS;
 use crate::rows::ROLE_BITS;
 use crate::rows::RowSet;
+use crate::rows::Successors;
 use crate::rows::fill_links;
 use crate::rows::fill_masks;
 use crate::rows::next_bit;
@@ -46,7 +46,7 @@ fn graft(
     branch: Branch,
     edge: Edge,
 ) -> Branch
-    requires { ⌜ (Surveyed (now s) rows (now links) (now masks)) × ((Known (now s) rows (values .kids)) × ((Room limit branch (now out)) × (codeAt (branch .table .rows) (kindAt (edge .kind)) ≡ edge .kind))) ⌝ }
+    requires { ⌜ (Surveyed (now s) rows (now links) (now masks)) × ((Known (now s) rows (values .successors)) × ((Room limit branch (now out)) × (codeAt (branch .table .rows) (kindAt (edge .kind)) ≡ edge .kind))) ⌝ }
     ensures { λ r. ⌜ ((q : ℕ → Bool) → Valued (now (s .entry)) rows q values → Grown limit (edge .parent) branch (now (out .entry)) (cons (kindAt (edge .kind)) (edge .role) (mergedAt (now (s .entry)) rows depth q) nil) r (now (out .exit))) ⌝ }
 {
     let start = branch.table;
@@ -65,7 +65,7 @@ fn graft(
         limit,
         links,
         masks,
-        values.kids,
+        values.successors,
         depth,
         out,
         entered,
@@ -81,22 +81,22 @@ fn graft_roles(
     limit: usize,
     links: &[u8; LINKS],
     masks: &[u64; MASKS],
-    kids: Kids,
+    successors: Successors,
     depth: usize,
     out: &mut [u8],
     branch: Branch,
     parent: usize,
 ) -> Branch
-    requires { ⌜ (Surveyed (now s) rows (now links) (now masks)) × ((Known (now s) rows kids) × ((Room limit branch (now out)) × (0 < branch .table .rows))) ⌝ }
-    ensures { λ r. ⌜ Grown limit parent branch (now (out .entry)) (successorsAt (now (s .entry)) rows depth (holds (kids .set))) r (now (out .exit)) ⌝ }
+    requires { ⌜ (Surveyed (now s) rows (now links) (now masks)) × ((Known (now s) rows successors) × ((Room limit branch (now out)) × (0 < branch .table .rows))) ⌝ }
+    ensures { λ r. ⌜ Grown limit parent branch (now (out .entry)) (successorsAt (now (s .entry)) rows depth (holds (successors .set))) r (now (out .exit)) ⌝ }
 {
     if depth == 0 {
         return branch;
     }
     let mut grown = branch;
-    let mut role = next_bit(kids.roles, 0);
+    let mut role = next_bit(successors.roles, 0);
     while role < ROLE_BITS {
-        let set = kids.set;
+        let set = successors.set;
         grown = graft_role(
             s,
             rows,
@@ -113,7 +113,7 @@ fn graft_roles(
         if limit < grown.merged {
             return grown;
         }
-        role = next_bit(kids.roles, role + 1);
+        role = next_bit(successors.roles, role + 1);
     }
     grown
 }
@@ -125,18 +125,18 @@ fn graft_role(
     limit: usize,
     links: &[u8; LINKS],
     masks: &[u64; MASKS],
-    kids: RowSet,
+    successors: RowSet,
     depth: usize,
     out: &mut [u8],
     branch: Branch,
     parent: usize,
     role: u8,
 ) -> Branch
-    requires { ⌜ (Surveyed (now s) rows (now links) (now masks)) × (((role < roles) × (holds kids 0 ≡ false)) × ((Room limit branch (now out)) × (0 < branch .table .rows))) ⌝ }
-    ensures { λ r. ⌜ Grown limit parent branch (now (out .entry)) (partsAt (now (s .entry)) rows depth role (ofRole (now (s .entry)) role (holds kids))) r (now (out .exit)) ⌝ }
+    requires { ⌜ (Surveyed (now s) rows (now links) (now masks)) × (((role < roles) × (holds successors 0 ≡ false)) × ((Room limit branch (now out)) × (0 < branch .table .rows))) ⌝ }
+    ensures { λ r. ⌜ Grown limit parent branch (now (out .entry)) (partsAt (now (s .entry)) rows depth role (ofRole (now (s .entry)) role (holds successors))) r (now (out .exit)) ⌝ }
 {
-    let all = kids.of_edge(masks, KIND_FOR_ALL, role);
-    let some = kids.of_edge(masks, KIND_EXISTS, role);
+    let all = successors.of_edge(masks, KIND_FOR_ALL, role);
+    let some = successors.of_edge(masks, KIND_EXISTS, role);
     let values = gather(s, rows, links, all);
     let grown = graft_value(
         s,

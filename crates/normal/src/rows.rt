@@ -39,7 +39,7 @@ pub struct RowSet {
 }
 
 // The rows that hang from a set, and their roles: role r is bit r.
-pub struct Kids {
+pub struct Successors {
     pub set: RowSet,
     pub roles: u64,
 }
@@ -141,41 +141,41 @@ impl RowSet {
     }
 }
 
-impl Kids {
-    pub fn none() -> Kids
+impl Successors {
+    pub fn none() -> Successors
         ensures { λ r. ⌜ ((j : ℕ) → holds (r .set) j ≡ false) ⌝ }
     {
-        Kids {
+        Successors {
             set: RowSet::none(),
             roles: 0,
         }
     }
 
     // With row j.
-    fn with(self, s: &[u8], rows: usize, j: usize) -> Kids
+    fn with(self, s: &[u8], rows: usize, j: usize) -> Successors
         requires { ⌜ (Checked (now s) rows) × (j < rows) ⌝ }
         ensures { λ r. ⌜ ((k : ℕ) → k < maxRows → holds (r .set) k ≡ (eqb k j || holds (self .set) k)) × ((i : ℕ) → has (r .roles) i ≡ (eqb i (roleOf (now (s .entry)) j) || has (self .roles) i)) ⌝ }
     {
         let set = self.set;
         let new = bit(wide(role(s, j)) as usize);
-        Kids {
+        Successors {
             set: set.with(j),
             roles: self.roles | new,
         }
     }
 
     // With those that hang from row c.
-    pub fn add(self, s: &[u8], rows: usize, links: &[u8; LINKS], c: usize) -> Kids
+    pub fn add(self, s: &[u8], rows: usize, links: &[u8; LINKS], c: usize) -> Successors
         requires { ⌜ (Checked (now s) rows) × ((Linked (now s) rows (now links)) × (c < rows)) ⌝ }
         ensures { λ r. ⌜ Hung (now (s .entry)) rows c self r ⌝ }
     {
-        let mut kids = self;
+        let mut successors = self;
         let mut j = wide(links[c]) as usize;
         while j != 0 {
-            kids = kids.with(s, rows, j);
+            successors = successors.with(s, rows, j);
             j = wide(links[MAX_ROWS + j]) as usize;
         }
-        kids
+        successors
     }
 }
 

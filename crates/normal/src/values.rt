@@ -1,9 +1,9 @@
 // What the merged row of a set needs of it: the label, and the file rows that hang from it.
 use crate::label::Label;
 use crate::label::join;
-use crate::rows::Kids;
 use crate::rows::LINKS;
 use crate::rows::RowSet;
+use crate::rows::Successors;
 ghost use mathlib.Core.Path.{_≡_};
 ghost use mathlib.Core.Bool.{false};
 ghost use Prim.Native.Nat.{ℕ, _<_};
@@ -15,18 +15,18 @@ ghost use Rattle.normal.specs.Labels.{Added, LabelIs, Valued};
 // `first` is a row of the set; the number of rows if there is none.
 pub struct Values {
     pub label: Label,
-    pub kids: Kids,
+    pub successors: Successors,
     pub first: usize,
 }
 
 impl Values {
     // Of no rows.
     pub fn none(rows: usize) -> Values
-        ensures { λ r. ⌜ (LabelIs (r .label) (emptyLabel pictureSignature)) × ((r .first ≡ rows) × ((j : ℕ) → holds (r .kids .set) j ≡ false)) ⌝ }
+        ensures { λ r. ⌜ (LabelIs (r .label) (emptyLabel pictureSignature)) × ((r .first ≡ rows) × ((j : ℕ) → holds (r .successors .set) j ≡ false)) ⌝ }
     {
         Values {
             label: Label::empty(),
-            kids: Kids::none(),
+            successors: Successors::none(),
             first: rows,
         }
     }
@@ -37,11 +37,11 @@ impl Values {
         ensures { λ r. ⌜ Added (now (s .entry)) rows j self r ⌝ }
     {
         let label = self.label;
-        let kids = self.kids;
-        let hung = kids.add(s, rows, links, j);
+        let successors = self.successors;
+        let hung = successors.add(s, rows, links, j);
         Values {
             label: join(s, rows, label, j),
-            kids: hung,
+            successors: hung,
             first: j,
         }
     }

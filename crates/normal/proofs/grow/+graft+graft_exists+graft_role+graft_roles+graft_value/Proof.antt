@@ -186,7 +186,7 @@ graft-returns-2 t c =
     let f = successorsAt (now (a .s)) (a .rows) (a .depth) (hangs (now (a .s)) q) in
     let l = labelOfSet pictureSignature (pictureTable (now (a .s))) (filterBelow q (a .rows)) in
     grown-same (a .limit) (a .edge .parent) (a .branch) (le .result) (now (a .out)) (le .last .0) _ _ (ap (λ t. cons (kindAt (a .edge .kind)) (a .edge .role) t nil) (sym (merged-node (now (a .s)) (a .rows) (pre .0 .checked) q (a .depth))))
-    (grown-node (a .limit) (a .branch) (now (a .out)) (a .edge) (a .values .label) l (v .label-is) (pre .1 .1 .1) room fits f (en .result) (gr .result) (le .result) (en .last .0) (gr .last .1 .1 .1 .1 .1 .1 .1 .0) (le .last .0) (en .ensures) (grown-same (a .limit) (a .branch .table .rows) (en .result) (gr .result) (en .last .0) (gr .last .1 .1 .1 .1 .1 .1 .1 .0) _ _ (successors-same (now (a .s)) (a .rows) (holds (a .values .kids .set)) (hangs (now (a .s)) q) (v .kids-are) (a .depth)) (gr .ensures)) (le .ensures))
+    (grown-node (a .limit) (a .branch) (now (a .out)) (a .edge) (a .values .label) l (v .label-is) (pre .1 .1 .1) room fits f (en .result) (gr .result) (le .result) (en .last .0) (gr .last .1 .1 .1 .1 .1 .1 .1 .0) (le .last .0) (en .ensures) (grown-same (a .limit) (a .branch .table .rows) (en .result) (gr .result) (en .last .0) (gr .last .1 .1 .1 .1 .1 .1 .1 .0) _ _ (successors-same (now (a .s)) (a .rows) (holds (a .values .successors .set)) (hangs (now (a .s)) q) (v .successors-are) (a .depth)) (gr .ensures)) (le .ensures))
 
 abbrev graft-exists-Inv-loop : graft-exists-lts.InvT-loop
 graft-exists-Inv-loop s rows limit links masks some values depth out₀ parent role edge grown₀ j₀ out grown j =
@@ -225,7 +225,7 @@ graft-exists-graft-requires t c κs =
     let l = c .before .before .before .loop in
     let g = l .inv .0 (holds (a .all)) (pre .1 .0) in
     let ad = c .before .add in
-    (omega (arith, st .pre .0), (pre .0, (known-with (now (a .s)) (a .rows) (l .j) (a .values .kids) (ad .result .kids) (c .before .before .loop-test .taken) (pre .1 .0 .known) (ad .ensures .kids-join), (grown-room (a .limit) (a .parent) (a .branch) (l .grown) (now (a .out)) (l .out) _ (pre .1 .1 .0) g, code-later (l .grown .table .rows) exists (grown-some (a .limit) (a .parent) (a .branch) (l .grown) (now (a .out)) (l .out) _ (pre .1 .1 .1) g)))))
+    (omega (arith, st .pre .0), (pre .0, (known-with (now (a .s)) (a .rows) (l .j) (a .values .successors) (ad .result .successors) (c .before .before .loop-test .taken) (pre .1 .0 .known) (ad .ensures .successors-join), (grown-room (a .limit) (a .parent) (a .branch) (l .grown) (now (a .out)) (l .out) _ (pre .1 .1 .0) g, code-later (l .grown .table .rows) exists (grown-some (a .limit) (a .parent) (a .branch) (l .grown) (now (a .out)) (l .out) _ (pre .1 .1 .1) g)))))
 
 graft-exists-same-length : (t : ℕ) → graft-exists-lts.Need-same-length (graft-exists-claims t) (graft-exists-at t) graft-exists.Post graft-exists-Inv-loop graft-exists-μ-loop
 graft-exists-same-length t c =
@@ -346,17 +346,17 @@ graft-role-returns t c =
     let ga = c .before .before .before .before .before .before .before .before .gather in
     let gv = c .before .before .before .before .before .before .graft-value in
     let ge = c .before .before .graft-exists in
-    grown-same (a .limit) (a .parent) (a .branch) (ge .result) (now (a .out)) _ _ _ (role-parts (now (a .s)) (a .rows) (a .depth) (a .role) (holds (all .result)) (holds (some .result)) (ga .result .first) (ga .ensures .0) (ofRole (now (a .s)) (a .role) (holds (a .kids)))
-    (edge-row (now (a .s)) (a .rows) (now (a .masks)) (all .result) (a .kids) kindForAll (a .role) (pre .0 .checked) (pre .0 .masked) (pre .1 .0 .0) (inr refl) (pre .1 .0 .1) (all .ensures))
-    (edge-row (now (a .s)) (a .rows) (now (a .masks)) (some .result) (a .kids) kindExists (a .role) (pre .0 .checked) (pre .0 .masked) (pre .1 .0 .0) (inl refl) (pre .1 .0 .1) (some .ensures)))
+    grown-same (a .limit) (a .parent) (a .branch) (ge .result) (now (a .out)) _ _ _ (role-parts (now (a .s)) (a .rows) (a .depth) (a .role) (holds (all .result)) (holds (some .result)) (ga .result .first) (ga .ensures .0) (ofRole (now (a .s)) (a .role) (holds (a .successors)))
+    (edge-row (now (a .s)) (a .rows) (now (a .masks)) (all .result) (a .successors) kindForAll (a .role) (pre .0 .checked) (pre .0 .masked) (pre .1 .0 .0) (inr refl) (pre .1 .0 .1) (all .ensures))
+    (edge-row (now (a .s)) (a .rows) (now (a .masks)) (some .result) (a .successors) kindExists (a .role) (pre .0 .checked) (pre .0 .masked) (pre .1 .0 .0) (inl refl) (pre .1 .0 .1) (some .ensures)))
     (grown-append (a .limit) (a .parent) (a .branch) (gv .result) (ge .result) (now (a .out)) _ _ _ _ (gv .ensures) (ge .ensures))
 
 abbrev graft-roles-Inv-loop : graft-roles-lts.InvT-loop
-graft-roles-Inv-loop s rows limit links masks kids depth out₀ parent grown₀ role₀ out grown role =
-    Grown limit parent grown₀ out₀ (rolesAt s rows (depth - 1) (holds (kids .set)) (min role roles)) grown out
+graft-roles-Inv-loop s rows limit links masks successors depth out₀ parent grown₀ role₀ out grown role =
+    Grown limit parent grown₀ out₀ (rolesAt s rows (depth - 1) (holds (successors .set)) (min role roles)) grown out
 
 abbrev graft-roles-μ-loop : graft-roles-lts.MeasureT-loop
-graft-roles-μ-loop s rows limit links masks kids depth out₀ parent grown₀ role₀ out grown role =
+graft-roles-μ-loop s rows limit links masks successors depth out₀ parent grown₀ role₀ out grown role =
     roles - role
 
 graft-roles-returns : (t : ℕ) → graft-roles-lts.Need-returns (graft-roles-claims t) (graft-roles-at t) graft-roles.Post graft-roles-Inv-loop graft-roles-μ-loop
@@ -364,7 +364,7 @@ graft-roles-returns t c =
     let st = c .before .before .before in
     let a = st .args in
     let pre = st .pre .1 in
-    grown-same (a .limit) (a .parent) (a .branch) (a .branch) (now (a .out)) (now (a .out)) _ _ (sym (successors-leaf (now (a .s)) (a .rows) (holds (a .kids .set)) (a .depth) (c .if1 .taken))) (grown-nil (a .limit) (a .parent) (a .branch) (now (a .out)) (pre .1 .1 .0))
+    grown-same (a .limit) (a .parent) (a .branch) (a .branch) (now (a .out)) (now (a .out)) _ _ (sym (successors-leaf (now (a .s)) (a .rows) (holds (a .successors .set)) (a .depth) (c .if1 .taken))) (grown-nil (a .limit) (a .parent) (a .branch) (now (a .out)) (pre .1 .1 .0))
 
 graft-roles-next-bit-requires : (t : ℕ) → graft-roles-lts.Need-next-bit-requires (graft-roles-claims t) (graft-roles-at t) graft-roles.Post graft-roles-Inv-loop graft-roles-μ-loop
 graft-roles-next-bit-requires t c κs = omega arith
@@ -375,8 +375,8 @@ graft-roles-loop-holds t c =
     let a = st .args in
     let pre = st .pre .1 in
     let nb = c .next-bit in
-    role-on (now (a .s)) (a .rows) (a .depth - 1) (holds (a .kids .set)) (a .limit) (a .parent) (a .branch) (now (a .out)) 0 (nb .result) (a .branch) (now (a .out)) (omega arith) (omega arith) (unused-roles (now (a .s)) (a .rows) (a .kids) 0 (nb .result) (min (nb .result) roles) (pre .1 .0) (omega arith) (nb .ensures .2))
-    (grown-same (a .limit) (a .parent) (a .branch) (a .branch) (now (a .out)) (now (a .out)) _ _ (sym (roles-none (now (a .s)) (a .rows) (holds (a .kids .set)) (a .depth - 1))) (grown-nil (a .limit) (a .parent) (a .branch) (now (a .out)) (pre .1 .1 .0)))
+    role-on (now (a .s)) (a .rows) (a .depth - 1) (holds (a .successors .set)) (a .limit) (a .parent) (a .branch) (now (a .out)) 0 (nb .result) (a .branch) (now (a .out)) (omega arith) (omega arith) (unused-roles (now (a .s)) (a .rows) (a .successors) 0 (nb .result) (min (nb .result) roles) (pre .1 .0) (omega arith) (nb .ensures .2))
+    (grown-same (a .limit) (a .parent) (a .branch) (a .branch) (now (a .out)) (now (a .out)) _ _ (sym (roles-none (now (a .s)) (a .rows) (holds (a .successors .set)) (a .depth - 1))) (grown-nil (a .limit) (a .parent) (a .branch) (now (a .out)) (pre .1 .1 .0)))
 
 graft-roles-sub-graft-role : (t : ℕ) → graft-roles-lts.Need-sub-graft-role (graft-roles-claims t) (graft-roles-at t) graft-roles.Post graft-roles-Inv-loop graft-roles-μ-loop
 graft-roles-sub-graft-role t c = omega (arith, c .before .before .before .before .if1 .left)
@@ -403,8 +403,8 @@ graft-roles-returns-2 t c =
     let l = c .before .before .before .before .before .before .before .before .loop in
     let gr = c .before .before .before .before .graft-role in
     let more = c .before .before .before .before .before .before .before .loop-test .taken in
-    grown-same (a .limit) (a .parent) (a .branch) (gr .result) (now (a .out)) _ _ _ (sym (successors-roles (now (a .s)) (a .rows) (holds (a .kids .set)) (a .depth) (c .before .before .before .before .before .before .before .before .before .before .if1 .left)))
-    (grown-full (a .limit) (a .parent) (a .branch) (gr .result) (now (a .out)) _ _ _ (role-turn (now (a .s)) (a .rows) (a .depth - 1) (holds (a .kids .set)) (a .limit) (a .parent) (a .branch) (now (a .out)) (l .role) (l .grown) (gr .result) (l .out) _ more (l .inv) (gr .ensures)) (c .if2 .taken) (roles-more (now (a .s)) (a .rows) (holds (a .kids .set)) (a .depth - 1) (l .role + 1) roles (omega (arith, more))))
+    grown-same (a .limit) (a .parent) (a .branch) (gr .result) (now (a .out)) _ _ _ (sym (successors-roles (now (a .s)) (a .rows) (holds (a .successors .set)) (a .depth) (c .before .before .before .before .before .before .before .before .before .before .if1 .left)))
+    (grown-full (a .limit) (a .parent) (a .branch) (gr .result) (now (a .out)) _ _ _ (role-turn (now (a .s)) (a .rows) (a .depth - 1) (holds (a .successors .set)) (a .limit) (a .parent) (a .branch) (now (a .out)) (l .role) (l .grown) (gr .result) (l .out) _ more (l .inv) (gr .ensures)) (c .if2 .taken) (roles-more (now (a .s)) (a .rows) (holds (a .successors .set)) (a .depth - 1) (l .role + 1) roles (omega (arith, more))))
 
 graft-roles-add-next-bit : (t : ℕ) → graft-roles-lts.Need-add-next-bit (graft-roles-claims t) (graft-roles-at t) graft-roles.Post graft-roles-Inv-loop graft-roles-μ-loop
 graft-roles-add-next-bit t c = omega (arith, c .before .before .before .before .before .before .before .loop-test .taken)
@@ -424,8 +424,8 @@ graft-roles-loop-again t c =
     let gr = c .before .before .before .before .before .graft-role in
     let more = c .before .before .before .before .before .before .before .before .loop-test .taken in
     let nb = c .next-bit2 in
-    role-on (now (a .s)) (a .rows) (a .depth - 1) (holds (a .kids .set)) (a .limit) (a .parent) (a .branch) (now (a .out)) (l .role + 1) (nb .result) (gr .result) _ (nb .ensures .0) (omega (arith, more)) (unused-roles (now (a .s)) (a .rows) (a .kids) (l .role + 1) (nb .result) (min (nb .result) roles) (pre .1 .0) (omega arith) (nb .ensures .2))
-    (role-turn (now (a .s)) (a .rows) (a .depth - 1) (holds (a .kids .set)) (a .limit) (a .parent) (a .branch) (now (a .out)) (l .role) (l .grown) (gr .result) (l .out) _ more (l .inv) (gr .ensures))
+    role-on (now (a .s)) (a .rows) (a .depth - 1) (holds (a .successors .set)) (a .limit) (a .parent) (a .branch) (now (a .out)) (l .role + 1) (nb .result) (gr .result) _ (nb .ensures .0) (omega (arith, more)) (unused-roles (now (a .s)) (a .rows) (a .successors) (l .role + 1) (nb .result) (min (nb .result) roles) (pre .1 .0) (omega arith) (nb .ensures .2))
+    (role-turn (now (a .s)) (a .rows) (a .depth - 1) (holds (a .successors .set)) (a .limit) (a .parent) (a .branch) (now (a .out)) (l .role) (l .grown) (gr .result) (l .out) _ more (l .inv) (gr .ensures))
 
 graft-roles-same-length-2 : (t : ℕ) → graft-roles-lts.Need-same-length-2 (graft-roles-claims t) (graft-roles-at t) graft-roles.Post graft-roles-Inv-loop graft-roles-μ-loop
 graft-roles-same-length-2 t c = search needs
@@ -438,7 +438,7 @@ graft-roles-returns-3 t c =
     let l = c .before .loop in
     let m = c .loop-test .left in
     let e : min (l .role) roles ≡ roles = omega (arith, m) in
-    grown-same (a .limit) (a .parent) (a .branch) (l .grown) (now (a .out)) (l .out) _ _ (ap (rolesAt (now (a .s)) (a .rows) (a .depth - 1) (holds (a .kids .set))) e ∙ sym (successors-roles (now (a .s)) (a .rows) (holds (a .kids .set)) (a .depth) (c .before .before .before .if1 .left))) (l .inv)
+    grown-same (a .limit) (a .parent) (a .branch) (l .grown) (now (a .out)) (l .out) _ _ (ap (rolesAt (now (a .s)) (a .rows) (a .depth - 1) (holds (a .successors .set))) e ∙ sym (successors-roles (now (a .s)) (a .rows) (holds (a .successors .set)) (a .depth) (c .before .before .before .if1 .left))) (l .inv)
 
 graft-value-returns :
     (t : ℕ) →

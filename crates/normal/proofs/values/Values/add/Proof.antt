@@ -11,7 +11,7 @@ join-requires : tie.Need-join-requires
 join-requires c κs = search needs
 
 returns : tie.Need-returns
-returns c = record { label-joins = c .join .ensures; first-is = refl; kids-join = c .before .add .ensures }
+returns c = record { label-joins = c .join .ensures; first-is = refl; successors-join = c .before .add .ensures }
 
 pub add-spec : {M : Type 1} → statement M
 add-spec = tie.close (tie.spec add-requires join-requires returns)

@@ -10,14 +10,14 @@ use Rattle.table.specs.Bounds.{maxRows}
 use Rattle.table.specs.Pick.{pick}
 use Rattle.normal.specs.Rows.{Nearest}
 use Rattle.normal.proofs.Links.{Walked, walk-done, walk-less, walk-next, walk-none}
-use Rattle.normal.proofs.rows.Kids.add.Statement.{statement}
-use Rattle.normal.proofs.rows.Kids.add.Tie as tie
+use Rattle.normal.proofs.rows.Successors.add.Statement.{statement}
+use Rattle.normal.proofs.rows.Successors.add.Tie as tie
 
 abbrev Inv-loop : tie.InvT-loop
-Inv-loop s rows links c kids₀ j₀ kids j = Walked s rows c j kids₀ kids
+Inv-loop s rows links c successors₀ j₀ successors j = Walked s rows c j successors₀ successors
 
 abbrev μ-loop : tie.MeasureT-loop
-μ-loop s rows links c kids₀ j₀ kids j = pick (eqb j 0) 0 (rows + 1 - j)
+μ-loop s rows links c successors₀ j₀ successors j = pick (eqb j 0) 0 (rows + 1 - j)
 
 element-copy-out-wide : tie.Need-element-copy-out-wide Inv-loop μ-loop
 element-copy-out-wide c = omega (arith, c .before .pre .1 .1, c .before .pre .0 .most)
@@ -75,13 +75,13 @@ loop-again c =
     let l = c .before .before .before .before .loop in
     let z = c .before .before .before .loop-test .taken in
     let w = c .before .before .with .ensures in
-    walk-next (now (a .s)) (a .rows) (a .c) (a .self) (l .j) (l .kids) (l .inv) (c .before .before .with .result) (c .wide2 .result) z (onward c) (st .pre .0 .most) (w .0) (w .1)
+    walk-next (now (a .s)) (a .rows) (a .c) (a .self) (l .j) (l .successors) (l .inv) (c .before .before .with .result) (c .wide2 .result) z (onward c) (st .pre .0 .most) (w .0) (w .1)
 
 returns : tie.Need-returns Inv-loop μ-loop
 returns c =
     let a = c .before .before .before .before .before .args in
     let l = c .before .loop in
-    walk-done (now (a .s)) (a .rows) (a .c) (a .self) (l .j) (l .kids) (l .inv) (c .loop-test .left)
+    walk-done (now (a .s)) (a .rows) (a .c) (a .self) (l .j) (l .successors) (l .inv) (c .loop-test .left)
 
 pub add-spec : {M : Type 1} → statement M
 add-spec =

@@ -6,8 +6,8 @@ use denote.Ref.{now}
 use Rattle.table.specs.Fields.{roleOf}
 use Rattle.normal.proofs.Words.{bit-more}
 use borrow.Author.Needs.{needs}
-use Rattle.normal.proofs.rows.Kids.with.Statement.{statement}
-use Rattle.normal.proofs.rows.Kids.with.Tie as tie
+use Rattle.normal.proofs.rows.Successors.with.Statement.{statement}
+use Rattle.normal.proofs.rows.Successors.with.Tie as tie
 
 role-requires : tie.Need-role-requires
 role-requires c κs = search needs
