@@ -19,7 +19,7 @@ use Rattle.table.specs.NameSet.{has}
 use Rattle.normal.specs.declared.rows.RowSet.{RowSet}
 use Rattle.normal.specs.Rows.{Checked, Masked, Zeros, holds, ofKind, ofRole}
 use Rattle.normal.proofs.Stores.{stored}
-use Rattle.normal.proofs.Tests.{by-test}
+use Rattle.normal.proofs.Tests.{and-comm, and-none-two, and-swap, by-test}
 use Rattle.normal.proofs.Words.{bit-more, same-word}
 
 -- the test of a row's role and kind
@@ -102,19 +102,7 @@ kind-is code kind (inr e) (inl f) = rw (e, f)
 kind-is code kind (inr e) (inr f) = rw (e, f)
 
 turned : (h r k : Bool) → (h && (r && k)) ≡ (k && (r && h))
-turned true true true = refl
-turned true true false = refl
-turned true false true = refl
-turned true false false = refl
-turned false true true = refl
-turned false true false = refl
-turned false false true = refl
-turned false false false = refl
-
-none-of : (k r : Bool) → (k && (r && false)) ≡ false
-none-of true true = refl
-none-of true false = refl
-none-of false r = refl
+turned h r k = ap (λ (b : Bool). h && b) (and-comm r k) ∙ and-swap h k r ∙ ap (λ (b : Bool). k && b) (and-comm h r)
 
 pub edge-row : (s : List ℕ) (rows : ℕ) (masks : List ℕ) (r successors : RowSet) (kind role : ℕ) → Checked s rows → Masked s rows masks → role < roles → (kind ≡ kindExists) ⊎ (kind ≡ kindForAll) → holds successors 0 ≡ false →
     ((j : ℕ) → j < maxRows → holds r j ≡ (holds successors j && has (getD masks (4 * (2 * role + kind % 2) + j / 64) 0) (j % 64))) →
@@ -125,6 +113,6 @@ edge-row s rows masks r successors kind role checked masked below is rootless me
     ∙ ap (λ (b : Bool). holds successors j && b) (masked .masked j role (kind % 2) l below (omega arith))
     ∙ by-test (eqb j 0)
     (λ e. let root : holds successors j ≡ false = ap (holds successors) (eqb-true j 0 e) ∙ rootless in
-    rw root (sym (none-of (eqb (kindOf s j) kind) (eqb (roleOf s j) role))))
+    rw root (sym (and-none-two (eqb (kindOf s j) kind) (eqb (roleOf s j) role))))
     (λ e. ap (λ (b : Bool). holds successors j && (eqb (roleOf s j) role && b)) (kind-is (kindOf s j) kind (checked .kinds j (eqb-false j 0 e) l) is)
     ∙ turned (holds successors j) (eqb (roleOf s j) role) (eqb (kindOf s j) kind))

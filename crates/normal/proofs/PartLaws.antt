@@ -35,7 +35,7 @@ use Rattle.normal.specs.Parts.{existsPartAt, mergedAt, partsAt, rolesAt,
 use Rattle.normal.specs.Rows.{Checked, Found, Known, Unused, also, hangs, holds, ofKind, ofRole}
 use Rattle.normal.specs.declared.rows.Successors.{Successors}
 use Rattle.normal.proofs.RowFilters.{filter-none, filter-same, filter-no, filter-yes, member-filter}
-use Rattle.normal.proofs.Tests.{eqb-same, refuted}
+use Rattle.normal.proofs.Tests.{and-comm, and-none, and-none-two, and-swap, eqb-same, refuted}
 
 -- ---- the tests of an edge
 
@@ -46,12 +46,7 @@ kind-test code forAll (inl e) = rw e
 kind-test code forAll (inr e) = rw e
 
 turned : (h k r : Bool) → (h && (k && r)) ≡ (k && (r && h))
-turned true true true = refl
-turned true true false = refl
-turned true false r = refl
-turned false true true = refl
-turned false true false = refl
-turned false false r = refl
+turned h k r = and-swap h k r ∙ ap (λ (b : Bool). k && b) (and-comm h r)
 
 -- ---- sets of the same rows
 
@@ -117,12 +112,7 @@ module _ (s : List ℕ) (rows : ℕ) (checked : Checked s rows) (q : ℕ → Boo
       later : (b : Bool) → eqb j 0 ≡ b → (not b && q (parentOf s j)) ≡ true → j ≡ 0 → ⊥
       later true z h = absurd (true-is false h)
       later false z h = eqb-false j 0 z
-  kind-hangs k r j l false e = sym (none (eqb (kindOf s j) (kindCode k)) r)
-    where
-      none : (a b : Bool) → (a && (b && false)) ≡ false
-      none true true = refl
-      none true false = refl
-      none false b = refl
+  kind-hangs k r j l false e = sym (and-none-two (eqb (kindOf s j) (kindCode k)) r)
 
   rows-below : (k : Kind) (role : ℕ) (t : ℕ → Bool) → ((r : ℕ) → t r ≡ eqb r role) → rowsBelow pictureSignature (pictureTable s) set k t ≡ filterBelow (ofKind s (kindCode k) (ofRole s role (hangs s q))) rows
   unfolding viewOf
@@ -194,15 +184,11 @@ module _ (s : List ℕ) (rows : ℕ) (p : ℕ → Bool) (least to : ℕ) (unused
   none-by : (kind role : ℕ) → least ≤ role → role < to → filterBelow (ofKind s kind (ofRole s role p)) rows ≡ []
   none-by kind role l b = filter-none (ofKind s kind (ofRole s role p)) rows (λ j i. fails j i (eqb (roleOf s j) role) refl)
     where
-      never : (a : Bool) → (a && false) ≡ false
-      never true = refl
-      never false = refl
-
       fails : (j : ℕ) → j < rows → (t : Bool) → eqb (roleOf s j) role ≡ t → (eqb (kindOf s j) kind && (t && p j)) ≡ false
       fails j i true e =
           let z = eqb-true (roleOf s j) role e in
-          rw (unused .none j i (omega arith) (omega arith)) (never (eqb (kindOf s j) kind))
-      fails j i false e = never (eqb (kindOf s j) kind)
+          rw (unused .none j i (omega arith) (omega arith)) (and-none (eqb (kindOf s j) kind))
+      fails j i false e = and-none (eqb (kindOf s j) kind)
 
   part-none : (depth role : ℕ) → least ≤ role → role < to → partsAt s rows depth role (ofRole s role p) ≡ nil
   unfolding partsAt existsPartAt

@@ -8,6 +8,8 @@ use lib.ListN.{length-replicate, getD, length, replicate, set}
 use lib.Seq.{getD-set-other, getD-set-same}
 use mathlib.Core.List.{List}
 use mathlib.Core.Path.{_∙_, _≡_, ap, refl, subst, sym}
+use Rattle.table.specs.Put.{zeros}
+use Rattle.table.proofs.Puts.{getD-zeros}
 use Rattle.normal.specs.Rows.{Zeros}
 use Rattle.normal.proofs.Tests.{by-test}
 
@@ -19,9 +21,5 @@ stored P t i v k l here elsewhere =
     (λ e. let other = eqb-false k i e in subst P (sym (getD-set-other t i k v 0 other)) (elsewhere other))
 
 pub blank : (n m : ℕ) → n ≡ m → Zeros m (replicate n 0)
-blank n m e = record { size = length-replicate n 0 ∙ e; zeros = zeros n }
-  where
-    zeros : (n j : ℕ) → _≡_ {A = ℕ} (getD (replicate n 0) j 0) 0
-    zeros zero j = refl
-    zeros (suc n) zero = refl
-    zeros (suc n) (suc j) = zeros n j
+unfolding zeros
+blank n m e = record { size = length-replicate n 0 ∙ e; zeros = getD-zeros n }

@@ -2,11 +2,13 @@
 --   by-test            a fact that follows from either answer
 --   refuted            a test that cannot pass fails
 --   or-swap, or-again  a disjunction has no order, and takes a test once
+--   and-comm, and-swap a conjunction has no order
+--   and-none, and-none-two   nor does it pass with a test that fails
 --   eqb-same           equality has no order
 use Prim.Native.Nat.{ℕ}
 use borrow.Author.Tests.{eq-eqb, eqb-false, eqb-true, ne-eqb}
 use lib.Dec.{eqb}
-use mathlib.Core.Bool.{Bool, _||_, false, true}
+use mathlib.Core.Bool.{Bool, _&&_, _||_, false, true}
 use mathlib.Core.Path.{_≡_, refl, sym}
 
 pub by-test : {A : Type 0} (b : Bool) → (b ≡ true → A) → (b ≡ false → A) → A
@@ -24,6 +26,25 @@ or-swap false b c = refl
 pub or-again : (a b : Bool) → (a || (a || b)) ≡ (a || b)
 or-again true b = refl
 or-again false b = refl
+
+pub and-comm : (a b : Bool) → (a && b) ≡ (b && a)
+and-comm true true = refl
+and-comm true false = refl
+and-comm false true = refl
+and-comm false false = refl
+
+pub and-swap : (a b c : Bool) → (a && (b && c)) ≡ (b && (a && c))
+and-swap true b c = refl
+and-swap false true c = refl
+and-swap false false c = refl
+
+pub and-none : (a : Bool) → (a && false) ≡ false
+and-none true = refl
+and-none false = refl
+
+pub and-none-two : (a b : Bool) → (a && (b && false)) ≡ false
+and-none-two true b = and-none b
+and-none-two false b = refl
 
 pub eqb-same : (a b : ℕ) → eqb a b ≡ eqb b a
 eqb-same a b = swap (eqb a b) refl

@@ -1,5 +1,6 @@
 // Sets of file rows, and the file rows that hang from a set.
 use table::layout::MAX_ROWS;
+use table::layout::ROLES;
 use table::number::wide;
 use table::row::kind;
 use table::row::parent;
@@ -22,7 +23,7 @@ pub const WORDS: usize = 4;
 pub const WORD_ROWS: usize = MAX_ROWS / WORDS;
 
 // A set of roles is one word, of which so many bits are used.
-pub const ROLE_BITS: usize = 32;
+pub const ROLE_BITS: usize = ROLES as usize;
 
 // For each role and kind a set of rows.
 pub const MASKS: usize = 2 * ROLE_BITS * WORDS;
