@@ -14,7 +14,7 @@ use Rattle.normal.specs.declared.values.Values.{Values}
 use Rattle.normal.specs.Labels.{Added, Valued}
 use Rattle.normal.specs.Rows.{Checked, Found, also}
 use Rattle.normal.proofs.LabelLaws.{valued-same, valued-with}
-use Rattle.normal.proofs.Tests.{by-test}
+use Rattle.table.proofs.Bools.{by-test}
 
 -- the test of the rows before j, and before n where none between passes
 skip : (p : ℕ → Bool) (j n k : ℕ) → j ≤ n → (j ≤ k → k < n → p k ≡ false) → (ltb k j && p k) ≡ (ltb k n && p k)

@@ -34,7 +34,8 @@ use Rattle.normal.specs.declared.rows.Successors.{Successors}
 use Rattle.normal.specs.declared.values.Values.{Values}
 use Rattle.normal.specs.Labels.{Added, Joined, LabelIs, Valued}
 use Rattle.normal.specs.Rows.{Checked, Hung, Known, also, hangs, holds}
-use Rattle.normal.proofs.Tests.{by-test, or-again, or-swap}
+use Rattle.normal.proofs.Tests.{or-again, or-swap}
+use Rattle.table.proofs.Bools.{by-test}
 
 module _ (S : Signature) (p : Table S) {A : Type 0} (part : Label S → A) (op : A → A → A)
     (joins : (l m : Label S) → part (labelUnion S l m) ≡ op (part l) (part m)) (swap : (a b c : A) → op a (op b c) ≡ op b (op a c))

@@ -2,7 +2,6 @@
 -- tests, tables, sets of rows and what hangs from them
 pub mod Tests
 pub mod RowFilters
-pub mod Stores
 pub mod Words
 pub mod Links
 pub mod Masks

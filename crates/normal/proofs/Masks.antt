@@ -15,11 +15,13 @@ use Rattle.table.proofs.NameSets.{has-none}
 use Rattle.table.specs.Bounds.{maxRows}
 use Rattle.table.specs.Fields.{kindOf, roleOf}
 use Rattle.table.specs.Layout.{kindExists, kindForAll, roles}
+use Rattle.table.specs.Links.{Zeros}
 use Rattle.table.specs.NameSet.{has}
 use Rattle.normal.specs.declared.rows.RowSet.{RowSet}
-use Rattle.normal.specs.Rows.{Checked, Masked, Zeros, holds, ofKind, ofRole}
-use Rattle.normal.proofs.Stores.{stored}
-use Rattle.normal.proofs.Tests.{and-comm, and-none-two, and-swap, by-test}
+use Rattle.normal.specs.Rows.{Checked, Masked, holds, ofKind, ofRole}
+use Rattle.table.proofs.Stores.{stored}
+use Rattle.normal.proofs.Tests.{and-comm, and-none-two, and-swap}
+use Rattle.table.proofs.Bools.{by-test}
 use Rattle.normal.proofs.Words.{bit-more, same-word}
 
 -- the test of a row's role and kind

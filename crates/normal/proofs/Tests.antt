@@ -1,5 +1,4 @@
 -- Laws of tests, as equations.
---   by-test            a fact that follows from either answer
 --   refuted            a test that cannot pass fails
 --   or-swap, or-again  a disjunction has no order, and takes a test once
 --   and-comm, and-swap a conjunction has no order
@@ -10,10 +9,7 @@ use borrow.Author.Tests.{eq-eqb, eqb-false, eqb-true, ne-eqb}
 use lib.Dec.{eqb}
 use mathlib.Core.Bool.{Bool, _&&_, _||_, false, true}
 use mathlib.Core.Path.{_≡_, refl, sym}
-
-pub by-test : {A : Type 0} (b : Bool) → (b ≡ true → A) → (b ≡ false → A) → A
-by-test true p q = p refl
-by-test false p q = q refl
+use Rattle.table.proofs.Bools.{by-test}
 
 pub refuted : (b : Bool) → (b ≡ true → ⊥) → b ≡ false
 refuted b h = by-test b (λ e. absurd (h e)) (λ e. e)

@@ -23,7 +23,7 @@ use Rattle.table.specs.NameSet.{bit, has}
 use Rattle.table.specs.Pick.{pick}
 use Rattle.normal.specs.declared.rows.RowSet.{RowSet}
 use Rattle.normal.specs.Rows.{holds, wordOf}
-use Rattle.normal.proofs.Tests.{by-test}
+use Rattle.table.proofs.Bools.{by-test}
 
 -- ---- bits
 

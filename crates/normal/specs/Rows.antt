@@ -5,8 +5,6 @@
 --   ofKind, ofRole         those of one kind; those of one role
 --   wordOf, holds          the words of a set that the code has; whether it holds row j
 --   Next                   the lowest row of such a set from one on
---   Zeros                  a table of zeros
---   Nearest, Linked        the lowest row from one on that hangs from row c; the tables of them
 --   Masked, Surveyed       the table of the rows of each role and kind; the picture with these tables
 --   Hung                   what hangs from a set with row c, and its roles
 --   Known                  row 0 hangs from none, and the code has the roles of those that hang
@@ -22,6 +20,7 @@ use mathlib.Core.Path.{_≡_}
 use Rattle.table.specs.Bounds.{maxRows}
 use Rattle.table.specs.Fields.{kindOf, parentOf, roleOf}
 use Rattle.table.specs.Layout.{kindExists, kindForAll, «place», roles}
+use Rattle.table.specs.Links.{Linked}
 use Rattle.table.specs.NameSet.{has}
 use Rattle.table.specs.Pick.{pick}
 use Rattle.picture.specs.View.{rowCount}
@@ -60,25 +59,13 @@ pub record Next (set : RowSet) (from rows r : ℕ) : Type 0 where
   pub between : (k : ℕ) → from ≤ k → k < r → k < rows → holds set k ≡ false
   pub held : r < rows → holds set r ≡ true
 
-pub record Zeros (n : ℕ) (t : List ℕ) : Type 0 where
-  pub size : length t ≡ n
-  pub zeros : (j : ℕ) → getD t j 0 ≡ 0
-
-pub record Nearest (s : List ℕ) (rows c from r : ℕ) : Type 0 where
-  pub hung : (r ≡ 0 → ⊥) → (from ≤ r) × (r < rows) × (parentOf s r ≡ c)
-  pub first : (k : ℕ) → (k ≡ 0 → ⊥) → from ≤ k → k < rows → parentOf s k ≡ c → (r ≡ 0 → ⊥) × (r ≤ k)
-
-pub record Linked (s : List ℕ) (rows : ℕ) (links : List ℕ) : Type 0 where
-  pub lowest : (c : ℕ) → c < rows → Nearest s rows c 1 (getD links c 0)
-  pub later : (j : ℕ) → (j ≡ 0 → ⊥) → j < rows → Nearest s rows (parentOf s j) (j + 1) (getD links (maxRows + j) 0)
-
 pub record Masked (s : List ℕ) (rows : ℕ) (masks : List ℕ) : Type 0 where
   pub masked : (j role kind : ℕ) → j < rows → role < roles → kind < 2 →
       has (getD masks (4 * (2 * role + kind) + j / 64) 0) (j % 64) ≡ (eqb (roleOf s j) role && eqb (kindOf s j % 2) kind)
 
 pub record Surveyed (s : List ℕ) (rows : ℕ) (links masks : List ℕ) : Type 0 where
   pub checked : Checked s rows
-  pub linked : Linked s rows links
+  pub linked : Linked (parentOf s) rows maxRows links
   pub masked : Masked s rows masks
 
 pub record Hung (s : List ℕ) (rows c : ℕ) (successors r : Successors) : Type 0 where

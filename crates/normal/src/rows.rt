@@ -11,11 +11,12 @@ ghost use Prim.Native.Nat.{ℕ, _+_, _*_, _/_, _%_, _^_, _≤_, _<_};
 ghost use lib.Dec.{eqb};
 ghost use lib.ListN.{getD};
 ghost use Rattle.table.specs.Bounds.{maxRows};
-ghost use Rattle.table.specs.Fields.{roleOf};
+ghost use Rattle.table.specs.Fields.{parentOf, roleOf};
 ghost use Rattle.table.specs.Layout.{roles};
+ghost use Rattle.table.specs.Links.{Linked, Zeros};
 ghost use Rattle.table.specs.NameSet.{has};
 ghost use Rattle.table.specs.Pick.{pick};
-ghost use Rattle.normal.specs.Rows.{Checked, Hung, Linked, Masked, Next, Zeros, holds, wordOf};
+ghost use Rattle.normal.specs.Rows.{Checked, Hung, Masked, Next, holds, wordOf};
 
 // A set of rows takes this many words.
 pub const WORDS: usize = 4;
@@ -167,7 +168,7 @@ impl Successors {
 
     // With those that hang from row c.
     pub fn add(self, s: &[u8], rows: usize, links: &[u8; LINKS], c: usize) -> Successors
-        requires { ⌜ (Checked (now s) rows) × ((Linked (now s) rows (now links)) × (c < rows)) ⌝ }
+        requires { ⌜ (Checked (now s) rows) × ((Linked (parentOf (now s)) rows maxRows (now links)) × (c < rows)) ⌝ }
         ensures { λ r. ⌜ Hung (now (s .entry)) rows c self r ⌝ }
     {
         let mut successors = self;
@@ -183,7 +184,7 @@ impl Successors {
 // For each row the lowest row that hangs from it, and then for each row the next that hangs from the same one; 0 if there is none.
 pub fn fill_links(s: &[u8], rows: usize, links: &mut [u8; LINKS])
     requires { ⌜ (Checked (now s) rows) × (Zeros (maxRows + maxRows) (now links)) ⌝ }
-    ensures { λ _. ⌜ Linked (now (s .entry)) rows (now (links .exit)) ⌝ }
+    ensures { λ _. ⌜ Linked (parentOf (now (s .entry))) rows maxRows (now (links .exit)) ⌝ }
 {
     let mut j = rows;
     while 1 < j {

@@ -7,9 +7,12 @@ use crate::rows::Successors;
 ghost use mathlib.Core.Path.{_≡_};
 ghost use mathlib.Core.Bool.{false};
 ghost use Prim.Native.Nat.{ℕ, _<_};
+ghost use Rattle.table.specs.Bounds.{maxRows};
+ghost use Rattle.table.specs.Fields.{parentOf};
+ghost use Rattle.table.specs.Links.{Linked};
 ghost use Rattle.ale.specs.PictureSignature.{pictureSignature};
 ghost use Rattle.ale.specs.Tree.{emptyLabel};
-ghost use Rattle.normal.specs.Rows.{Checked, Found, Linked, holds};
+ghost use Rattle.normal.specs.Rows.{Checked, Found, holds};
 ghost use Rattle.normal.specs.Labels.{Added, LabelIs, Valued};
 
 // `first` is a row of the set; the number of rows if there is none.
@@ -33,7 +36,7 @@ impl Values {
 
     // With row j.
     pub fn add(self, s: &[u8], rows: usize, links: &[u8; LINKS], j: usize) -> Values
-        requires { ⌜ (Checked (now s) rows) × ((Linked (now s) rows (now links)) × (j < rows)) ⌝ }
+        requires { ⌜ (Checked (now s) rows) × ((Linked (parentOf (now s)) rows maxRows (now links)) × (j < rows)) ⌝ }
         ensures { λ r. ⌜ Added (now (s .entry)) rows j self r ⌝ }
     {
         let label = self.label;
@@ -49,7 +52,7 @@ impl Values {
 
 // Of the rows of a set.
 pub fn gather(s: &[u8], rows: usize, links: &[u8; LINKS], set: RowSet) -> Values
-    requires { ⌜ (Checked (now s) rows) × (Linked (now s) rows (now links)) ⌝ }
+    requires { ⌜ (Checked (now s) rows) × (Linked (parentOf (now s)) rows maxRows (now links)) ⌝ }
     ensures { λ r. ⌜ (Found (holds set) rows (r .first)) × (Valued (now (s .entry)) rows (holds set) r) ⌝ }
 {
     let mut values = Values::none(rows);

@@ -3,6 +3,7 @@
 --   is-true, is-false     from the type to the equation
 --   true-is, false-is     and back
 --   or-none, or-assoc     a test that fails adds nothing; in which order tests are made
+--   by-test               a fact that follows from either answer
 use mathlib.Core.Logic.{_⊎_, inl, inr}
 use mathlib.Core.Path.{_≡_, refl, sym, subst}
 use mathlib.Core.Bool.{Bool, true, false, not, _&&_, _||_, false≢true}
@@ -37,3 +38,7 @@ or-none false = refl
 pub or-assoc : (a b c : Bool) → ((a || b) || c) ≡ (a || (b || c))
 or-assoc true b c = refl
 or-assoc false b c = refl
+
+pub by-test : {A : Type 0} (b : Bool) → (b ≡ true → A) → (b ≡ false → A) → A
+by-test true p q = p refl
+by-test false p q = q refl

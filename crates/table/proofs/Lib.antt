@@ -7,3 +7,5 @@ pub mod Ranges
 pub mod Bits
 pub mod NameSets
 pub mod Rows
+pub mod Stores
+pub mod Links

@@ -4,10 +4,13 @@
 --   tagOf, lengthOf                                                the head of field n
 --   rowOf, rowBytes                                                the bytes of a row, from its parts and by value
 --   endBytes                                                       the bytes of the end field
+--   endsAt                                                         the end field stands at a place, and the file stops there
+use mathlib.Core.Bool.{Bool, _&&_}
 use mathlib.Core.List.{List, [], _∷_, _++_}
-use Prim.Native.Nat.{ℕ, _≤_, _<_}
+use Prim.Native.Nat.{ℕ, _+_, _≤_, _<_}
+use lib.Dec.{eqb}
 use lib.ListN.{length, getD}
-use Rattle.table.specs.Layout.{«place», numberSize, lengthAt, rowTag, endTag, endLength, nameBytes, parentAt, kindAt, roleAt, impossibleAt, wantedAt, excludedAt, rowLength, rowSize}
+use Rattle.table.specs.Layout.{«place», numberSize, lengthAt, rowTag, endTag, endLength, endSize, nameBytes, parentAt, kindAt, roleAt, impossibleAt, wantedAt, excludedAt, rowLength, rowSize}
 use Rattle.table.specs.Bounds.{maxRows}
 use Rattle.table.specs.Number.{be, beBytes}
 use Rattle.table.specs.NameSet.{setOf}
@@ -56,3 +59,6 @@ rowBytes r = rowOf (r .parent) (r .kind) (r .role) (r .impossible) (setOf (r .wa
 
 unfoldable pub endBytes : List ℕ
 endBytes = (endTag ∷ []) ++ beBytes numberSize endLength
+
+unfoldable pub endsAt : List ℕ → ℕ → Bool
+endsAt s at = eqb (length s) (at + endSize) && (eqb (getD s at 0) endTag && eqb (be s (at + lengthAt) numberSize) endLength)

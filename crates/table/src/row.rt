@@ -1,4 +1,7 @@
 // The fields of a row, read by the row's number.
+use crate::layout::END_LENGTH;
+use crate::layout::END_SIZE;
+use crate::layout::END_TAG;
 use crate::layout::EXCLUDED_AT;
 use crate::layout::IMPOSSIBLE_AT;
 use crate::layout::KIND_AT;
@@ -16,7 +19,7 @@ ghost use Rattle.table.specs.Layout.{«place», numberSize, nameBytes, n
 ghost use Rattle.table.specs.Number.{be};
 ghost use Rattle.table.specs.Bounds.{maxRows};
 ghost use Rattle.table.specs.NameSet.{setOf};
-ghost use Rattle.table.specs.Fields.{tagOf, lengthOf, parentOf, kindOf, roleOf, impossibleOf, wantedOf, excludedOf, HasRow};
+ghost use Rattle.table.specs.Fields.{tagOf, lengthOf, parentOf, kindOf, roleOf, impossibleOf, wantedOf, excludedOf, HasRow, endsAt};
 
 // A row by value: what a table under construction takes.
 pub struct Row {
@@ -63,6 +66,23 @@ pub fn length(s: &[u8], row: usize) -> usize
     ensures { λ r. ⌜ (r ≡ lengthOf (now (s .entry)) row) × (r < 256 ^ numberSize) ⌝ }
 {
     number(s, row, LENGTH_AT)
+}
+
+// Whether the end field stands at a place of a file that stops there.
+pub fn ends_at(s: &[u8], at: usize) -> bool
+    ensures { λ r. ⌜ r ≡ endsAt (now (s .entry)) at ⌝ }
+{
+    if s.len() < END_SIZE {
+        return false;
+    }
+    if s.len() - END_SIZE != at {
+        return false;
+    }
+    let tag = s[at];
+    match tag {
+        END_TAG => load16(s, at + LENGTH_AT) as usize == END_LENGTH,
+        0..=0x2E | 0x30..=0xFF => false,
+    }
 }
 
 // The value of a row.

@@ -6,7 +6,7 @@ use denote.Ref.{now}
 use Rattle.normal.specs.Rows.{also}
 use Rattle.normal.proofs.LabelLaws.{valued-none, valued-with}
 use Rattle.normal.proofs.Roots.{grown-built}
-use Rattle.normal.proofs.Stores.{blank}
+use Rattle.table.proofs.Stores.{blank}
 use borrow.Author.Needs.{needs}
 use Rattle.normal.proofs.grow.build.Statement.{statement}
 use Rattle.normal.proofs.grow.build.Tie as tie

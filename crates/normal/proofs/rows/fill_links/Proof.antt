@@ -4,18 +4,19 @@ use native.Mathlib.Omega.{arith}
 use borrow.Author.Needs.{needs}
 use denote.Ref.{now}
 use Rattle.table.specs.Bounds.{maxRows}
-use Rattle.normal.proofs.Links.{LinkedFrom, link-done, link-next, link-none}
+use Rattle.table.specs.Fields.{parentOf}
+use Rattle.table.proofs.Links.{LinkedFrom, link-done, link-next, link-none}
 use Rattle.normal.proofs.rows.fill_links.Statement.{statement}
 use Rattle.normal.proofs.rows.fill_links.Tie as tie
 
 abbrev Inv-loop : tie.InvT-loop
-Inv-loop s rows links₀ j₀ links j = (j ≤ rows) × (LinkedFrom s rows j links)
+Inv-loop s rows links₀ j₀ links j = (j ≤ rows) × (LinkedFrom (parentOf s) rows maxRows j links)
 
 abbrev μ-loop : tie.MeasureT-loop
 μ-loop s rows links₀ j₀ links j = j
 
 loop-holds : tie.Need-loop-holds Inv-loop μ-loop
-loop-holds c = (omega arith, link-none _ _ _ (c .before .pre .1))
+loop-holds c = (omega arith, link-none _ _ _ _ (c .before .pre .1))
 
 sub-j : tie.Need-sub-j Inv-loop μ-loop
 sub-j c = omega (arith, c .loop-test .taken)
@@ -59,14 +60,14 @@ loop-again c =
     let l = c .before .before .before .loop in
     let more = c .before .before .loop-test .taken in (
       omega (arith, l .inv .0),
-      link-next (now (a .s)) (a .rows) (l .j - 1) (l .j) (c .before .parent .result) (l .links) (omega (arith, more)) (λ z. omega (arith, more)) (omega (arith, l .inv .0, more)) (start .pre .0 .most) (c .before .parent .ensures .0) (above (c .before)) (l .inv .1),
+      link-next (parentOf (now (a .s))) (a .rows) maxRows (l .j - 1) (l .j) (c .before .parent .result) (l .links) (omega (arith, more)) (λ z. omega (arith, more)) (omega (arith, l .inv .0, more)) (start .pre .0 .most) (c .before .parent .ensures .0) (above (c .before)) (l .inv .1),
     )
 
 returns : tie.Need-returns Inv-loop μ-loop
 returns c =
     let a = c .before .before .before .args in
     let l = c .before .loop in
-    link-done (now (a .s)) (a .rows) (l .j) (l .links) (c .loop-test .left) (l .inv .1)
+    link-done (parentOf (now (a .s))) (a .rows) maxRows (l .j) (l .links) (c .loop-test .left) (l .inv .1)
 
 pub fill-links-spec : {M : Type 1} → statement M
 fill-links-spec =

@@ -8,7 +8,8 @@ use lib.Dec.{eqb}
 use lib.ListN.{getD}
 use Rattle.table.specs.Bounds.{maxRows}
 use Rattle.table.specs.Pick.{pick}
-use Rattle.normal.specs.Rows.{Nearest}
+use Rattle.table.specs.Fields.{parentOf}
+use Rattle.table.specs.Links.{Nearest}
 use Rattle.normal.proofs.Links.{Walked, walk-done, walk-less, walk-next, walk-none}
 use Rattle.normal.proofs.rows.Successors.add.Statement.{statement}
 use Rattle.normal.proofs.rows.Successors.add.Tie as tie
@@ -29,7 +30,7 @@ loop-holds : tie.Need-loop-holds Inv-loop μ-loop
 loop-holds c =
     let st = c .before .before .before in
     let a = st .args in
-    walk-none (now (a .s)) (a .rows) (a .c) (a .self) (c .wide .result) (subst (λ n. Nearest (now (a .s)) (a .rows) (a .c) 1 n) (sym (c .wide .ensures .0)) (st .pre .1 .0 .lowest (a .c) (st .pre .1 .1)))
+    walk-none (now (a .s)) (a .rows) (a .c) (a .self) (c .wide .result) (subst (λ n. Nearest (parentOf (now (a .s))) (a .rows) (a .c) 1 n) (sym (c .wide .ensures .0)) (st .pre .1 .0 .lowest (a .c) (st .pre .1 .1)))
 
 with-requires : tie.Need-with-requires Inv-loop μ-loop
 with-requires c κs =
@@ -50,15 +51,15 @@ wide-requires-2 : tie.Need-wide-requires-2 Inv-loop μ-loop
 wide-requires-2 c κs = search needs
 
 -- the next row
-onward : (c : tie.After-wide2 Inv-loop μ-loop) → let a = c .before .before .before .before .before .before .before .before .args in Nearest (now (a .s)) (a .rows) (a .c) (c .before .before .before .before .loop .j + 1) (c .wide2 .result)
+onward : (c : tie.After-wide2 Inv-loop μ-loop) → let a = c .before .before .before .before .before .before .before .before .args in Nearest (parentOf (now (a .s))) (a .rows) (a .c) (c .before .before .before .before .loop .j + 1) (c .wide2 .result)
 onward c =
     let st = c .before .before .before .before .before .before .before .before in
     let a = st .args in
     let l = c .before .before .before .before .loop in
     let z = c .before .before .before .loop-test .taken in
     let (x, y, e) = l .inv .next .hung z in
-    subst (λ n. Nearest (now (a .s)) (a .rows) (a .c) (l .j + 1) n) (sym (c .wide2 .ensures .0))
-    (subst (λ n. Nearest (now (a .s)) (a .rows) n (l .j + 1) (getD (now (a .links)) (maxRows + l .j) 0)) e (st .pre .1 .0 .later (l .j) z y))
+    subst (λ n. Nearest (parentOf (now (a .s))) (a .rows) (a .c) (l .j + 1) n) (sym (c .wide2 .ensures .0))
+    (subst (λ n. Nearest (parentOf (now (a .s))) (a .rows) n (l .j + 1) (getD (now (a .links)) (maxRows + l .j) 0)) e (st .pre .1 .0 .later (l .j) z y))
 
 loop-less : tie.Need-loop-less Inv-loop μ-loop
 loop-less c =

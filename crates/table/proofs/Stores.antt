@@ -1,17 +1,17 @@
--- Laws of one store in a table.
+-- Laws of one store in a list.
 --   stored   what is true of the value stored, and elsewhere of the old one, is true of what stands there after the store
---   blank    a table of zeros
-use Prim.Native.Nat.{_<_, suc, zero, ℕ}
+--   blank    a list of zeros
+use Prim.Native.Nat.{_<_, ℕ}
 use borrow.Author.Tests.{eqb-false, eqb-true}
 use lib.Dec.{eqb}
 use lib.ListN.{length-replicate, getD, length, replicate, set}
 use lib.Seq.{getD-set-other, getD-set-same}
 use mathlib.Core.List.{List}
-use mathlib.Core.Path.{_∙_, _≡_, ap, refl, subst, sym}
+use mathlib.Core.Path.{_∙_, _≡_, ap, subst, sym}
+use Rattle.table.specs.Links.{Zeros}
 use Rattle.table.specs.Put.{zeros}
+use Rattle.table.proofs.Bools.{by-test}
 use Rattle.table.proofs.Puts.{getD-zeros}
-use Rattle.normal.specs.Rows.{Zeros}
-use Rattle.normal.proofs.Tests.{by-test}
 
 pub stored : (P : ℕ → Type 0) (t : List ℕ) (i v k : ℕ) → i < length t → (k ≡ i → P v) → ((k ≡ i → ⊥) → P (getD t k 0)) → P (getD (set t i v) k 0)
 stored P t i v k l here elsewhere =
