@@ -1,0 +1,5 @@
+-- The laws of the work space, by subject.
+-- parts of lent bytes
+pub mod Halves
+-- the answer and the work space after it
+pub mod Preparations

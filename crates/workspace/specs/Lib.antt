@@ -1,0 +1,2 @@
+-- The work space of the calls on two pictures.
+pub mod Prepare
