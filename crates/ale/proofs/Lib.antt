@@ -23,6 +23,7 @@ pub mod Soundness
 pub mod RowLists
 pub mod TableLaws
 pub mod SameTables
+pub mod LinkLists
 pub mod Forests
 pub mod Appends
 pub mod Merging
@@ -42,6 +43,7 @@ pub mod Encodings
 pub mod ModelChecks
 -- depth and roles
 pub mod Depths
+pub mod WholeTrees
 pub mod MergedDepths
 pub mod EncodedDepths
 pub mod Confined

@@ -1,0 +1,4 @@
+-- The laws of refutations, by subject.
+pub mod Individuals
+pub mod LabelTests
+pub mod Models

@@ -1,0 +1,37 @@
+-- 22 and 23 row by row: whether an individual of the refutation e fits a row of the table t.
+--   rowTree        the tree of a row, with all that hangs from it: no more rows stand below one another than there are
+--   modelTree      the individuals below individual i
+--   satisfiesRow   the names that hold of individual i, against the label of row w
+--   fitsRow        individual i fits row w
+--   reachedFits    what successor c asks of the individuals that i reaches
+use Prim.Native.Nat.{ℕ}
+use mathlib.Core.Bool.{Bool}
+use mathlib.Core.List.{List}
+use Rattle.ale.specs.ModelCheck.{fitsTest, restrictionTest, satisfiesTest}
+use Rattle.ale.specs.PictureSignature.{pictureSignature}
+use Rattle.ale.specs.Signature.{Signature}
+use Rattle.ale.specs.Table.{Table, successorRows, successors, treeOf}
+use Rattle.ale.specs.Tree.{Forest, Tree}
+use Rattle.meaning.specs.Meaning.{pictureTable}
+use Rattle.countermodel.specs.Individual.{individualTable}
+
+abbrev pub rowTree : Table pictureSignature → ℕ → Tree pictureSignature
+rowTree p i = treeOf pictureSignature p (p .rows) i
+
+abbrev pub modelTree : List ℕ → ℕ → Tree pictureSignature
+modelTree e i = rowTree (individualTable e) i
+
+unfoldable pub satisfiesRow : List ℕ → ℕ → List ℕ → ℕ → Bool
+satisfiesRow t w e i = satisfiesTest pictureSignature ((pictureTable t) .label w) ((individualTable e) .label i .wanted)
+
+unfoldable pub fitsRow : List ℕ → ℕ → List ℕ → ℕ → Bool
+fitsRow t w e i = fitsTest pictureSignature (rowTree (pictureTable t) w) (modelTree e i)
+
+-- the individuals that i reaches, as successors
+abbrev pub reachedForest : List ℕ → ℕ → Forest pictureSignature
+reachedForest e i = successors pictureSignature (individualTable e) (λ j. modelTree e j) (successorRows pictureSignature (individualTable e) i)
+
+unfoldable pub reachedFits : List ℕ → ℕ → List ℕ → ℕ → Bool
+reachedFits t c e i =
+    restrictionTest pictureSignature ((pictureTable t) .kind c) ((pictureTable t) .role c) (λ b. fitsTest pictureSignature (rowTree (pictureTable t) c) b)
+    (reachedForest e i)
