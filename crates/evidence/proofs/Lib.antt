@@ -1,0 +1,14 @@
+-- The laws of evidence, by subject.
+-- questions in their order, and what 17 to 20 and 21 to 23 say
+pub mod Asking
+pub mod Homomorphisms
+pub mod Refutations
+-- what is taken, and what that shows
+pub mod NormalTables
+pub mod Soundness
+-- the call
+pub mod Verifications
+pub mod Refusals
+-- the code's tests
+pub mod MapLaws
+pub mod CheckLaws

@@ -1,0 +1,155 @@
+-- Which refusals the fifth call gives: a number of paper 01 below 24, of an input that is no card.
+--   Numbered, Named            questions whose numbers are below 24; an input that is no card
+--   verify-refusal             so is every refusal of the call
+use Prim.Native.Nat.{ℕ, zero, suc, _+_, _<_}
+use native.Mathlib.Omega.{arith}
+use lib.Dec.{eqb, leb, ltb}
+use mathlib.Core.Bool.{Bool, false, not, true}
+use mathlib.Core.List.{List}
+use mathlib.Core.Path.{_≡_, refl, subst}
+use Rattle.table.specs.Pick.{pick}
+use Rattle.table.specs.Range.{each}
+use Rattle.table.specs.declared.layout.Limits.{Limits}
+use Rattle.ale.specs.ModelCheck.{fitsTest}
+use Rattle.ale.specs.PictureSignature.{pictureSignature}
+use Rattle.ale.specs.RowMap.{edgeAgrees, labelAgrees}
+use Rattle.ale.specs.Table.{Table}
+use Rattle.ale.specs.Tree.{Tree}
+use Rattle.picture.proofs.Readables.{reading-number}
+use Rattle.picture.specs.Read.{answerOf, answered, readingOf}
+use Rattle.picture.specs.declared.answer.Input.{Input}
+use Rattle.picture.specs.declared.answer.Input.the-variants.{Book, Buffer, Card, Evidence, First, Second}
+use Rattle.picture.specs.declared.answer.Refusal.{Refusal}
+use Rattle.picture.specs.declared.read.Reading.{Reading}
+use Rattle.picture.specs.declared.read.Reading.the-variants as reading
+use Rattle.meaning.specs.Meaning.{pictureTable, pictureTree}
+use Rattle.meaning.specs.NormalTable.{mergedCount, normalFile}
+use Rattle.normal.specs.Call.{shortBuffer, tooMany}
+use Rattle.countermodel.specs.Individual.{individualOk}
+use Rattle.countermodel.specs.Layout.{individualCount}
+use Rattle.countermodel.specs.Model.{modelTree}
+use Rattle.workspace.proofs.Preparations.{tablesOf}
+use Rattle.workspace.specs.Prepare.{afterReading, fourteen, prepareAnswer, workSize}
+use Rattle.workspace.specs.declared.prepare.Prepared.{Prepared}
+use Rattle.workspace.specs.declared.prepare.Prepared.the-variants as prepared
+use Rattle.evidence.specs.Call.{evidenceAnswer, onPair, verifyAnswer}
+use Rattle.evidence.specs.Check.{checkAnswer, onAsked, onForm, refutationAsked}
+use Rattle.evidence.specs.Form.{formOf, imageOf}
+use Rattle.evidence.specs.Map.{andThen, ask, inOrder, mapAsked, rowAsked}
+use Rattle.evidence.specs.declared.asked.Asked.{Asked}
+use Rattle.evidence.specs.declared.asked.Asked.the-variants.{No, Yes}
+use Rattle.evidence.specs.declared.check.Verified.{Verified}
+use Rattle.evidence.specs.declared.check.Verified.the-variants.{MapTaken, RefutationTaken, Refused}
+use Rattle.evidence.specs.declared.form.Form.{Form}
+use Rattle.evidence.specs.declared.form.Form.the-variants.{Map, Neither, Refutation}
+
+abbrev Numbered : Asked → Type 0
+Numbered Yes = Unit
+Numbered (No number) = number < 24
+
+abbrev pub Named : Input → Type 0
+Named Buffer = Unit
+Named First = Unit
+Named Second = Unit
+Named Evidence = Unit
+Named Book = Unit
+Named (Card n) = ⊥
+
+abbrev pub Known : Refusal → Type 0
+Known r = (r .number < 24) × Named (r .input)
+
+abbrev Sound : Verified → Type 0
+Sound MapTaken = Unit
+Sound RefutationTaken = Unit
+Sound (Refused r) = Known r
+
+abbrev Prepares : Prepared → Type 0
+Prepares (prepared.Tables p) = Unit
+Prepares (prepared.Refused r) = Known r
+
+-- ---- 16 to 23
+
+ask-numbered : (number : ℕ) (b : Bool) (next : Asked) → number < 24 → Numbered next → Numbered (ask number b next)
+ask-numbered number true next l h = h
+ask-numbered number false next l h = l
+
+then-numbered : (a next : Asked) → Numbered a → Numbered next → Numbered (andThen a next)
+then-numbered Yes next h k = k
+then-numbered (No number) next h k = h
+
+inOrder-numbered : (f : ℕ → Asked) → ((i : ℕ) → Numbered (f i)) → (n i : ℕ) → Numbered (inOrder f n i)
+unfolding inOrder
+inOrder-numbered f h zero i = tt
+inOrder-numbered f h (suc n) i = then-numbered (f i) (inOrder f n (i + 1)) (h i) (inOrder-numbered f h n (i + 1))
+
+row-numbered : (p q : Table pictureSignature) (im : ℕ → ℕ) (i : ℕ) → Numbered (rowAsked p q im i)
+unfolding rowAsked
+row-numbered p q im i =
+    let within = ltb (im i) (p .rows) in
+    let rooted = pick (eqb i 0) (eqb (im i) 0) true in
+    let labelled = labelAgrees pictureSignature p q i (im i) in
+    let joined = pick (eqb i 0) true (edgeAgrees pictureSignature p q i (im (q .parent i)) (im i)) in
+    ask-numbered 17 within (ask 18 rooted (ask 19 labelled (ask 20 joined Yes))) (omega arith)
+    (ask-numbered 18 rooted (ask 19 labelled (ask 20 joined Yes)) (omega arith)
+    (ask-numbered 19 labelled (ask 20 joined Yes) (omega arith)
+    (ask-numbered 20 joined Yes (omega arith) tt)))
+
+map-numbered : (p q : Table pictureSignature) (im : ℕ → ℕ) → Numbered (mapAsked p q im)
+unfolding mapAsked
+map-numbered p q im = inOrder-numbered (rowAsked p q im) (row-numbered p q im) (q .rows) 0
+
+refutation-numbered : (t u : Tree pictureSignature) (e : List ℕ) → Numbered (refutationAsked t u e)
+unfolding refutationAsked
+refutation-numbered t u e =
+    let passing = each (individualOk e) (individualCount e) 0 in
+    let fits = fitsTest pictureSignature t (modelTree e 0) in
+    let fails = not (fitsTest pictureSignature u (modelTree e 0)) in
+    ask-numbered 21 passing (ask 22 fits (ask 23 fails Yes)) (omega arith)
+    (ask-numbered 22 fits (ask 23 fails Yes) (omega arith)
+    (ask-numbered 23 fails Yes (omega arith) tt))
+
+asked-sound : (taken : Verified) → Sound taken → (a : Asked) → Numbered a → Sound (onAsked taken a)
+asked-sound taken h Yes k = h
+asked-sound taken h (No number) k = (k, tt)
+
+form-sound : (p q : Table pictureSignature) (t u : Tree pictureSignature) (e : List ℕ) (f : Form) → Sound (onForm p q t u e f)
+form-sound p q t u e Map = asked-sound MapTaken tt (mapAsked p q (imageOf e)) (map-numbered p q (imageOf e))
+form-sound p q t u e Refutation = asked-sound RefutationTaken tt (refutationAsked t u e) (refutation-numbered t u e)
+form-sound p q t u e Neither = (omega arith, tt)
+
+-- ---- 1 to 14
+
+module _ (limits : Limits) (first second : List ℕ) where
+  fourteen-known : (b c : Bool) (p : Prepared) → Prepares p → Prepares (pick b (pick c p (prepared.Refused (tooMany Second))) (prepared.Refused (tooMany First)))
+  fourteen-known true true p h = h
+  fourteen-known true false p h = (omega arith, tt)
+  fourteen-known false c p h = (omega arith, tt)
+
+  reading-known : (s : List ℕ) (input : Input) → Named input → (r : Reading) → readingOf limits s ≡ r → (next : Prepared) → Prepares next → Prepares (afterReading (answered input r) next)
+  reading-known s input named (reading.Rows n) e next h = h
+  reading-known s input named (reading.Failed q) e next h = (omega (arith, reading-number limits s q e .most), named)
+
+  prepare-known : Prepares (prepareAnswer limits first second)
+  unfolding prepareAnswer fourteen answerOf
+  prepare-known =
+      let tables = fourteen limits first second in
+      let few = leb (mergedCount limits first) (limits .rows) in
+      let few-second = leb (mergedCount limits second) (limits .rows) in
+      reading-known first First tt (readingOf limits first) refl (afterReading (answerOf limits Second second) tables)
+      (reading-known second Second tt (readingOf limits second) refl tables (fourteen-known few few-second (prepared.Tables (tablesOf limits first second)) tt))
+
+module _ (limits : Limits) (first second e : List ℕ) (room : ℕ) where
+  pair-sound : (a : Prepared) → Prepares a → Sound (onPair a (evidenceAnswer limits first second e))
+  unfolding evidenceAnswer checkAnswer
+  pair-sound (prepared.Tables p) h =
+      form-sound (pictureTable (normalFile limits first)) (pictureTable (normalFile limits second)) (pictureTree limits first) (pictureTree limits second) e
+      (formOf limits ((pictureTable (normalFile limits second)) .rows) e)
+  pair-sound (prepared.Refused r) h = h
+
+  room-sound : (b : Bool) → Sound (pick b (onPair (prepareAnswer limits first second) (evidenceAnswer limits first second e)) (Refused shortBuffer))
+  room-sound true = pair-sound (prepareAnswer limits first second) (prepare-known limits first second)
+  room-sound false = (omega arith, tt)
+
+  pub verify-refusal : (r : Refusal) → verifyAnswer limits first second e room ≡ Refused r → (r .number < 24) × Named (r .input)
+  unfolding verifyAnswer
+  verify-refusal r h = subst Sound h (room-sound (leb (workSize limits) room))

@@ -1,0 +1,70 @@
+-- A file for which 21 to 23 are answered yes is an interpretation whose individual 0 fits t and not u, and the reverse.
+--   fits-same                 trees that what fits one fits the other pass the test of fitting alike
+--   refutation-asked-same     so 22 and 23 may look at the normal table in the place of the picture
+--   refutation-yes, yes-refutation   21 to 23 answered yes
+--   question-fits             the test of 22 and 23 is fitting, in the interpretation that the file is
+use Prim.Native.Nat.{ℕ, _<_}
+use lib.Dec.{T}
+use mathlib.Core.Bool.{Bool, not, true}
+use mathlib.Core.List.{List}
+use mathlib.Core.Logic.{_↔_}
+use mathlib.Core.Path.{_∙_, _≡_, refl, sym}
+use Rattle.table.proofs.Bools.{by-test, false-is, is-false, is-true, true-is}
+use Rattle.table.specs.Range.{each}
+use Rattle.ale.proofs.ModelChecks.{fits-checked, fits-test, test-fits}
+use Rattle.ale.proofs.Tests.{clash, refute}
+use Rattle.ale.proofs.TreeStructure.{treeStructure}
+use Rattle.ale.specs.Interpretation.{structureOf}
+use Rattle.ale.specs.ModelCheck.{fitsTest}
+use Rattle.ale.specs.PictureSignature.{pictureSignature}
+use Rattle.ale.specs.Structure.{Fits, SubsumedInAll}
+use Rattle.ale.specs.Table.{ParentsFirst}
+use Rattle.ale.specs.Tree.{Tree}
+use Rattle.countermodel.specs.Individual.{individualOk, individualTable, individuals}
+use Rattle.countermodel.specs.Layout.{individualCount}
+use Rattle.countermodel.specs.Model.{modelTree}
+use Rattle.evidence.specs.declared.asked.Asked.the-variants.{Yes}
+use Rattle.evidence.specs.Check.{refutationAsked}
+use Rattle.evidence.specs.Map.{ask}
+use Rattle.evidence.proofs.Asking.{ask-yes, yes-ask}
+
+abbrev fitted : Tree pictureSignature → List ℕ → Bool
+fitted t e = fitsTest pictureSignature t (modelTree e 0)
+
+-- by meaning: any tree of individuals that fits the one fits the other
+pub fits-same : (t v : Tree pictureSignature) → SubsumedInAll pictureSignature t v → SubsumedInAll pictureSignature v t →
+    (b : Tree pictureSignature) → fitsTest pictureSignature t b ≡ fitsTest pictureSignature v b
+fits-same t v to from b =
+    by-test (fitsTest pictureSignature v b)
+    (λ e. is-true (fitsTest pictureSignature t b) (fits-test pictureSignature t b (from (treeStructure pictureSignature) b (test-fits pictureSignature v b (true-is (fitsTest pictureSignature v b) e)))) ∙ sym e)
+    (λ e. is-false (fitsTest pictureSignature t b) (refute (fitsTest pictureSignature t b) (λ h.
+    clash (fitsTest pictureSignature v b) (fits-test pictureSignature v b (to (treeStructure pictureSignature) b (test-fits pictureSignature t b h))) (false-is (fitsTest pictureSignature v b) e))) ∙ sym e)
+
+pub refutation-asked-same : (t u v w : Tree pictureSignature) (e : List ℕ) → fitted t e ≡ fitted v e → fitted u e ≡ fitted w e →
+    refutationAsked t u e ≡ refutationAsked v w e
+unfolding refutationAsked
+refutation-asked-same t u v w e a b = rw (a, b)
+
+module _ (t u : Tree pictureSignature) (e : List ℕ) where
+  abbrev passing : Bool
+  passing = each (individualOk e) (individualCount e) 0
+
+  pub refutation-yes : refutationAsked t u e ≡ Yes → (each (individualOk e) (individualCount e) 0 ≡ true) × T (fitsTest pictureSignature t (modelTree e 0)) × T (not (fitsTest pictureSignature u (modelTree e 0)))
+  unfolding refutationAsked
+  refutation-yes h =
+      let (a, h₁) = ask-yes 21 passing (ask 22 (fitted t e) (ask 23 (not (fitted u e)) Yes)) h in
+      let (b, h₂) = ask-yes 22 (fitted t e) (ask 23 (not (fitted u e)) Yes) h₁ in
+      let (c, h₃) = ask-yes 23 (not (fitted u e)) Yes h₂ in
+      (a, true-is (fitted t e) b, true-is (not (fitted u e)) c)
+
+  pub yes-refutation : each (individualOk e) (individualCount e) 0 ≡ true → T (fitsTest pictureSignature t (modelTree e 0)) → T (not (fitsTest pictureSignature u (modelTree e 0))) → refutationAsked t u e ≡ Yes
+  unfolding refutationAsked
+  yes-refutation a b c =
+      yes-ask 21 passing (ask 22 (fitted t e) (ask 23 (not (fitted u e)) Yes)) a
+      (yes-ask 22 (fitted t e) (ask 23 (not (fitted u e)) Yes) (is-true (fitted t e) b)
+      (yes-ask 23 (not (fitted u e)) Yes (is-true (not (fitted u e)) c) refl))
+
+-- 22 and 23 ask for fitting in the sense of the theory
+pub question-fits : (e : List ℕ) (some : 0 < individualCount e) → ParentsFirst pictureSignature (individualTable e) → (t : Tree pictureSignature) →
+    Fits pictureSignature (structureOf pictureSignature (individuals e some)) t 0 ↔ T (fitsTest pictureSignature t (modelTree e 0))
+question-fits e some up t = fits-checked pictureSignature (individualTable e) some up t

@@ -1,0 +1,104 @@
+-- Laws of the fifth call at any limits: which answer is given for which inputs and work space, and what the work space holds then.
+--   short-verify, prepared-verify       1 is answered no, or the reading and 14 decide
+--   refused-verify, acceptable-verify   a refusal of those is the call's; else 16 to 23 decide
+--   short-work, refused-work, acceptable-work   the work space then
+--   verify-taken                        an answer other than a refusal is given in no other case
+--   work-past, work-kept                bytes past the two halves keep their contents, whatever the answer; so does the work space's length
+use Prim.Native.Nat.{ℕ, _<_, _≤_}
+use borrow.Author.Tests.{le-leb, leb-true, lt-leb}
+use lib.Dec.{leb}
+use lib.ListN.{getD, length}
+use mathlib.Core.Bool.{Bool, false, true}
+use mathlib.Core.List.{List}
+use mathlib.Core.Path.{_≡_, refl}
+use Rattle.table.specs.Pick.{pick}
+use Rattle.table.specs.declared.layout.Limits.{Limits}
+use Rattle.picture.specs.declared.answer.Refusal.{Refusal}
+use Rattle.normal.specs.Call.{shortBuffer}
+use Rattle.workspace.proofs.Preparations.{halves-past, length-halves, prepare-tables, tables-acceptable, tablesOf}
+use Rattle.workspace.specs.Prepare.{Acceptable, halvesPut, onPrepared, prepareAnswer, workSize}
+use Rattle.workspace.specs.declared.prepare.Prepared.{Prepared}
+use Rattle.workspace.specs.declared.prepare.Prepared.the-variants as prepared
+use Rattle.evidence.specs.Call.{evidenceAnswer, onPair, verifyAnswer, verifyWork}
+use Rattle.evidence.specs.declared.check.Verified.{Verified}
+use Rattle.evidence.specs.declared.check.Verified.the-variants.{Refused}
+
+module _ (limits : Limits) (first second e : List ℕ) (room : ℕ) where
+  pub short-verify : room < workSize limits → verifyAnswer limits first second e room ≡ Refused shortBuffer
+  unfolding verifyAnswer
+  short-verify h = rw (lt-leb (workSize limits) room h)
+
+  module _ (enough : workSize limits ≤ room) where
+    pub prepared-verify : (a : Prepared) → prepareAnswer limits first second ≡ a →
+        verifyAnswer limits first second e room ≡ onPair a (evidenceAnswer limits first second e)
+    unfolding verifyAnswer
+    prepared-verify a h = rw (le-leb (workSize limits) room enough, h)
+
+    pub refused-verify : (r : Refusal) → prepareAnswer limits first second ≡ prepared.Refused r → verifyAnswer limits first second e room ≡ Refused r
+    refused-verify r h = prepared-verify (prepared.Refused r) h
+
+    pub acceptable-verify : Acceptable limits first second → verifyAnswer limits first second e room ≡ evidenceAnswer limits first second e
+    acceptable-verify pair =
+        prepared-verify (prepared.Tables (tablesOf limits first second))
+        (prepare-tables limits first second (pair .first-readable) (pair .second-readable) (pair .first-few) (pair .second-few))
+
+  -- the answer is v, which is no refusal: then there is room, 14 is answered yes for both, and 16 to 23 give v
+  module _ (v : Verified) (no-refusal : (r : Refusal) → Refused r ≡ v → ⊥) where
+    by-pair : (a : Prepared) → prepareAnswer limits first second ≡ a → onPair a (evidenceAnswer limits first second e) ≡ v →
+        Acceptable limits first second × (evidenceAnswer limits first second e ≡ v)
+    by-pair (prepared.Tables p) h k = (tables-acceptable limits first second p h .0, k)
+    by-pair (prepared.Refused r) h k = absurd (no-refusal r k)
+
+    by-room : (b : Bool) → leb (workSize limits) room ≡ b →
+        pick b (onPair (prepareAnswer limits first second) (evidenceAnswer limits first second e)) (Refused shortBuffer) ≡ v →
+        (workSize limits ≤ room) × Acceptable limits first second × (evidenceAnswer limits first second e ≡ v)
+    by-room true h k =
+        let (pair, same) = by-pair (prepareAnswer limits first second) refl k in
+        (leb-true (workSize limits) room h, pair, same)
+    by-room false h k = absurd (no-refusal shortBuffer k)
+
+    pub verify-taken : verifyAnswer limits first second e room ≡ v →
+        (workSize limits ≤ room) × Acceptable limits first second × (evidenceAnswer limits first second e ≡ v)
+    unfolding verifyAnswer
+    verify-taken h = by-room (leb (workSize limits) room) refl h
+
+module _ (limits : Limits) (first second work : List ℕ) where
+  pub short-work : length work < workSize limits → verifyWork limits first second work ≡ work
+  unfolding verifyWork
+  short-work h = rw (lt-leb (workSize limits) (length work) h)
+
+  module _ (enough : workSize limits ≤ length work) where
+    pub prepared-work : (a : Prepared) → prepareAnswer limits first second ≡ a →
+        verifyWork limits first second work ≡ onPrepared a (halvesPut limits first second work) work
+    unfolding verifyWork
+    prepared-work a h = rw (le-leb (workSize limits) (length work) enough, h)
+
+    pub refused-work : (r : Refusal) → prepareAnswer limits first second ≡ prepared.Refused r → verifyWork limits first second work ≡ work
+    refused-work r h = prepared-work (prepared.Refused r) h
+
+    pub acceptable-work : Acceptable limits first second → verifyWork limits first second work ≡ halvesPut limits first second work
+    acceptable-work pair =
+        prepared-work (prepared.Tables (tablesOf limits first second))
+        (prepare-tables limits first second (pair .first-readable) (pair .second-readable) (pair .first-few) (pair .second-few))
+
+  -- a property of the work space as it was and as it is once both tables are written is one of it at exit
+  module _ (P : List ℕ → Type 0) (old : P work) (new : workSize limits ≤ length work → Acceptable limits first second → P (halvesPut limits first second work)) where
+    on-pair : (a : Prepared) → workSize limits ≤ length work → prepareAnswer limits first second ≡ a → P (onPrepared a (halvesPut limits first second work) work)
+    on-pair (prepared.Tables p) enough h = new enough (tables-acceptable limits first second p h .0)
+    on-pair (prepared.Refused r) enough h = old
+
+    on-room : (b : Bool) → leb (workSize limits) (length work) ≡ b → P (pick b (onPrepared (prepareAnswer limits first second) (halvesPut limits first second work) work) work)
+    on-room true h = on-pair (prepareAnswer limits first second) (leb-true (workSize limits) (length work) h) refl
+    on-room false h = old
+
+    work-either : P (verifyWork limits first second work)
+    unfolding verifyWork
+    work-either = on-room (leb (workSize limits) (length work)) refl
+
+  pub work-past : (i : ℕ) → workSize limits ≤ i → getD (verifyWork limits first second work) i 0 ≡ getD work i 0
+  work-past i h =
+      work-either (λ l. getD l i 0 ≡ getD work i 0) refl (λ enough pair. halves-past limits first second work (pair .first-few) (pair .second-few) i h)
+
+  pub work-kept : length (verifyWork limits first second work) ≡ length work
+  work-kept =
+      work-either (λ l. length l ≡ length work) refl (λ enough pair. length-halves limits first second work (pair .first-few) (pair .second-few) enough)
