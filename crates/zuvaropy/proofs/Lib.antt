@@ -1,4 +1,5 @@
 -- Laws of the answer word and of the calls, and the starred cases.
 pub mod Words
 pub mod NormalWords
+pub mod VerifyWords
 pub mod StarredHold

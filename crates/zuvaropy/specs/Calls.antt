@@ -1,13 +1,15 @@
 -- 01, "The calls": the word that each call gives, from the bytes it is lent, and what each buffer lent for writing holds then.
 --   validateWord                     the plain test
 --   normalizeWord, normalizeBuffer   the normal table
+--   verifyWord, verifySpace          the check of evidence
 use mathlib.Core.List.{List}
 use Prim.Native.Nat.{ℕ}
 use Rattle.table.specs.Bounds.{benchLimits}
 use Rattle.picture.specs.declared.answer.Input.the-variants.{First}
 use Rattle.picture.specs.Read.{answerOf}
 use Rattle.normal.specs.Call.{normalizeAnswer, normalizeResult}
-use Rattle.zuvaropy.specs.Word.{normalizedWord, readWord}
+use Rattle.evidence.specs.Call.{verifyAnswer, verifyWork}
+use Rattle.zuvaropy.specs.Word.{normalizedWord, readWord, verifiedWord}
 
 -- Test one picture; give its row count. A single picture is the first input.
 unfoldable pub validateWord : List ℕ → ℕ
@@ -20,3 +22,11 @@ normalizeWord picture room = normalizedWord (normalizeAnswer benchLimits picture
 -- the result buffer: the normal table from its first byte on, or nothing written
 unfoldable pub normalizeBuffer : List ℕ → List ℕ → List ℕ
 normalizeBuffer picture result = normalizeResult benchLimits picture result
+
+-- Check evidence: map taken or refutation taken: 1 of the work space, so many bytes long; first; second; 14 of each; 16 to 23.
+unfoldable pub verifyWord : List ℕ → List ℕ → List ℕ → ℕ → ℕ
+verifyWord first second evidence room = verifiedWord (verifyAnswer benchLimits first second evidence room)
+
+-- the work space: the first normal table from byte 0, the second from byte 6,147, the rest of each half zero; nothing written by 1 to 14
+unfoldable pub verifySpace : List ℕ → List ℕ → List ℕ → List ℕ
+verifySpace first second work = verifyWork benchLimits first second work

@@ -10,6 +10,8 @@ use Rattle.picture.specs.declared.answer.Answer.{Answer}
 use Rattle.picture.specs.declared.answer.Answer.the-variants as answer
 use Rattle.normal.specs.declared.normalize.Normalized.{Normalized}
 use Rattle.normal.specs.declared.normalize.Normalized.the-variants as normalized
+use Rattle.evidence.specs.declared.check.Verified.{Verified}
+use Rattle.evidence.specs.declared.check.Verified.the-variants as verified
 
 abbrev pub outcomeYes : ℕ
 outcomeYes = 1
@@ -48,3 +50,9 @@ readWord (answer.Refused r) = refusalWord r
 abbrev pub normalizedWord : Normalized → ℕ
 normalizedWord (normalized.Length n) = valueWord outcomeYes n
 normalizedWord (normalized.Refused r) = refusalWord r
+
+-- the check of evidence: which kind was taken, with value 0, or the refusal
+abbrev pub verifiedWord : Verified → ℕ
+verifiedWord verified.MapTaken = valueWord outcomeYes 0
+verifiedWord verified.RefutationTaken = valueWord outcomeNo 0
+verifiedWord (verified.Refused r) = refusalWord r

@@ -1,7 +1,10 @@
 // The C interface: each call takes numbers and byte buffers and gives one 64-bit word, which specs/Word.antt lays down.
+use crate::word::NO;
 use crate::word::YES;
 use crate::word::refusal_word;
 use crate::word::value_word;
+use evidence::check::Verified;
+use evidence::verify::verify;
 use normal::normalize::Normalized;
 use normal::normalize::normalize;
 use picture::answer::Answer;
@@ -10,7 +13,7 @@ use picture::read::read;
 use table::layout::Limits;
 ghost use mathlib.Core.Path.{_≡_};
 ghost use lib.ListN.{length};
-ghost use Rattle.zuvaropy.specs.Calls.{validateWord, normalizeWord, normalizeBuffer};
+ghost use Rattle.zuvaropy.specs.Calls.{validateWord, normalizeWord, normalizeBuffer, verifySpace, verifyWord};
 
 mod word;
 
@@ -33,5 +36,22 @@ pub extern "C" fn zuvaropy_normalize(picture: &[u8], result: &mut [u8]) -> u64
     match normalize(picture, Limits::bench(), result) {
         Normalized::Length(n) => value_word(YES, n as u64),
         Normalized::Refused(refusal) => refusal_word(refusal),
+    }
+}
+
+// Checks evidence: whether a map or a refutation is taken for two pictures. Their normal tables stand in the work space then.
+#[no_mangle]
+pub extern "C" fn zuvaropy_verify(
+    first: &[u8],
+    second: &[u8],
+    evidence: &[u8],
+    work: &mut [u8],
+) -> u64
+    ensures { λ r. ⌜ (r ≡ verifyWord (now (first .entry)) (now (second .entry)) (now (evidence .entry)) (length (now (work .entry)))) × (now (work .exit) ≡ verifySpace (now (first .entry)) (now (second .entry)) (now (work .entry))) ⌝ }
+{
+    match verify(first, second, evidence, Limits::bench(), work) {
+        Verified::MapTaken => value_word(YES, 0),
+        Verified::RefutationTaken => value_word(NO, 0),
+        Verified::Refused(refusal) => refusal_word(refusal),
     }
 }

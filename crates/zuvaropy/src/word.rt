@@ -5,8 +5,10 @@ ghost use mathlib.Core.Path.{_≡_};
 ghost use Prim.Native.Nat.{ℕ, _+_, _*_, _^_, _≤_, _<_};
 ghost use Rattle.zuvaropy.specs.Word.{outcomeNo, valueWord, refusalWord, inputCode, cardOf};
 
-// The outcome of an answer.
+// The outcomes of an answer: a value, verdict yes or a map taken; verdict no or a refutation taken.
 pub const YES: u64 = 1;
+
+pub const NO: u64 = 2;
 
 // Weights of the parts of a word.
 const OUTCOME: u64 = 0x0100_0000_0000_0000;

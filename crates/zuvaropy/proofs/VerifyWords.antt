@@ -1,0 +1,177 @@
+-- The call that checks evidence: which of its words is given for which inputs and work space, what the work space holds then, and what a word shows.
+-- The answers themselves, at any limits, are evidence's (Verifications, Soundness).
+--   Refuses                       the word of a refusal, and nothing written
+--   verify-short                  1: the work space is shorter than two halves
+--   verify-first, verify-second   2 to 13 of the first picture, then of the second, the number being that of the reading
+--   verify-many-first,
+--   verify-many-second            14 of the first, then of the second
+--   verify-checked                else 16 to 23 decide the word, and both normal tables stand in the work space
+--   verify-space-same             the two halves then do not depend on what stood there; nor does the word, by its definition
+--   verify-map, map-verify        the word says "map taken" exactly when the evidence is a map of the pair and 17 to 20 are answered yes,
+--   verify-refutation,
+--   refutation-verify             and "refutation taken" exactly when it is a refutation and 21 to 23 are
+--   verify-map-covers,
+--   verify-refutation-not         so a map is taken only if the second covers the first, a refutation only if it does not
+--   verify-past, verify-kept      bytes past the two halves keep their contents, whatever the answer; so does the work space's length
+use Prim.Native.Nat.{ℕ, _<_, _≤_}
+use native.Mathlib.Omega.{arith}
+use lib.ListN.{getD, length, take}
+use mathlib.Core.List.{List, _++_}
+use mathlib.Core.Path.{_∙_, _≡_, ap, refl}
+use Rattle.table.specs.Bounds.{Bounded, benchLimits, maxRows}
+use Rattle.ale.specs.Interpretation.{Subsumed}
+use Rattle.ale.specs.PictureSignature.{pictureSignature}
+use Rattle.picture.specs.Read.{readingOf}
+use Rattle.picture.specs.View.{Readable}
+use Rattle.picture.specs.declared.answer.Input.{Input}
+use Rattle.picture.specs.declared.answer.Input.the-variants.{Book, Buffer, Card, Evidence, First, Second}
+use Rattle.picture.specs.declared.answer.Refusal.{Refusal}
+use Rattle.picture.specs.declared.read.Reading.the-variants as reading
+use Rattle.meaning.specs.Meaning.{pictureTree}
+use Rattle.meaning.specs.NormalTable.{mergedCount, normalFile}
+use Rattle.normal.specs.Half.{halfOf}
+use Rattle.workspace.proofs.Preparations.{halves-same, prepare-first, prepare-many-first, prepare-many-second, prepare-second}
+use Rattle.workspace.specs.Prepare.{Acceptable, halvesPut, prepareAnswer, workSize}
+use Rattle.workspace.specs.declared.prepare.Prepared.the-variants as prepared
+use Rattle.evidence.proofs.Refusals.{Named, verify-refusal}
+use Rattle.evidence.proofs.Soundness.{map-sound, map-taken, refutation-sound, refutation-taken}
+use Rattle.evidence.proofs.Verifications.{acceptable-verify, acceptable-work, refused-verify, refused-work, short-verify, short-work, verify-taken, work-kept, work-past}
+use Rattle.evidence.specs.Call.{evidenceAnswer, verifyAnswer}
+use Rattle.evidence.specs.Taken.{MapOf, RefutationOf}
+use Rattle.evidence.specs.declared.check.Verified.{Verified}
+use Rattle.evidence.specs.declared.check.Verified.the-variants as verified
+use Rattle.zuvaropy.specs.Calls.{verifySpace, verifyWord}
+use Rattle.zuvaropy.specs.Word.{cardOf, outcomeNo, outcomeYes, refusalWord, verifiedWord}
+use Rattle.zuvaropy.proofs.Words.{outcome, refusal-outcome, refused}
+
+bench : Bounded benchLimits
+bench = (omega arith, omega arith)
+
+named-card : (i : Input) → Named i → cardOf i < 256
+named-card Buffer h = omega arith
+named-card First h = omega arith
+named-card Second h = omega arith
+named-card Evidence h = omega arith
+named-card Book h = omega arith
+named-card (Card n) h = absurd h
+
+module _ (first second evidence work : List ℕ) where
+  abbrev pub Refuses : ℕ → Input → Type 0
+  Refuses q input = (verifyWord first second evidence (length work) ≡ refused q input) × (verifySpace first second work ≡ work)
+
+  pub verify-short : length work < workSize benchLimits → Refuses 1 Buffer
+  unfolding verifyWord verifySpace
+  verify-short h = (rw (short-verify benchLimits first second evidence (length work) h), short-work benchLimits first second work h)
+
+  module _ (enough : workSize benchLimits ≤ length work) where
+    prepared-refuses : (r : Refusal) → prepareAnswer benchLimits first second ≡ prepared.Refused r →
+        (verifyWord first second evidence (length work) ≡ refusalWord r) × (verifySpace first second work ≡ work)
+    unfolding verifyWord verifySpace
+    prepared-refuses r e =
+        (rw (refused-verify benchLimits first second evidence (length work) enough r e), refused-work benchLimits first second work enough r e)
+
+    pub verify-first : (q : ℕ) → readingOf benchLimits first ≡ reading.Failed q → Refuses q First
+    verify-first q e = prepared-refuses (record { number = q; input = First }) (prepare-first benchLimits first second q e)
+
+    module _ (readable : Readable benchLimits first) where
+      pub verify-second : (q : ℕ) → readingOf benchLimits second ≡ reading.Failed q → Refuses q Second
+      verify-second q e = prepared-refuses (record { number = q; input = Second }) (prepare-second benchLimits first second readable q e)
+
+      module _ (readable-second : Readable benchLimits second) where
+        pub verify-many-first : maxRows < mergedCount benchLimits first → Refuses 14 First
+        verify-many-first h =
+            prepared-refuses (record { number = 14; input = First }) (prepare-many-first benchLimits first second readable readable-second h)
+
+        pub verify-many-second : mergedCount benchLimits first ≤ maxRows → maxRows < mergedCount benchLimits second → Refuses 14 Second
+        verify-many-second few h =
+            prepared-refuses (record { number = 14; input = Second }) (prepare-many-second benchLimits first second readable readable-second few h)
+
+    module _ (pair : Acceptable benchLimits first second) where
+      pub verify-checked :
+          (verifyWord first second evidence (length work) ≡ verifiedWord (evidenceAnswer benchLimits first second evidence))
+          × (verifySpace first second work ≡ halvesPut benchLimits first second work)
+      unfolding verifyWord verifySpace
+      verify-checked =
+          (rw (acceptable-verify benchLimits first second evidence (length work) enough pair), acceptable-work benchLimits first second work enough pair)
+
+      pub verify-space-same :
+          take (workSize benchLimits) (verifySpace first second work)
+          ≡ halfOf benchLimits (normalFile benchLimits first) ++ halfOf benchLimits (normalFile benchLimits second)
+      verify-space-same =
+          ap (λ (l : List ℕ). take (workSize benchLimits) l) (verify-checked .1)
+          ∙ halves-same benchLimits first second work (pair .first-few) (pair .second-few)
+
+  pub verify-past : (i : ℕ) → workSize benchLimits ≤ i → getD (verifySpace first second work) i 0 ≡ getD work i 0
+  unfolding verifySpace
+  verify-past i h = work-past benchLimits first second work i h
+
+  pub verify-kept : length (verifySpace first second work) ≡ length work
+  unfolding verifySpace
+  verify-kept = work-kept benchLimits first second work
+
+-- ---- what a word shows
+
+module _ (first second evidence : List ℕ) (room : ℕ) where
+  map-word : (v : Verified) → verifyAnswer benchLimits first second evidence room ≡ v → outcome (verifiedWord v) ≡ outcomeYes →
+      verifyAnswer benchLimits first second evidence room ≡ verified.MapTaken
+  map-word verified.MapTaken e h = e
+  map-word verified.RefutationTaken e h = absurd (omega arith)
+  map-word (verified.Refused r) e h =
+      let (small, named) = verify-refusal benchLimits first second evidence room r e in
+      absurd (omega (arith, h, refusal-outcome r (omega arith) (named-card (r .input) named)))
+
+  refutation-word : (v : Verified) → verifyAnswer benchLimits first second evidence room ≡ v → outcome (verifiedWord v) ≡ outcomeNo →
+      verifyAnswer benchLimits first second evidence room ≡ verified.RefutationTaken
+  refutation-word verified.MapTaken e h = absurd (omega arith)
+  refutation-word verified.RefutationTaken e h = e
+  refutation-word (verified.Refused r) e h =
+      let (small, named) = verify-refusal benchLimits first second evidence room r e in
+      absurd (omega (arith, h, refusal-outcome r (omega arith) (named-card (r .input) named)))
+
+  no-map : (r : Refusal) → verified.Refused r ≡ verified.MapTaken → ⊥
+  no-map r e = let z : _≡_ {A = ℕ} 0 1 = cc in omega arith
+
+  no-refutation : (r : Refusal) → verified.Refused r ≡ verified.RefutationTaken → ⊥
+  no-refutation r e = let z : _≡_ {A = ℕ} 0 1 = cc in omega arith
+
+  -- outcome 1, whatever the bytes: there is room, the pair is acceptable, and the evidence is a map of it
+  pub verify-map : outcome (verifyWord first second evidence room) ≡ outcomeYes →
+      (workSize benchLimits ≤ room) × Acceptable benchLimits first second × MapOf benchLimits first second evidence
+  unfolding verifyWord
+  verify-map h =
+      let taken = map-word (verifyAnswer benchLimits first second evidence room) refl h in
+      let (enough, pair, answer) = verify-taken benchLimits first second evidence room verified.MapTaken no-map taken in
+      (enough, pair, map-taken benchLimits first second evidence bench pair .0 answer)
+
+  pub verify-refutation : outcome (verifyWord first second evidence room) ≡ outcomeNo →
+      (workSize benchLimits ≤ room) × Acceptable benchLimits first second × RefutationOf benchLimits first second evidence
+  unfolding verifyWord
+  verify-refutation h =
+      let taken = refutation-word (verifyAnswer benchLimits first second evidence room) refl h in
+      let (enough, pair, answer) = verify-taken benchLimits first second evidence room verified.RefutationTaken no-refutation taken in
+      (enough, pair, refutation-taken benchLimits first second evidence bench pair .0 answer)
+
+  -- and the reverse
+  module _ (enough : workSize benchLimits ≤ room) (pair : Acceptable benchLimits first second) where
+    pub map-verify : MapOf benchLimits first second evidence → verifyWord first second evidence room ≡ verifiedWord verified.MapTaken
+    unfolding verifyWord
+    map-verify m =
+        ap verifiedWord (acceptable-verify benchLimits first second evidence room enough pair ∙ map-taken benchLimits first second evidence bench pair .1 m)
+
+    pub refutation-verify : RefutationOf benchLimits first second evidence → verifyWord first second evidence room ≡ verifiedWord verified.RefutationTaken
+    unfolding verifyWord
+    refutation-verify m =
+        ap verifiedWord (acceptable-verify benchLimits first second evidence room enough pair ∙ refutation-taken benchLimits first second evidence bench pair .1 m)
+
+  -- a map is taken only if the second covers the first, a refutation only if it does not
+  pub verify-map-covers : outcome (verifyWord first second evidence room) ≡ outcomeYes →
+      Subsumed pictureSignature (pictureTree benchLimits first) (pictureTree benchLimits second)
+  verify-map-covers h =
+      let (enough, pair, m) = verify-map h in
+      map-sound benchLimits first second evidence bench pair (map-taken benchLimits first second evidence bench pair .1 m)
+
+  pub verify-refutation-not : outcome (verifyWord first second evidence room) ≡ outcomeNo →
+      Subsumed pictureSignature (pictureTree benchLimits first) (pictureTree benchLimits second) → ⊥
+  verify-refutation-not h =
+      let (enough, pair, m) = verify-refutation h in
+      refutation-sound benchLimits first second evidence bench pair (refutation-taken benchLimits first second evidence bench pair .1 m)
