@@ -1,7 +1,8 @@
 -- 01, questions 16 to 23: the answer for evidence e. p and q are the normal tables, of which a map speaks; t and u the pictures' trees, which individual 0
 -- of a refutation fits or not.
 --   refutationAsked   21 of every individual, then 22, 23
---   onAsked           taken where all is answered yes; a refusal names the evidence
+--   refusedBy         the refusal by a question; it names the evidence
+--   onAsked           taken where all is answered yes
 --   onForm            by the form
 --   checkAnswer       16, and then the questions of the form
 use Prim.Native.Nat.{ℕ}
@@ -35,15 +36,18 @@ refutationAsked t u e =
     (ask 23 (not (fitsTest pictureSignature u (modelTree e 0)))
     Yes))
 
+abbrev pub refusedBy : ℕ → Verified
+refusedBy number = Refused (record { number = number; input = Evidence })
+
 abbrev pub onAsked : Verified → Asked → Verified
 onAsked taken Yes = taken
-onAsked taken (No number) = Refused (record { number = number; input = Evidence })
+onAsked taken (No number) = refusedBy number
 
 module _ (p q : Table pictureSignature) (t u : Tree pictureSignature) (e : List ℕ) where
   abbrev pub onForm : Form → Verified
   onForm Map = onAsked MapTaken (mapAsked p q (imageOf e))
   onForm Refutation = onAsked RefutationTaken (refutationAsked t u e)
-  onForm Neither = onAsked MapTaken (No 16)
+  onForm Neither = refusedBy 16
 
 unfoldable pub checkAnswer : Limits → Table pictureSignature → Table pictureSignature → Tree pictureSignature → Tree pictureSignature → List ℕ → Verified
 checkAnswer limits p q t u e = onForm p q t u e (formOf limits (q .rows) e)

@@ -18,7 +18,7 @@ ghost use Rattle.meaning.specs.Meaning.{pictureTable};
 ghost use Rattle.normal.specs.Rows.{Checked};
 ghost use Rattle.countermodel.specs.Individual.{Individuals};
 ghost use Rattle.countermodel.specs.Model.{rowTree};
-ghost use Rattle.evidence.specs.Check.{onAsked, refutationAsked};
+ghost use Rattle.evidence.specs.Check.{onAsked, refusedBy, refutationAsked};
 ghost use Rattle.evidence.specs.Tables.{checkIn};
 
 pub enum Verified {
@@ -46,16 +46,23 @@ fn refutation_asked(first: &[u8], n: usize, second: &[u8], m: usize, e: &[u8], k
     Asked::Yes
 }
 
-// The answer where all was answered yes, or the refusal, which names the evidence.
+// The refusal by a question names the evidence.
+fn refused_by(number: u8) -> Verified
+    ensures { λ r. ⌜ r ≡ refusedBy number ⌝ }
+{
+    Verified::Refused(Refusal {
+        number,
+        input: Input::Evidence,
+    })
+}
+
+// The answer where all was answered yes, or the refusal.
 fn answer(taken: Verified, asked: Asked) -> Verified
     ensures { λ r. ⌜ r ≡ onAsked taken asked ⌝ }
 {
     match asked {
         Asked::Yes => taken,
-        Asked::No(number) => Verified::Refused(Refusal {
-            number,
-            input: Input::Evidence,
-        }),
+        Asked::No(number) => refused_by(number),
     }
 }
 
@@ -69,6 +76,6 @@ pub fn check(first: &[u8], n: usize, second: &[u8], m: usize, limits: Limits, e:
             Verified::RefutationTaken,
             refutation_asked(first, n, second, m, e, count(e)),
         ),
-        Form::Neither => answer(Verified::MapTaken, Asked::No(16)),
+        Form::Neither => refused_by(16),
     }
 }

@@ -45,8 +45,8 @@ answer-requires-2 c κs = search needs
 enum-told-3 : tie.Need-enum-told-3
 enum-told-3 c = search needs
 
-answer-requires-3 : tie.Need-answer-requires-3
-answer-requires-3 c κs = search needs
+refused-by-requires : tie.Need-refused-by-requires
+refused-by-requires c κs = search needs
 
 returns : tie.Need-returns
 returns c =
@@ -68,7 +68,7 @@ returns-3 : tie.Need-returns-3
 returns-3 c =
     let start = c .before .before .before .before .before .before .before in
     let a = start .args in
-    c .answer3 .ensures
+    c .refused-by .ensures
     ∙ sym (check-read (now (a .first)) (now (a .second)) (now (a .e)) (a .limits) (a .m) Neither (start .pre .1 .1 .counted) (sym (c .before .enum-told3 .given .1) ∙ c .before .before .before .form-of .ensures))
 
 pub check-spec : {M : Type 1} → statement M
@@ -84,7 +84,7 @@ check-spec =
     refutation-asked-requires
     answer-requires-2
     enum-told-3
-    answer-requires-3
+    refused-by-requires
     returns
     returns-2
     returns-3)
