@@ -2,4 +2,5 @@
 pub mod Words
 pub mod NormalWords
 pub mod VerifyWords
+pub mod EmptyCovers
 pub mod StarredHold

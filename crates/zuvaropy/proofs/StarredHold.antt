@@ -1,18 +1,74 @@
 -- 01, "Starred ones are proved, gathered into one list with a single theorem over the list": computed from the calls' definitions.
-use mathlib.Core.Path.{refl}
-use Rattle.table.specs.Fields.{endBytes, rowOf}
+-- Of K7 and K8 the word is computed, and by the laws of the check it shows what the two pictures mean.
+use Prim.Native.Nat.{ℕ}
+use native.Mathlib.Omega.{arith}
+use mathlib.Core.List.{List}
+use mathlib.Core.Path.{_≡_, refl}
+use Rattle.table.specs.Fields.{endBytes, endsAt, rowOf}
 use Rattle.table.specs.Number.{be, beBytes}
 use Rattle.table.specs.Put.{put}
+use Rattle.table.specs.Range.{each}
 use Rattle.picture.specs.Depth.{depth, depthIn}
 use Rattle.picture.specs.Questions.{endField, fieldAt, kindOk, lengthFor, parentOk, roleOk, rowField, tagOk, valueField}
 use Rattle.picture.specs.Read.{answerOf, readingOf, scanFrom}
 use Rattle.picture.specs.View.{rowCount, viewOf}
 use Rattle.meaning.specs.NormalTable.{mergedCount, mergedTree, normalFile, normalTreeOf}
 use Rattle.normal.specs.Call.{normalizeAnswer, normalizeResult}
-use Rattle.zuvaropy.specs.Calls.{normalizeBuffer, normalizeWord}
-use Rattle.zuvaropy.specs.Starred.{AllHold, starred}
+use Rattle.countermodel.specs.Individual.{individualHead, individualOk, refutationForm}
+use Rattle.countermodel.specs.Layout.{individualCount}
+use Rattle.workspace.specs.Prepare.{fourteen, prepareAnswer}
+use Rattle.evidence.specs.Call.{evidenceAnswer, verifyAnswer}
+use Rattle.evidence.specs.Check.{checkAnswer, refutationAsked}
+use Rattle.evidence.specs.Form.{formOf, mapForm}
+use Rattle.evidence.specs.Map.{inOrder, mapAsked, rowAsked}
+use Rattle.zuvaropy.specs.Calls.{normalizeBuffer, normalizeWord, verifyWord}
+use Rattle.zuvaropy.specs.Starred.{AllHold, Holds, allFive, alone, covers, coversNot, noneReached, oneEach, room, someBoth, someEach, someReached, starred, toBoth, toMarked}
+use Rattle.zuvaropy.specs.Word.{outcomeNo, outcomeYes, valueWord}
+use Rattle.zuvaropy.proofs.EmptyCovers.{empty-covers}
+use Rattle.zuvaropy.proofs.VerifyWords.{verify-map-covers, verify-refutation-not}
+
+-- a word that says so shows what the two pictures mean
+module _ (first second e : List ℕ) where
+  shown : verifyWord first second e room ≡ valueWord outcomeYes 0 → Holds (covers first second e)
+  shown w = (w, verify-map-covers first second e room (omega (arith, w)))
+
+  shown-not : verifyWord first second e room ≡ valueWord outcomeNo 0 → Holds (coversNot first second e)
+  shown-not w = (w, verify-refutation-not first second e room (omega (arith, w)))
 
 pub starred-hold : AllHold starred
-unfolding be beBytes rowOf endBytes put depthIn depth tagOk lengthFor kindOk roleOk parentOk valueField rowField endField fieldAt scanFrom readingOf answerOf rowCount viewOf mergedTree mergedCount normalTreeOf normalFile normalizeAnswer normalizeResult normalizeWord normalizeBuffer
-starred-hold =
-    ((refl, refl), ((refl, refl), ((refl, refl), ((refl, refl), ((refl, refl), ((refl, refl), ((refl, refl), ((refl, refl), tt))))))))
+unfolding be beBytes rowOf endBytes endsAt put depthIn depth tagOk lengthFor kindOk roleOk parentOk valueField rowField endField fieldAt scanFrom readingOf answerOf rowCount viewOf mergedTree mergedCount normalTreeOf normalFile normalizeAnswer normalizeResult normalizeWord normalizeBuffer
+    each individualCount individualHead refutationForm individualOk mapForm formOf rowAsked inOrder mapAsked refutationAsked checkAnswer evidenceAnswer fourteen prepareAnswer verifyAnswer verifyWord
+starred-hold = (
+  empty-covers,
+  (
+    (refl, refl),
+    (
+      (refl, refl),
+      (
+        (refl, refl),
+        (
+          (refl, refl),
+          (
+            (refl, refl),
+            (
+              (refl, refl),
+              (
+                shown someBoth someEach toBoth refl,
+                (
+                  shown-not someEach someBoth oneEach refl,
+                  (
+                    shown noneReached allFive toMarked refl,
+                    (
+                      shown-not noneReached someReached alone refl,
+                      ((refl, refl), ((refl, refl), tt)),
+                    ),
+                  ),
+                ),
+              ),
+            ),
+          ),
+        ),
+      ),
+    ),
+  ),
+)

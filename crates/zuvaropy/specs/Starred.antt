@@ -5,19 +5,32 @@
 --   clash                       a root with names both wanted and excluded
 --   markedRoot, allImpossible   rows with the impossible mark
 --   picture                     rows, and the end field
+--   mapFile, individual         a map by its images; an individual by its parent, its role and the names that hold
+--   refutation                  individuals, and the end field
 --   lent                        a result buffer of the length laid down, each byte 255
 --   Case                        normal: a picture and its normal table
+--                               covers: the second covers the first, with a map that the check takes; coversNot: it does not, with a refutation
+--                               coversAll: a picture that covers every picture, with one map that the check takes for each
 --   Holds, AllHold              what a claim says of the calls; that each of a list holds
 --   starred                     the cases
-use Prim.Native.Nat.{ℕ, _+_, _^_}
+use Prim.Native.Nat.{ℕ, _*_, _+_, _^_, _≤_}
 use lib.ListN.{drop, length, replicate}
 use mathlib.Core.List.{List, [], _++_, _∷_}
 use mathlib.Core.Path.{_≡_}
-use Rattle.table.specs.Bounds.{benchLimits, pictureSize}
+use Rattle.table.specs.Bounds.{benchLimits, maxRows, pictureSize}
 use Rattle.table.specs.Fields.{endBytes, rowOf}
-use Rattle.table.specs.Layout.{kindExists, kindForAll, kindRoot}
-use Rattle.zuvaropy.specs.Calls.{normalizeBuffer, normalizeWord}
-use Rattle.zuvaropy.specs.Word.{outcomeYes, valueWord}
+use Rattle.table.specs.Layout.{kindExists, kindForAll, kindRoot, nameBytes, numberSize}
+use Rattle.table.specs.Number.{beBytes}
+use Rattle.ale.specs.Interpretation.{Subsumed}
+use Rattle.ale.specs.PictureSignature.{pictureSignature}
+use Rattle.meaning.specs.Meaning.{pictureTree}
+use Rattle.countermodel.specs.Layout.{individualLength, individualTag}
+use Rattle.picture.specs.View.{Readable}
+use Rattle.meaning.specs.NormalTable.{mergedCount}
+use Rattle.workspace.specs.Prepare.{workSize}
+use Rattle.evidence.specs.Form.{mapTag}
+use Rattle.zuvaropy.specs.Calls.{normalizeBuffer, normalizeWord, verifyWord}
+use Rattle.zuvaropy.specs.Word.{outcomeNo, outcomeYes, valueWord}
 
 -- ---- pictures by rows
 
@@ -53,6 +66,22 @@ abbrev picture : List (List ℕ) → List ℕ
 picture [] = endBytes
 picture (row ∷ rows) = row ++ picture rows
 
+-- ---- evidence
+
+abbrev images : List ℕ → List ℕ
+images [] = endBytes
+images (v ∷ vs) = beBytes numberSize v ++ images vs
+
+abbrev mapFile : List ℕ → List ℕ
+mapFile im = (mapTag ∷ []) ++ beBytes numberSize (numberSize * length im) ++ images im
+
+abbrev individual : ℕ → ℕ → List ℕ → List ℕ
+individual parent role held =
+    (individualTag ∷ []) ++ beBytes numberSize individualLength ++ beBytes numberSize parent ++ (role ∷ []) ++ beBytes nameBytes (names held)
+
+abbrev refutation : List (List ℕ) → List ℕ
+refutation = picture
+
 -- ---- claims
 
 abbrev pub lent : List ℕ
@@ -60,18 +89,46 @@ lent = replicate (pictureSize benchLimits) 255
 
 pub data Case : Type 0 where
   normal : List ℕ → List ℕ → Case
+  covers : List ℕ → List ℕ → List ℕ → Case
+  coversNot : List ℕ → List ℕ → List ℕ → Case
+  coversAll : List ℕ → List ℕ → Case
+
+abbrev pub room : ℕ
+room = workSize benchLimits
 
 -- normal: the word has the table's length; the buffer holds the table, and past it what was lent
+-- covers, coversNot: the word says that the map, or the refutation, is taken, and it is so by the meaning of the two pictures
+-- coversAll: so for every picture that passes 2 to 14
 abbrev pub Holds : Case → Type 0
 Holds (normal first table) =
     (normalizeWord first (length lent) ≡ valueWord outcomeYes (length table))
     × (normalizeBuffer first lent ≡ table ++ drop (length table) lent)
+Holds (covers first second map) =
+    (verifyWord first second map room ≡ valueWord outcomeYes 0)
+    × Subsumed pictureSignature (pictureTree benchLimits first) (pictureTree benchLimits second)
+Holds (coversNot first second refuting) =
+    (verifyWord first second refuting room ≡ valueWord outcomeNo 0)
+    × (Subsumed pictureSignature (pictureTree benchLimits first) (pictureTree benchLimits second) → ⊥)
+Holds (coversAll second map) =
+    (first : List ℕ) → Readable benchLimits first → mergedCount benchLimits first ≤ maxRows →
+    (verifyWord first second map room ≡ valueWord outcomeYes 0)
+    × Subsumed pictureSignature (pictureTree benchLimits first) (pictureTree benchLimits second)
 
 abbrev pub AllHold : List Case → Type 0
 AllHold [] = Unit {0}
 AllHold (c ∷ cs) = Holds c × AllHold cs
 
 -- ---- the cases
+
+-- one empty row; covers every picture.
+abbrev pub empty : List ℕ
+empty = picture (root [] ∷ [])
+
+abbrev pub toRoot : List ℕ
+toRoot = mapFile (0 ∷ [])
+
+abbrev pub k1 : Case
+k1 = coversAll empty toRoot
 
 -- Name 3 wanted and excluded: normal is one marked row.
 abbrev pub k2 : Case
@@ -100,6 +157,47 @@ k6 = normal (picture (root [] ∷ allImpossible 0 r ∷ [])) (picture (root [] �
 abbrev pub k6-added : Case
 k6-added = normal (picture (root [] ∷ allImpossible 0 r ∷ some 0 r [] ∷ [])) (picture (markedRoot ∷ []))
 
+-- some r{3}, some r{5} covers some r{3,5}; not the reverse.
+abbrev pub someBoth : List ℕ
+someBoth = picture (root [] ∷ some 0 r (3 ∷ 5 ∷ []) ∷ [])
+
+abbrev pub someEach : List ℕ
+someEach = picture (root [] ∷ some 0 r (3 ∷ []) ∷ some 0 r (5 ∷ []) ∷ [])
+
+abbrev pub toBoth : List ℕ
+toBoth = mapFile (0 ∷ 1 ∷ 1 ∷ [])
+
+abbrev pub oneEach : List ℕ
+oneEach = refutation (individual 0 0 [] ∷ individual 0 r (3 ∷ []) ∷ individual 0 r (5 ∷ []) ∷ [])
+
+abbrev pub k7 : Case
+k7 = covers someBoth someEach toBoth
+
+abbrev pub k7-not : Case
+k7-not = coversNot someEach someBoth oneEach
+
+-- all r impossible is covered by all r{5}, not by some r{}.
+abbrev pub noneReached : List ℕ
+noneReached = picture (root [] ∷ allImpossible 0 r ∷ [])
+
+abbrev pub allFive : List ℕ
+allFive = picture (root [] ∷ all 0 r (5 ∷ []) ∷ [])
+
+abbrev pub someReached : List ℕ
+someReached = picture (root [] ∷ some 0 r [] ∷ [])
+
+abbrev pub toMarked : List ℕ
+toMarked = mapFile (0 ∷ 1 ∷ [])
+
+abbrev pub alone : List ℕ
+alone = refutation (individual 0 0 [] ∷ [])
+
+abbrev pub k8 : Case
+k8 = covers noneReached allFive toMarked
+
+abbrev pub k8-not : Case
+k8-not = coversNot noneReached someReached alone
+
 -- all r(some s{1}), some r{2}: 4 rows, normal 5; that table's normal has 6.
 abbrev k12-five : List ℕ
 k12-five = picture (root [] ∷ all 0 r [] ∷ some 1 s (1 ∷ []) ∷ some 0 r (2 ∷ []) ∷ some 3 s (1 ∷ []) ∷ [])
@@ -114,12 +212,17 @@ k12-again =
 
 abbrev pub starred : List Case
 starred =
-    k2
+    k1
+    ∷ k2
     ∷ k3
     ∷ k4
     ∷ k5
     ∷ k6
     ∷ k6-added
+    ∷ k7
+    ∷ k7-not
+    ∷ k8
+    ∷ k8-not
     ∷ k12
     ∷ k12-again
     ∷ []
