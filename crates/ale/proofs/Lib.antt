@@ -41,6 +41,7 @@ pub mod Bisimulations
 pub mod Individuals
 pub mod Encodings
 pub mod ModelChecks
+pub mod MetPairs
 -- depth and roles
 pub mod Depths
 pub mod WholeTrees

@@ -28,7 +28,7 @@ use Rattle.ale.specs.Signature.{Signature}
 use Rattle.ale.specs.Table.{ParentsFirst, successors}
 use Rattle.ale.specs.Tree.{Forest, Tree, any, exists, forAll}
 use Rattle.meaning.specs.Meaning.{pictureTable}
-use Rattle.normal.proofs.Links.{walk-less}
+use Rattle.table.proofs.Links.{walk-less}
 use Rattle.normal.specs.Rows.{Checked}
 use Rattle.picture.specs.View.{viewOf}
 use Rattle.table.specs.Bounds.{maxRows}

@@ -1,21 +1,18 @@
 -- Laws of what hangs from each row, along its links.
 --   successor-hangs, hangs-successor                a row that hangs from row c
 --   Walked, walk-none, walk-next, walk-done         a walk along the rows that hang from row c, each added to a set
---   walk-less                                       which ends
-use Prim.Native.Nat.{_+_, _-_, _<_, _≤_, ℕ}
+use Prim.Native.Nat.{_+_, _<_, _≤_, ℕ}
 use borrow.Author.Tests.{eq-eqb, eqb-false, eqb-true, le-ltb, lt-ltb, ltb-false, ltb-true, ne-eqb, not-true}
 use lib.Dec.{eqb, ltb}
-use lib.ListN.{getD, length, length-set, set}
 use mathlib.Core.Bool.{Bool, _&&_, _||_, false, not, true}
 use mathlib.Core.List.{List}
-use mathlib.Core.Path.{_∙_, _≡_, ap, refl, subst, sym}
+use mathlib.Core.Path.{_∙_, _≡_, ap, refl, sym}
 use native.Mathlib.Omega.{arith}
 use Rattle.table.proofs.Bools.{both, by-test}
 use Rattle.table.specs.Bounds.{maxRows}
 use Rattle.table.specs.Fields.{parentOf, roleOf}
 use Rattle.table.specs.Links.{Nearest}
 use Rattle.table.specs.NameSet.{has}
-use Rattle.table.specs.Pick.{pick}
 use Rattle.normal.specs.declared.rows.Successors.{Successors}
 use Rattle.normal.specs.Rows.{Hung, hangs, holds}
 
@@ -115,7 +112,3 @@ module _ (s : List ℕ) (rows c : ℕ) (old : Successors) where
 
         whole : (k : ℕ) → k < rows → (follows k && ltb k (w .low)) ≡ follows k
         whole k l = by-test (follows k) (λ h. rw h (lt-ltb k (w .low) (all k l h))) (λ h. rw h)
-
-pub walk-less : (rows j n : ℕ) → (j ≡ 0 → ⊥) → j < rows → ((n ≡ 0 → ⊥) → j + 1 ≤ n) → pick (eqb n 0) 0 (rows + 1 - n) < pick (eqb j 0) 0 (rows + 1 - j)
-walk-less rows j n z l on =
-    rw (ne-eqb j 0 z) (by-test (eqb n 0) (λ e. rw e (omega arith)) (λ e. let m = on (eqb-false n 0 e) in rw e (omega arith)))

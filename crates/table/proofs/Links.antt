@@ -1,12 +1,17 @@
 -- Links are filled in one pass from the last row down: each row becomes the lowest of its parent's, and what was the lowest comes after it.
 --   LinkedFrom                       the links once the rows from j on have been met
 --   link-none, link-next, link-done  before the first row, one row more, and at the end
-use Prim.Native.Nat.{_+_, _<_, _≤_, ℕ}
+--   walk-less                        a walk along the links ends: each row stands after the one before it
+use Prim.Native.Nat.{_+_, _-_, _<_, _≤_, ℕ}
+use borrow.Author.Tests.{eqb-false, ne-eqb}
+use lib.Dec.{eqb}
 use lib.ListN.{getD, length, length-set, set}
 use mathlib.Core.List.{List}
 use mathlib.Core.Path.{_∙_, _≡_, ap, subst, sym}
 use native.Mathlib.Omega.{arith}
 use Rattle.table.specs.Links.{Linked, Nearest, Zeros}
+use Rattle.table.specs.Pick.{pick}
+use Rattle.table.proofs.Bools.{by-test}
 use Rattle.table.proofs.Stores.{stored}
 
 pub record LinkedFrom (parent : ℕ → ℕ) (rows width j : ℕ) (links : List ℕ) : Type 0 where
@@ -65,3 +70,7 @@ link-done parent rows width j links under linked =
           };
       later = λ k z b. linked .later k z (omega (arith, z)) b;
     }
+
+pub walk-less : (rows j n : ℕ) → (j ≡ 0 → ⊥) → j < rows → ((n ≡ 0 → ⊥) → j + 1 ≤ n) → pick (eqb n 0) 0 (rows + 1 - n) < pick (eqb j 0) 0 (rows + 1 - j)
+walk-less rows j n z l on =
+    rw (ne-eqb j 0 z) (by-test (eqb n 0) (λ e. rw e (omega arith)) (λ e. let m = on (eqb-false n 0 e) in rw e (omega arith)))

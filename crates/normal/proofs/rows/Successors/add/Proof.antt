@@ -10,7 +10,8 @@ use Rattle.table.specs.Bounds.{maxRows}
 use Rattle.table.specs.Pick.{pick}
 use Rattle.table.specs.Fields.{parentOf}
 use Rattle.table.specs.Links.{Nearest}
-use Rattle.normal.proofs.Links.{Walked, walk-done, walk-less, walk-next, walk-none}
+use Rattle.table.proofs.Links.{walk-less}
+use Rattle.normal.proofs.Links.{Walked, walk-done, walk-next, walk-none}
 use Rattle.normal.proofs.rows.Successors.add.Statement.{statement}
 use Rattle.normal.proofs.rows.Successors.add.Tie as tie
 
