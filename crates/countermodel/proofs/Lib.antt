@@ -1,4 +1,5 @@
 -- The laws of refutations, by subject.
+pub mod Sizes
 pub mod Individuals
 pub mod LabelTests
 pub mod Models

@@ -3,3 +3,4 @@
 pub mod Halves
 -- the answer and the work space after it
 pub mod Preparations
+pub mod Sizes
