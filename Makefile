@@ -1,6 +1,6 @@
 # make        prove the library and write target/staticlib/libzuvaropy.a
 # make test   prove everything, then run the C tests; the last line is 'N passed, M failed'
-# make demo   validate the sample pictures and print their normal tables
+# make demo   validate the sample pictures, print their normal tables and check the sample evidence
 # make bench  time the library beside the same calls hand-written in C
 # make clean  remove what the others made
 
@@ -29,16 +29,22 @@ demo: library
 	@mkdir -p build/examples
 	@$(CC) $(CFLAGS) -Iinclude examples/validate.c examples/input.c $(LIBRARY) -o build/examples/validate
 	@$(CC) $(CFLAGS) -Iinclude examples/normalize.c examples/input.c $(LIBRARY) -o build/examples/normalize
+	@$(CC) $(CFLAGS) -Iinclude examples/verify.c examples/input.c $(LIBRARY) -o build/examples/verify
 	@build/examples/validate samples/*.pic
 	@build/examples/normalize samples/*.pic
+	@sh samples/verify.sh build/examples/verify
 
 bench: library
 	@mkdir -p build/bench
 	@$(CC) $(CFLAGS) -Iinclude bench/validate.c bench/scan.c bench/timing.c $(LIBRARY) -o build/bench/validate
 	@$(CC) $(CFLAGS) -Iinclude -Itests bench/normalize.c bench/merge.c bench/scan.c bench/timing.c tests/picture.c \
 	    tests/random.c tests/check.c $(LIBRARY) -o build/bench/normalize
+	@$(CC) $(CFLAGS) -Iinclude -Itests bench/verify.c bench/inputs.c bench/audit.c bench/merge.c bench/scan.c \
+	    bench/timing.c tests/picture.c tests/rows.c tests/random.c tests/evidence.c tests/witness.c \
+	    tests/normal_reference.c tests/reference.c tests/check.c $(LIBRARY) -o build/bench/verify
 	@build/bench/validate
 	@build/bench/normalize
+	@build/bench/verify
 
 clean:
 	rm -rf build target

@@ -236,21 +236,31 @@ static size_t write_table(const struct merge *m, uint8_t *result)
     return (size_t)(at - result) + ZUVAROPY_HEAD_BYTES;
 }
 
-uint64_t merge_normalize(const uint8_t *picture, size_t picture_len, uint8_t *result, size_t result_len)
+size_t merge_table(const uint8_t *picture, unsigned int rows, uint8_t *result)
 {
     struct merge m;
+
+    read_rows(&m, picture, rows);
+    m.nodes = 0;
+    if (!merge_rows(&m, 0, ZUVAROPY_KIND_ROOT, 0, &m.part[m.rows - 1]))
+        return 0;
+    tidy(&m);
+    return write_table(&m, result);
+}
+
+uint64_t merge_normalize(const uint8_t *picture, size_t picture_len, uint8_t *result, size_t result_len)
+{
     uint64_t word;
+    size_t length;
 
     if (result_len < ZUVAROPY_MAX_PICTURE_BYTES)
         return (uint64_t)ZUVAROPY_QUESTION_BUFFER << ZUVAROPY_QUESTION_SHIFT;
     word = scan_validate(picture, picture_len);
     if (zuvaropy_outcome(word) == ZUVAROPY_OUTCOME_REFUSAL)
         return word;
-    read_rows(&m, picture, zuvaropy_value(word));
-    m.nodes = 0;
-    if (!merge_rows(&m, 0, ZUVAROPY_KIND_ROOT, 0, &m.part[m.rows - 1]))
+    length = merge_table(picture, zuvaropy_value(word), result);
+    if (length == 0)
         return (uint64_t)ZUVAROPY_QUESTION_MERGED << ZUVAROPY_QUESTION_SHIFT |
                (uint64_t)ZUVAROPY_INPUT_FIRST << ZUVAROPY_INPUT_SHIFT;
-    tidy(&m);
-    return (uint64_t)ZUVAROPY_OUTCOME_YES << ZUVAROPY_OUTCOME_SHIFT | write_table(&m, result);
+    return (uint64_t)ZUVAROPY_OUTCOME_YES << ZUVAROPY_OUTCOME_SHIFT | length;
 }

@@ -24,7 +24,7 @@ static const char *const input_text[] = {
     [ZUVAROPY_INPUT_FIRST] = "first input",
 };
 
-int input_read(const char *name, uint8_t *bytes, size_t *length)
+int input_read(const char *name, uint8_t *bytes, size_t room, size_t *length)
 {
     int unread;
     FILE *file = fopen(name, "rb");
@@ -33,7 +33,7 @@ int input_read(const char *name, uint8_t *bytes, size_t *length)
         perror(name);
         return -1;
     }
-    *length = fread(bytes, 1, INPUT_ROOM, file);
+    *length = fread(bytes, 1, room, file);
     unread = ferror(file);
     fclose(file);
     if (unread) {

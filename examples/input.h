@@ -5,11 +5,12 @@
 
 #include "zuvaropy.h"
 
-/* One byte more than the longest picture, so that a longer file is seen to be longer. */
-#define INPUT_ROOM (ZUVAROPY_MAX_PICTURE_BYTES + 1)
+/* One byte more than the longest picture or evidence, so that a longer file is seen to be longer. */
+#define INPUT_PICTURE_ROOM (ZUVAROPY_MAX_PICTURE_BYTES + 1)
+#define INPUT_EVIDENCE_ROOM (ZUVAROPY_MAX_EVIDENCE_BYTES + 1)
 
-/* The first INPUT_ROOM bytes of a file; 0, or -1 with a message if it cannot be read. */
-int input_read(const char *name, uint8_t *bytes, size_t *length);
+/* The first `room` bytes of a file; 0, or -1 with a message if it cannot be read. */
+int input_read(const char *name, uint8_t *bytes, size_t room, size_t *length);
 
 /* A line that says which question was answered no. */
 void input_print_refusal(const char *name, uint64_t word);

@@ -54,11 +54,11 @@ static void print_table(const char *name, const uint8_t *table, size_t length)
 /* 0, or -1 if the file cannot be read. */
 static int normalize_file(const char *name)
 {
-    uint8_t picture[INPUT_ROOM], table[ZUVAROPY_MAX_PICTURE_BYTES];
+    uint8_t picture[INPUT_PICTURE_ROOM], table[ZUVAROPY_MAX_PICTURE_BYTES];
     size_t length;
     uint64_t word;
 
-    if (input_read(name, picture, &length) != 0)
+    if (input_read(name, picture, sizeof picture, &length) != 0)
         return -1;
     word = zuvaropy_normalize(picture, length, table, sizeof table);
     if (zuvaropy_outcome(word) == ZUVAROPY_OUTCOME_REFUSAL)

@@ -23,10 +23,10 @@ static void print_word(const char *name, uint64_t word)
 /* 0, or -1 if the file cannot be read. */
 static int validate_file(const char *name)
 {
-    uint8_t picture[INPUT_ROOM];
+    uint8_t picture[INPUT_PICTURE_ROOM];
     size_t length;
 
-    if (input_read(name, picture, &length) != 0)
+    if (input_read(name, picture, sizeof picture, &length) != 0)
         return -1;
     print_word(name, zuvaropy_validate(picture, length));
     return 0;

@@ -81,12 +81,62 @@ extern "C" {
 #define ZUVAROPY_MAX_PICTURE_BYTES    ZUVAROPY_PICTURE_BYTES(ZUVAROPY_MAX_ROWS)
 
 /*
+ * The work space of a call on two pictures, in bytes. A call that gets as far
+ * as their normal tables leaves the first from byte 0 and the second from byte
+ * ZUVAROPY_SECOND_TABLE_AT, and zeros in the rest of each half.
+ */
+#define ZUVAROPY_WORK_BYTES       (2 * ZUVAROPY_MAX_PICTURE_BYTES)
+#define ZUVAROPY_SECOND_TABLE_AT  ZUVAROPY_MAX_PICTURE_BYTES
+
+/*
+ * Evidence says whether the second of two pictures subsumes the first: whether
+ * every instance of the first is one of the second. It has one of two forms,
+ * both in fields as a picture is.
+ *
+ * A map, for yes, sends each row of the second normal table to a row of the
+ * first. It is one field, whose value has the image of each row in turn, and
+ * the end field.
+ *
+ * A refutation, for no, is a finite tree of individuals, the first of which is
+ * an instance of the first picture and not of the second. There is a field for
+ * each individual and then the end field. Individuals are numbered from 0. The
+ * value of an individual is, in this order:
+ *
+ *   parent  number of an earlier individual; 0 in individual 0
+ *   role    by which the parent reaches it; 0 in individual 0
+ *   names   set of the names that it has
+ *
+ * An individual reaches those whose parent it is, by their roles, and no other.
+ */
+
+#define ZUVAROPY_MAX_INDIVIDUALS  (ZUVAROPY_MAX_ROWS * (ZUVAROPY_MAX_DEPTH + 1))
+
+/* An image in a map, and a map for a second normal table of so many rows, in bytes. */
+#define ZUVAROPY_IMAGE_BYTES      2
+#define ZUVAROPY_MAP_BYTES(rows)  (ZUVAROPY_HEAD_BYTES + (rows) * ZUVAROPY_IMAGE_BYTES + ZUVAROPY_HEAD_BYTES)
+
+/* Where each part of an individual begins, counted from the value's first byte. */
+#define ZUVAROPY_INDIVIDUAL_PARENT_AT  0
+#define ZUVAROPY_INDIVIDUAL_ROLE_AT    (ZUVAROPY_INDIVIDUAL_PARENT_AT + ZUVAROPY_PARENT_BYTES)
+#define ZUVAROPY_INDIVIDUAL_NAMES_AT   (ZUVAROPY_INDIVIDUAL_ROLE_AT + ZUVAROPY_ROLE_BYTES)
+
+/* The value of an individual, and its whole field, in bytes. */
+#define ZUVAROPY_INDIVIDUAL_VALUE_BYTES  (ZUVAROPY_INDIVIDUAL_NAMES_AT + ZUVAROPY_NAME_SET_BYTES)
+#define ZUVAROPY_INDIVIDUAL_BYTES        (ZUVAROPY_HEAD_BYTES + ZUVAROPY_INDIVIDUAL_VALUE_BYTES)
+
+/* A refutation of so many individuals, and the longest evidence, in bytes. */
+#define ZUVAROPY_REFUTATION_BYTES(individuals)  ((individuals) * ZUVAROPY_INDIVIDUAL_BYTES + ZUVAROPY_HEAD_BYTES)
+#define ZUVAROPY_MAX_EVIDENCE_BYTES             ZUVAROPY_REFUTATION_BYTES(ZUVAROPY_MAX_INDIVIDUALS)
+
+/*
  * Codes
  */
 
-/* Tags of a picture's fields. */
-#define ZUVAROPY_TAG_ROW  0x10
-#define ZUVAROPY_TAG_END  0x2F
+/* Tags of fields. */
+#define ZUVAROPY_TAG_ROW         0x10
+#define ZUVAROPY_TAG_END         0x2F
+#define ZUVAROPY_TAG_MAP         0x41
+#define ZUVAROPY_TAG_INDIVIDUAL  0x42
 
 /* Kinds of row. */
 #define ZUVAROPY_KIND_ROOT    0  /* row 0, and no other */
@@ -132,6 +182,20 @@ extern "C" {
 
 /* Asked when all pictures have been read. */
 #define ZUVAROPY_QUESTION_MERGED      14  /* has the merged table at most ZUVAROPY_MAX_ROWS rows? */
+
+/* Asked of evidence. */
+#define ZUVAROPY_QUESTION_FORM        16  /* is it a map or a refutation, exactly, to its last byte? */
+
+/* Asked of a map: for each row of the second normal table in turn. */
+#define ZUVAROPY_QUESTION_IMAGE       17  /* is the image a row of the first? */
+#define ZUVAROPY_QUESTION_ROOT_IMAGE  18  /* row 0: is the image row 0? */
+#define ZUVAROPY_QUESTION_LABEL       19  /* has the image the row's names and its mark, or is it impossible? */
+#define ZUVAROPY_QUESTION_EDGE        20  /* other rows: does the edge from the parent agree? */
+
+/* Asked of a refutation. */
+#define ZUVAROPY_QUESTION_INDIVIDUAL  21  /* each: parent below its number, role below ZUVAROPY_ROLES (both 0 in 0)? */
+#define ZUVAROPY_QUESTION_INSTANCE    22  /* is individual 0 an instance of the first picture? */
+#define ZUVAROPY_QUESTION_REFUTED     23  /* is it not an instance of the second? */
 
 /*
  * The answer word
@@ -259,6 +323,60 @@ uint64_t zuvaropy_validate(const uint8_t *picture, size_t picture_len);
 uint64_t zuvaropy_normalize(const uint8_t *picture, size_t picture_len, uint8_t *result, size_t result_len);
 #define zuvaropy_normalize(picture, picture_len, result, result_len) \
     zuvaropy_normalize(zuvaropy_lent(picture), (picture_len), zuvaropy_lent_writable(result), (result_len))
+
+/*
+ * Check evidence that the second picture subsumes the first, or that it does
+ * not.
+ *
+ * Reads:   first, at most first_len bytes; second, at most second_len bytes;
+ *          evidence, at most evidence_len bytes.
+ * Writes:  work, its first ZUVAROPY_WORK_BYTES bytes: the normal table of the
+ *          first picture from byte 0, that of the second from byte
+ *          ZUVAROPY_SECOND_TABLE_AT, and zeros in the rest of each half. So
+ *          also where the evidence is refused, by question 16 to 23; a refusal
+ *          by question 1 to 14 writes nothing. Bytes after them keep their
+ *          contents.
+ * Returns: ZUVAROPY_OUTCOME_YES, value 0: a map was taken, and the second
+ *          picture subsumes the first;
+ *          ZUVAROPY_OUTCOME_NO, value 0: a refutation was taken, and it does
+ *          not; or
+ *          ZUVAROPY_OUTCOME_REFUSAL, in this order:
+ *          question 1, input ZUVAROPY_INPUT_BUFFER, if work_len is below
+ *          ZUVAROPY_WORK_BYTES;
+ *          question 2 to 13, input ZUVAROPY_INPUT_FIRST, as zuvaropy_validate;
+ *          question 2 to 13, input ZUVAROPY_INPUT_SECOND, likewise;
+ *          question 14, input ZUVAROPY_INPUT_FIRST, as zuvaropy_normalize;
+ *          question 14, input ZUVAROPY_INPUT_SECOND, likewise;
+ *          question 16, input ZUVAROPY_INPUT_EVIDENCE, if the evidence is
+ *          neither a map of as many images as the second normal table has rows
+ *          nor a refutation of 1 to ZUVAROPY_MAX_INDIVIDUALS individuals, or
+ *          goes on after its end field;
+ *          question 17 to 20, input ZUVAROPY_INPUT_EVIDENCE, of a map: all of
+ *          one row before the next row;
+ *          question 21 to 23, input ZUVAROPY_INPUT_EVIDENCE, of a refutation:
+ *          21 of all individuals before 22.
+ *
+ * The images of a map are rows of the first normal table. An impossible image
+ * takes a row with any names and mark (19). The edge from a row's parent agrees
+ * (20) if an edge of the same kind and role leads from the parent's image to
+ * the row's, or if the parent's image is impossible and is the row's image too.
+ * Several rows may have one image.
+ *
+ * In a refutation, an individual is an instance of a row that is not impossible
+ * if it has all wanted names and no excluded one, if for each existential
+ * restriction it reaches an instance of it by its role, and if for each value
+ * restriction all that it reaches by its role are instances of it.
+ *
+ * Any bytes of any length may be given as the pictures and as the evidence; the
+ * work space may hold anything beforehand. It must not overlap any other
+ * buffer; the others may overlap. The call takes about 30 KB of stack. Its time
+ * grows at most as the individuals times the rows of both normal tables.
+ */
+uint64_t zuvaropy_verify(const uint8_t *first, size_t first_len, const uint8_t *second, size_t second_len,
+                         const uint8_t *evidence, size_t evidence_len, uint8_t *work, size_t work_len);
+#define zuvaropy_verify(first, first_len, second, second_len, evidence, evidence_len, work, work_len) \
+    zuvaropy_verify(zuvaropy_lent(first), (first_len), zuvaropy_lent(second), (second_len), zuvaropy_lent(evidence), \
+                    (evidence_len), zuvaropy_lent_writable(work), (work_len))
 
 #ifdef __cplusplus
 }

@@ -1,5 +1,5 @@
 #!/bin/sh
-# Writes the sample pictures: sh samples/make.sh [FOLDER], by default beside this script.
+# Writes the sample pictures and evidence: sh samples/make.sh [FOLDER], by default beside this script.
 set -eu
 folder=${1:-$(dirname "$0")}
 mkdir -p "$folder"
@@ -21,6 +21,21 @@ row() {
 
 end() {
     bytes 47 0 0
+}
+
+# map IMAGE..: the image of each row of the second normal table.
+map() {
+    bytes 65 0 $((2 * $#))
+    for image; do
+        bytes 0 "$image"
+    done
+}
+
+# individual PARENT ROLE NAMES: the names that hold, added up by weight.
+individual() {
+    bytes 66 0 11
+    bytes 0 "$1" "$2"
+    bytes 0 0 0 0 0 0 0 "$3"
 }
 
 root=0 some=1 all=2              # kinds
@@ -63,9 +78,36 @@ none() {
     row 0 $some $child 0 $doctor 0
 }
 
+r=8              # a role
+three=8 five=32  # names 3 and 5, by weight
+
+# A successor by r with both names, and a successor with each.
+both() {
+    row 0 $root 0 0 0 0
+    row 0 $some $r 0 $((three + five)) 0
+}
+each() {
+    row 0 $root 0 0 0 0
+    row 0 $some $r 0 $three 0
+    row 0 $some $r 0 $five 0
+}
+
+# An individual that reaches one with each name, but none with both.
+apart() {
+    individual 0 0 0
+    individual 0 $r $three
+    individual 0 $r $five
+}
+
 { family; end; } >"$folder/family.pic"
 { row 0 $root 0 0 0 0; end; } >"$folder/top.pic"     # what everything is an instance of
 { none; end; } >"$folder/none.pic"                   # what nothing is an instance of
 { family; bytes 16 0 21 0 1 2; } >"$folder/cut.pic"  # a sixth row, cut off
 { chain 13; end; } >"$folder/deep.pic"               # one edge more than allowed
 { spread; end; } >"$folder/spread.pic"               # one merged row more than allowed
+{ both; end; } >"$folder/both.pic"
+{ each; end; } >"$folder/each.pic"
+
+{ map 0; end; } >"$folder/top.map"            # top subsumes everything
+{ map 0 1 1; end; } >"$folder/both-each.map"  # each subsumes both: both names are at one row
+{ apart; end; } >"$folder/each-both.ref"      # both does not subsume each

@@ -1,16 +1,10 @@
 #include "normal_reference.h"
 
 #include "reference.h"
+#include "rows.h"
 
 #include <stdbool.h>
 #include <string.h>
-
-/* A row of the picture. */
-struct row {
-    unsigned int parent, kind, role;
-    bool marked;
-    uint64_t wanted, excluded;
-};
 
 static struct row rows[ZUVAROPY_MAX_ROWS];
 static unsigned int row_count;
@@ -27,34 +21,6 @@ struct node {
 
 static struct node nodes[ZUVAROPY_MAX_ROWS];
 static unsigned int node_count;
-
-/* Reading */
-
-static uint64_t number(const uint8_t *bytes, unsigned int count)
-{
-    uint64_t n = 0;
-
-    while (count-- > 0)
-        n = n * 256 + *bytes++;
-    return n;
-}
-
-static void read_rows(const uint8_t *file, unsigned int count)
-{
-    unsigned int i;
-
-    row_count = count;
-    for (i = 0; i < count; i++) {
-        const uint8_t *value = file + (size_t)i * ZUVAROPY_ROW_BYTES + ZUVAROPY_HEAD_BYTES;
-
-        rows[i].parent = (unsigned int)number(value + ZUVAROPY_PARENT_AT, ZUVAROPY_PARENT_BYTES);
-        rows[i].kind = value[ZUVAROPY_KIND_AT];
-        rows[i].role = value[ZUVAROPY_ROLE_AT];
-        rows[i].marked = value[ZUVAROPY_IMPOSSIBLE_AT] == 1;
-        rows[i].wanted = number(value + ZUVAROPY_WANTED_AT, ZUVAROPY_NAME_SET_BYTES);
-        rows[i].excluded = number(value + ZUVAROPY_EXCLUDED_AT, ZUVAROPY_NAME_SET_BYTES);
-    }
-}
 
 /* Merging */
 
@@ -73,7 +39,7 @@ static void take_labels(struct node *node)
         if (node->stands_for[i]) {
             node->wanted |= rows[i].wanted;
             node->excluded |= rows[i].excluded;
-            node->marked |= rows[i].marked;
+            node->marked |= rows[i].impossible == 1;
         }
 }
 
@@ -252,7 +218,8 @@ void normal_reference(struct normal_reference *result, const uint8_t *file, size
     result->length = 0;
     if (read.question != 0)
         return;
-    read_rows(file, read.rows);
+    row_count = read.rows;
+    rows_read(rows, file, row_count);
     node_count = 0;
     if (!merge(0, ZUVAROPY_KIND_ROOT, 0, root)) {
         result->question = ZUVAROPY_QUESTION_MERGED;

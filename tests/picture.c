@@ -138,6 +138,46 @@ void picture_damage(struct picture *p, unsigned int row, unsigned int question)
     }
 }
 
+void picture_refused(struct picture *p, unsigned int question)
+{
+    unsigned int i;
+
+    picture_chain(p, ZUVAROPY_MAX_DEPTH);
+    picture_row(p, 0, ZUVAROPY_KIND_EXISTS, 1);
+    picture_end(p);
+    switch (question) {
+    case 0:
+        break;
+    case ZUVAROPY_QUESTION_HEAD:
+        p->length--;
+        break;
+    case ZUVAROPY_QUESTION_ROWS:
+        picture_fan(p, ZUVAROPY_MAX_ROWS + 1);
+        picture_end(p);
+        break;
+    case ZUVAROPY_QUESTION_VALUE:
+        p->length -= 1 + ZUVAROPY_HEAD_BYTES;
+        break;
+    case ZUVAROPY_QUESTION_NONEMPTY:
+        picture_clear(p);
+        picture_end(p);
+        break;
+    case ZUVAROPY_QUESTION_STOP:
+        picture_byte(p, 0);
+        break;
+    case ZUVAROPY_QUESTION_MERGED:
+        picture_chain(p, 1);
+        for (i = 0; i < 15; i++) {
+            picture_row(p, 0, ZUVAROPY_KIND_EXISTS, 1);
+            picture_row(p, 1, ZUVAROPY_KIND_EXISTS, 1);
+        }
+        picture_end(p);
+        break;
+    default:
+        picture_damage(p, ZUVAROPY_MAX_DEPTH + 1, question);
+    }
+}
+
 uint64_t picture_validate(const struct picture *p)
 {
     static uint8_t before[PICTURE_ROOM];

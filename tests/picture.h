@@ -41,6 +41,9 @@ uint8_t *picture_value(struct picture *p, unsigned int row);
  * to 13. For 12 the picture must begin with a chain as deep as it may be. */
 void picture_damage(struct picture *p, unsigned int row, unsigned int question);
 
+/* A whole picture that this question refuses, of 2 to 14; for 0, one that none refuses. */
+void picture_refused(struct picture *p, unsigned int question);
+
 /* The call, with a check that it left the input as it was. */
 uint64_t picture_validate(const struct picture *p);
 

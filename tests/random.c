@@ -84,3 +84,48 @@ void random_damage(struct picture *p)
         break;
     }
 }
+
+struct shape random_shape(void)
+{
+    static const unsigned int rows[] = {3, 6, 6, 12, 12, 24, 40, ZUVAROPY_MAX_ROWS + 4};
+    static const unsigned int roles[] = {1, 2, 3, 8, ZUVAROPY_ROLES};
+    static const unsigned int names[] = {1, 4, 64, 64};
+    static const unsigned int impossible[] = {0, 0, 0, 1, 12};
+    struct shape s;
+
+    s.rows = 1 + random_below(rows[random_below(8)]);
+    s.roles = roles[random_below(5)];
+    s.depth = ZUVAROPY_MAX_DEPTH + (random_below(16) == 0);
+    s.all = 1 + random_below(7);
+    s.deep = random_below(8);
+    s.names = names[random_below(4)];
+    s.named = random_below(9);
+    s.impossible = impossible[random_below(5)];
+    return s;
+}
+
+static uint64_t random_names(const struct shape *s)
+{
+    return random_below(8) < s->named ? UINT64_C(1) << random_below(s->names) : 0;
+}
+
+void random_picture(struct picture *p, const struct shape *s)
+{
+    unsigned int depth[ZUVAROPY_MAX_ROWS + 4] = {0};
+    unsigned int row, parent;
+    uint64_t names;
+
+    picture_clear(p);
+    picture_row(p, 0, ZUVAROPY_KIND_ROOT, 0);
+    for (row = 1; row < s->rows; row++) {
+        parent = random_below(8) < s->deep ? row - 1 : random_below(row);
+        if (depth[parent] == s->depth)
+            parent = 0;
+        depth[row] = depth[parent] + 1;
+        picture_row(p, parent, random_below(8) < s->all ? ZUVAROPY_KIND_FORALL : ZUVAROPY_KIND_EXISTS,
+                    random_below(s->roles));
+        names = random_names(s);
+        picture_label(p, names, random_names(s), random_below(64) < s->impossible);
+    }
+    picture_end(p);
+}

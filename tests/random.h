@@ -1,6 +1,6 @@
 /*
- * Numbers at random, and pictures damaged at random. The seed is fixed: every
- * run of a test program makes the same ones.
+ * Numbers at random, and pictures made and damaged at random. The seed is
+ * fixed: every run of a test program makes the same ones.
  */
 
 #ifndef RANDOM_H
@@ -10,6 +10,21 @@
 
 uint64_t random_next(void);
 unsigned int random_below(unsigned int limit);
+
+/* What the rows of a picture are drawn from. */
+struct shape {
+    unsigned int rows, roles;
+    unsigned int depth;      /* edges from the root, at most */
+    unsigned int all;        /* of 8 successors so many are of kind all */
+    unsigned int deep;       /* of 8 rows so many hang from the row before */
+    unsigned int names;      /* names in use */
+    unsigned int named;      /* of 8 rows so many have one of them wanted, and as many excluded */
+    unsigned int impossible; /* of 64 rows so many are */
+};
+
+/* Mostly small, at times as large as allowed and a little larger. */
+struct shape random_shape(void);
+void random_picture(struct picture *p, const struct shape *s);
 
 /* One change to a file that is not empty. */
 void random_damage(struct picture *p);

@@ -66,7 +66,8 @@ program() {
 }
 
 # What the tests share is built once. Without a part of it no test builds, and each says so.
-for source in check picture random pages reference normal_reference normalize second_unit; do
+for source in check picture rows random pages reference normal_reference normalize evidence verify_reference witness \
+    verify second_unit; do
     $c -c "tests/$source.c" -o "$out/$source.o"
 done
 for source in tests/test_*.c; do
@@ -88,18 +89,20 @@ symbols() {
 
 # The samples are what their script makes, and each example says of them what it should.
 samples() {
-    sh samples/make.sh "$out/samples" && diff -r -x make.sh -x '*.stdout' samples "$out/samples"
+    sh samples/make.sh "$out/samples" && diff -r -x '*.sh' -x '*.stdout' samples "$out/samples"
 }
+# example NAME COMMAND..: COMMAND runs it on the samples.
 example() {
-    $c "examples/$1.c" examples/input.c "$archive" -o "$out/$1" && "$out/$1" samples/*.pic >"$out/$1.log" &&
-        diff "samples/$1.stdout" "$out/$1.log"
+    example=$1
+    shift
+    $c "examples/$example.c" examples/input.c "$archive" -o "$out/$example" && "$@" >"$out/$example.log" &&
+        diff "samples/$example.stdout" "$out/$example.log"
 }
 
-# The program of the README builds and runs as it stands there.
+# readme N PRINTED: the README's Nth program builds as it stands there, and prints this.
 readme() {
-    sed -n '/^```c$/,/^```$/p' README.md | sed '/^```/d' >"$out/readme.c"
-    $c "$out/readme.c" "$archive" -o "$out/readme" && printed=$("$out/readme") &&
-        [ "$printed" = 'a picture of 2 rows' ]
+    awk -v n="$1" '/^```c$/ { at++; next } /^```$/ { if (at == n) exit } at == n' README.md >"$out/readme$1.c"
+    $c "$out/readme$1.c" "$archive" -o "$out/readme$1" && printed=$("$out/readme$1") && [ "$printed" = "$2" ]
 }
 
 if command -v nm >/dev/null; then
@@ -108,9 +111,12 @@ else
     echo "symbols: not tested, no nm"
 fi
 one samples samples
-one 'example validate' example validate
-one 'example normalize' example normalize
-one readme readme
+one 'example validate' example validate "$out/validate" samples/*.pic
+one 'example normalize' example normalize "$out/normalize" samples/*.pic
+one 'example verify' example verify sh samples/verify.sh "$out/verify"
+one 'readme, validate' readme 1 'a picture of 2 rows'
+one 'readme, verify' readme 2 'map taken
+refutation taken'
 
 echo "$failed" >"$out/failed"
 echo "C tests: $passed passed, $failed failed"

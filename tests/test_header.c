@@ -15,6 +15,9 @@
 #if ZUVAROPY_MAX_PICTURE_BYTES != 6147 || ZUVAROPY_TAG_ROW != 0x10 || ZUVAROPY_TAG_END != 0x2F
 #error "a size or a tag is not that of the format"
 #endif
+#if ZUVAROPY_WORK_BYTES != 12294 || ZUVAROPY_MAX_EVIDENCE_BYTES != 46595 || ZUVAROPY_TAG_MAP != 0x41
+#error "a size or a tag is not that of evidence"
+#endif
 
 static void test_sizes(void)
 {
@@ -37,10 +40,31 @@ static void test_sizes(void)
     CHECK(ZUVAROPY_PICTURE_BYTES(1) == 27);
     CHECK(ZUVAROPY_PICTURE_BYTES(1 + 1) == 51);
     CHECK(ZUVAROPY_MAX_PICTURE_BYTES == 6147);
+
+    CHECK(ZUVAROPY_WORK_BYTES == 12294);
+    CHECK(ZUVAROPY_SECOND_TABLE_AT == 6147);
+    CHECK(ZUVAROPY_MAX_INDIVIDUALS == 3328);
+    CHECK(ZUVAROPY_IMAGE_BYTES == 2);
+    CHECK(ZUVAROPY_MAP_BYTES(1) == 8);
+    CHECK(ZUVAROPY_MAP_BYTES(1 + 1) == 10);
+    CHECK(ZUVAROPY_MAP_BYTES(256) == 518);
+    CHECK(ZUVAROPY_INDIVIDUAL_PARENT_AT == 0);
+    CHECK(ZUVAROPY_INDIVIDUAL_ROLE_AT == 2);
+    CHECK(ZUVAROPY_INDIVIDUAL_NAMES_AT == 3);
+    CHECK(ZUVAROPY_INDIVIDUAL_VALUE_BYTES == 11);
+    CHECK(ZUVAROPY_INDIVIDUAL_BYTES == 14);
+    CHECK(ZUVAROPY_REFUTATION_BYTES(1) == 17);
+    CHECK(ZUVAROPY_REFUTATION_BYTES(1 + 1) == 31);
+    CHECK(ZUVAROPY_MAX_EVIDENCE_BYTES == 46595);
 }
 
 static void test_codes(void)
 {
+    CHECK(ZUVAROPY_TAG_ROW == 0x10);
+    CHECK(ZUVAROPY_TAG_END == 0x2F);
+    CHECK(ZUVAROPY_TAG_MAP == 0x41);
+    CHECK(ZUVAROPY_TAG_INDIVIDUAL == 0x42);
+
     CHECK(ZUVAROPY_KIND_ROOT == 0);
     CHECK(ZUVAROPY_KIND_EXISTS == 1);
     CHECK(ZUVAROPY_KIND_FORALL == 2);
@@ -70,6 +94,14 @@ static void test_codes(void)
     CHECK(ZUVAROPY_QUESTION_DEPTH == 12);
     CHECK(ZUVAROPY_QUESTION_IMPOSSIBLE == 13);
     CHECK(ZUVAROPY_QUESTION_MERGED == 14);
+    CHECK(ZUVAROPY_QUESTION_FORM == 16);
+    CHECK(ZUVAROPY_QUESTION_IMAGE == 17);
+    CHECK(ZUVAROPY_QUESTION_ROOT_IMAGE == 18);
+    CHECK(ZUVAROPY_QUESTION_LABEL == 19);
+    CHECK(ZUVAROPY_QUESTION_EDGE == 20);
+    CHECK(ZUVAROPY_QUESTION_INDIVIDUAL == 21);
+    CHECK(ZUVAROPY_QUESTION_INSTANCE == 22);
+    CHECK(ZUVAROPY_QUESTION_REFUTED == 23);
 }
 
 static void test_word(void)
@@ -157,6 +189,41 @@ static void test_normalize(void)
     CHECK(next_result == result + 1);
 }
 
+static uint8_t work[ZUVAROPY_WORK_BYTES];
+
+static void test_verify(void)
+{
+    uint64_t (*function)(const uint8_t *, size_t, const uint8_t *, size_t, const uint8_t *, size_t, uint8_t *, size_t) =
+        zuvaropy_verify;
+    static const uint8_t map[ZUVAROPY_MAP_BYTES(1)] = {ZUVAROPY_TAG_MAP, 0, 2, 0, 0, ZUVAROPY_TAG_END, 0, 0};
+    const size_t length = sizeof bytes, map_length = sizeof map;
+    const uint64_t taken = (uint64_t)1 << 56;
+    const uint64_t no_buffer = (uint64_t)1 << 48, no_second = (uint64_t)2 << 48 | (uint64_t)2 << 40;
+    const uint64_t no_form = (uint64_t)16 << 48 | (uint64_t)3 << 40;
+    const uint8_t *next = bytes, *next_second = bytes, *next_map = map;
+    uint8_t *next_work = work;
+
+    make_picture();
+    CHECK_WORD(zuvaropy_verify(bytes, length, bytes, length, map, map_length, work, sizeof work), taken, 0);
+    CHECK(memcmp(work, bytes, length) == 0);
+    CHECK(memcmp(work + ZUVAROPY_SECOND_TABLE_AT, bytes, length) == 0);
+    CHECK_WORD((zuvaropy_verify)(bytes, length, bytes, length, map, map_length, work, sizeof work), taken, 0);
+    CHECK_WORD(function(bytes, length, bytes, length, map, map_length, work, sizeof work), taken, 0);
+    CHECK_WORD(second_unit_verify(bytes, length, bytes, length, map, map_length, work, sizeof work), taken, 0);
+
+    CHECK_WORD(zuvaropy_verify(bytes, length, bytes, length, map, map_length, NULL, 0), no_buffer, 0);
+    CHECK_WORD(zuvaropy_verify(bytes, length, NULL, 0, map, map_length, work, sizeof work), no_second, 0);
+    CHECK_WORD(zuvaropy_verify(bytes, length, bytes, length, NULL, 0, work, sizeof work), no_form, 0);
+    CHECK_WORD(zuvaropy_verify(NULL, 0, NULL, 0, NULL, 0, NULL, 0), no_buffer, 0);
+
+    /* The macro evaluates its arguments once. */
+    zuvaropy_verify(next++, 0, next_second++, 0, next_map++, 0, next_work++, 0);
+    CHECK(next == bytes + 1);
+    CHECK(next_second == bytes + 1);
+    CHECK(next_map == map + 1);
+    CHECK(next_work == work + 1);
+}
+
 int main(void)
 {
     test_sizes();
@@ -165,6 +232,7 @@ int main(void)
     test_lent();
     test_validate();
     test_normalize();
+    test_verify();
 #ifdef __cplusplus
     return check_summary("header as C++");
 #else

@@ -5,26 +5,13 @@
 #include "check.h"
 #include "normalize.h"
 #include "picture.h"
+#include "rows.h"
 
 #define R 8
 #define S 9
-#define NAME(n) (UINT64_C(1) << (n))
 
 static struct picture p;
 static struct picture table;
-
-/* Rows by kind, with their wanted and excluded names; _NONE: impossible. */
-#define ROOT(wanted, excluded) {0, ZUVAROPY_KIND_ROOT, 0, 0, wanted, excluded}
-#define SOME(parent, role, wanted, excluded) {parent, ZUVAROPY_KIND_EXISTS, role, 0, wanted, excluded}
-#define ALL(parent, role, wanted, excluded) {parent, ZUVAROPY_KIND_FORALL, role, 0, wanted, excluded}
-#define ROOT_NONE {0, ZUVAROPY_KIND_ROOT, 0, 1, 0, 0}
-#define SOME_NONE(parent, role) {parent, ZUVAROPY_KIND_EXISTS, role, 1, 0, 0}
-#define ALL_NONE(parent, role) {parent, ZUVAROPY_KIND_FORALL, role, 1, 0, 0}
-
-struct row {
-    unsigned int parent, kind, role, impossible;
-    uint64_t wanted, excluded;
-};
 
 static const struct {
     unsigned int rows, normal_rows;
@@ -131,23 +118,13 @@ static const struct {
       SOME(0, 31, NAME(63) | NAME(32) | NAME(31) | NAME(0), NAME(62) | NAME(1))}},
 };
 
-static void make_rows(struct picture *to, const struct row *row, unsigned int count)
-{
-    picture_clear(to);
-    for (; count-- > 0; row++) {
-        picture_row(to, row->parent, row->kind, row->role);
-        picture_label(to, row->wanted, row->excluded, row->impossible);
-    }
-    picture_end(to);
-}
-
 static void test_cases(void)
 {
     unsigned int i;
 
     for (i = 0; i < sizeof cases / sizeof cases[0]; i++) {
-        make_rows(&p, cases[i].row, cases[i].rows);
-        make_rows(&table, cases[i].normal, cases[i].normal_rows);
+        rows_picture(&p, cases[i].row, cases[i].rows);
+        rows_picture(&table, cases[i].normal, cases[i].normal_rows);
         normalize_check_fills(&p, word_length(cases[i].normal_rows), table.bytes, i);
     }
 }

@@ -17,47 +17,6 @@ static struct picture p;
 static struct normal_reference reference;
 static struct pages input, output;
 
-/* A picture that this question refuses, of 2 to 14; for 0, one with an answer. */
-static void make_refused(unsigned int question)
-{
-    unsigned int i;
-
-    picture_chain(&p, ZUVAROPY_MAX_DEPTH);
-    picture_row(&p, 0, ZUVAROPY_KIND_EXISTS, 1);
-    picture_end(&p);
-    switch (question) {
-    case 0:
-        break;
-    case ZUVAROPY_QUESTION_HEAD:
-        p.length--;
-        break;
-    case ZUVAROPY_QUESTION_ROWS:
-        picture_fan(&p, ZUVAROPY_MAX_ROWS + 1);
-        picture_end(&p);
-        break;
-    case ZUVAROPY_QUESTION_VALUE:
-        p.length -= 1 + ZUVAROPY_HEAD_BYTES;
-        break;
-    case ZUVAROPY_QUESTION_NONEMPTY:
-        picture_clear(&p);
-        picture_end(&p);
-        break;
-    case ZUVAROPY_QUESTION_STOP:
-        picture_byte(&p, 0);
-        break;
-    case ZUVAROPY_QUESTION_MERGED:
-        picture_chain(&p, 1);
-        for (i = 0; i < 15; i++) {
-            picture_row(&p, 0, ZUVAROPY_KIND_EXISTS, 1);
-            picture_row(&p, 1, ZUVAROPY_KIND_EXISTS, 1);
-        }
-        picture_end(&p);
-        break;
-    default:
-        picture_damage(&p, ZUVAROPY_MAX_DEPTH + 1, question);
-    }
-}
-
 static uint64_t wanted_word(void)
 {
     normal_reference(&reference, p.bytes, p.length);
@@ -70,11 +29,11 @@ static void test_short_results(void)
     unsigned int question;
     size_t room;
 
-    make_refused(0);
+    picture_refused(&p, 0);
     for (room = 0; room < TABLE; room++)
         normalize_check(&p, room, normalize_fills[room % 3], word_short(), NULL, room);
     for (question = ZUVAROPY_QUESTION_HEAD; question <= ZUVAROPY_QUESTION_MERGED; question++) {
-        make_refused(question);
+        picture_refused(&p, question);
         for (room = 0; room < TABLE; room += 1 + room / 3)
             normalize_check(&p, room, 0xA5, word_short(), NULL, room);
         normalize_check(&p, TABLE - 1, 0xA5, word_short(), NULL, TABLE - 1);
@@ -102,7 +61,7 @@ static void test_refusals(void)
     unsigned int question;
 
     for (question = ZUVAROPY_QUESTION_HEAD; question <= ZUVAROPY_QUESTION_MERGED; question++) {
-        make_refused(question);
+        picture_refused(&p, question);
         CHECK_WORD(wanted_word(), word_refusal(question), question);
         normalize_check_fills(&p, word_refusal(question), NULL, question);
         normalize_check(&p, NORMALIZE_ROOM, 0xA5, word_refusal(question), NULL, question);
@@ -143,7 +102,7 @@ static void test_bounds(void)
 
     for (question = 0; question <= ZUVAROPY_QUESTION_MERGED; question++)
         if (question != ZUVAROPY_QUESTION_BUFFER) {
-            make_refused(question);
+            picture_refused(&p, question);
             check_bounds(TABLE);
             check_bounds(TABLE + 1);
             check_bounds(TABLE - 1);
@@ -171,7 +130,7 @@ static void test_nothing(void)
 {
     static uint8_t result[TABLE];
 
-    make_refused(0);
+    picture_refused(&p, 0);
     CHECK_WORD(zuvaropy_normalize(p.bytes, p.length, NULL, 0), word_short(), 0);
     CHECK_WORD(zuvaropy_normalize(NULL, 0, NULL, 0), word_short(), 1);
     CHECK_WORD(zuvaropy_normalize(NULL, 0, result, sizeof result), word_refusal(2), 2);

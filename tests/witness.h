@@ -1,0 +1,16 @@
+/*
+ * A maker of good evidence: for any two pictures the map with the lowest
+ * images or, if there is no map, a refutation.
+ */
+
+#ifndef WITNESS_H
+#define WITNESS_H
+
+#include "evidence.h"
+
+#include <stdbool.h>
+
+/* For the pictures of the inputs, which must have normal tables. True if it is a map. */
+bool witness_make(struct inputs *in);
+
+#endif
