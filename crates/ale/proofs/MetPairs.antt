@@ -1,5 +1,6 @@
--- How much work the test of fitting is. A row and an individual meet only where their parents have met, so each pair at most once: even where every
--- restriction goes through all individuals below, whatever their roles, there are no more meetings than rows times individuals.
+-- A bound on the pairs that meet when a tree of individuals is tested against a tree, restriction by restriction. A row and an individual meet only where
+-- their parents have met, so each pair at most once: even where every restriction goes through all individuals below, whatever their roles, there are no
+-- more meetings than rows times individuals.
 --   met, metAll, total   the meetings of a tree with a tree of individuals, nothing being decided early
 --   met-bound            at most as many as pairs
 use Prim.Native.Nat.{_*_, _+_, _≤_, suc, ℕ}

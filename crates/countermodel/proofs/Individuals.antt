@@ -1,6 +1,7 @@
 -- Laws of the individuals of a refutation file.
 --   within-most                        at no limits are there more individuals
 --   count-whole                        the individuals that are counted stand whole in the file
+--   form-asks                          what the form of a refutation asks
 --   form-individuals, form-length      16: the individuals that a refutation has; the end field follows them, and the file stops
 --   individual-parent                  21: a parent stands before its individual
 --   individual-role                    and its role is one of the format's
@@ -10,7 +11,7 @@
 use Prim.Native.Nat.{_+_, _<_, _^_, _≤_, ℕ}
 use borrow.Author.Tests.{eq-eqb, eqb-false, eqb-true, leb-true, ltb-true, ne-eqb}
 use lib.Dec.{T, eqb, eqb-refl, eqb→eq, leb, ltb}
-use lib.ListN.{getD, length}
+use lib.ListN.{length}
 use mathlib.Core.Bool.{Bool, _&&_, true}
 use mathlib.Core.List.{List}
 use mathlib.Core.Logic.{_↔_}
@@ -24,9 +25,10 @@ use Rattle.ale.specs.Table.{KnownRoles, ParentsFirst, successorOf}
 use Rattle.table.proofs.Bools.{both, by-test}
 use Rattle.table.proofs.Numbers.{be-bound}
 use Rattle.table.proofs.Ranges.{each-at}
+use Rattle.table.proofs.Rows.{ends-length}
 use Rattle.table.specs.Bounds.{Bounded, benchLimits}
 use Rattle.table.specs.Fields.{endsAt}
-use Rattle.table.specs.Layout.{endLength, endSize, endTag, lengthAt, nameBytes, nameCount, numberSize, roles}
+use Rattle.table.specs.Layout.{endSize, nameBytes, nameCount, roles}
 use Rattle.table.specs.NameSet.{has}
 use Rattle.table.specs.Number.{Bytes, be}
 use Rattle.table.specs.Pick.{pick}
@@ -45,34 +47,31 @@ unfolding individualCount
 count-whole e = omega arith
 
 module _ (limits : Limits) (e : List ℕ) where
-  asks : refutationForm limits e ≡ true → (ltb 0 (individualCount e) ≡ true) × (leb (individualCount e) (individualsWithin limits) ≡ true) × (endsAt e (individualPlace (individualCount e) 0) ≡ true)
+  pub form-asks : refutationForm limits e ≡ true → (0 < individualCount e) × (individualCount e ≤ individualsWithin limits) × (endsAt e (individualPlace (individualCount e) 0) ≡ true) × (each (individualHead e) (individualCount e) 0 ≡ true)
   unfolding refutationForm
-  asks h =
+  form-asks h =
       let n = individualCount e in
       let heads = each (individualHead e) n 0 in
       let ends = endsAt e (individualPlace n 0) in
       let few = leb n (individualsWithin limits) in
       let (a, r) = both (ltb 0 n) (few && (ends && heads)) h in
       let (b, s) = both few (ends && heads) r in
-      (a, b, both ends heads s .0)
+      let (c, d) = both ends heads s in
+      (ltb-true 0 n a, leb-true n (individualsWithin limits) b, c, d)
 
   pub form-individuals : Bounded limits → refutationForm limits e ≡ true → Individuals e (individualCount e)
   form-individuals bound h =
       let n = individualCount e in
-      let (a, b, _) = asks h in
+      let (a, b, _, _) = form-asks h in
       record {
         counted = refl;
-        some = ltb-true 0 n a;
-        most = omega (arith, leb-true n (individualsWithin limits) b, within-most limits bound);
+        some = a;
+        most = omega (arith, b, within-most limits bound);
         whole = count-whole e;
       }
 
   pub form-length : refutationForm limits e ≡ true → length e ≡ individualPlace (individualCount e) endSize
-  unfolding endsAt
-  form-length h =
-      let at = individualPlace (individualCount e) 0 in
-      let (l, _) = both (eqb (length e) (at + endSize)) (eqb (getD e at 0) endTag && eqb (be e (at + lengthAt) numberSize) endLength) (asks h .2) in
-      omega (arith, eqb-true (length e) (at + endSize) l)
+  form-length h = omega (arith, ends-length e (individualPlace (individualCount e) 0) (form-asks h .2))
 
 -- ---- 21
 

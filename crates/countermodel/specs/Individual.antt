@@ -27,10 +27,10 @@ use Rattle.ale.specs.PictureSignature.{pictureSignature}
 use Rattle.ale.specs.Table.{Table}
 use Rattle.ale.specs.Tree.{exists}
 use Rattle.meaning.specs.Meaning.{setAt}
-use Rattle.countermodel.specs.Layout.{individualCount, individualLength, individualPlace, individualSize, individualTag, individualsWithin, mostIndividuals, namesAt, reachedAt, roleAt}
+use Rattle.countermodel.specs.Layout.{individualCount, individualLength, individualPlace, individualSize, individualTag, individualsWithin, mostIndividuals, namesAt, parentAt, roleAt}
 
 abbrev pub individualParent : List ℕ → ℕ → ℕ
-individualParent e k = be e (individualPlace k reachedAt) numberSize
+individualParent e k = be e (individualPlace k parentAt) numberSize
 
 abbrev pub individualRole : List ℕ → ℕ → ℕ
 individualRole e k = getD e (individualPlace k roleAt) 0

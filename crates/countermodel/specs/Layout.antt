@@ -1,6 +1,6 @@
 -- 01, "A refutation file: 1 to 3,328 fields, tag 42, length 11: parent (2), role (1), names that hold (8); then the end field."
 --   individualTag                      the tag
---   reachedAt, roleAt, namesAt         where the parts of a field begin, from its tag on
+--   parentAt, roleAt, namesAt         where the parts of a field begin, from its tag on
 --   individualSize, individualLength   a whole field, and the length that its head says
 --   individualPlace                    where a part of an individual's field stands
 --   individualCount                    the individuals of a file; the end field is shorter than a field
@@ -16,11 +16,11 @@ use Rattle.ale.specs.Countermodel.{maxIndividuals}
 abbrev pub individualTag : ℕ
 individualTag = 0x42
 
-abbrev pub reachedAt : ℕ
-reachedAt = headSize
+abbrev pub parentAt : ℕ
+parentAt = headSize
 
 abbrev pub roleAt : ℕ
-roleAt = reachedAt + numberSize
+roleAt = parentAt + numberSize
 
 abbrev pub namesAt : ℕ
 namesAt = roleAt + 1

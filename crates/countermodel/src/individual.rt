@@ -3,7 +3,7 @@ use crate::layout::INDIVIDUAL_LENGTH;
 use crate::layout::INDIVIDUAL_SIZE;
 use crate::layout::INDIVIDUAL_TAG;
 use crate::layout::NAMES_AT;
-use crate::layout::REACHED_AT;
+use crate::layout::PARENT_AT;
 use crate::layout::ROLE_AT;
 use crate::layout::individual_place;
 use crate::layout::individuals_within;
@@ -43,7 +43,7 @@ pub fn parent(e: &[u8], k: usize) -> usize
     requires { ⌜ HasIndividual (now e) k ⌝ }
     ensures { λ r. ⌜ (r ≡ individualParent (now (e .entry)) k) × (r < 256 ^ numberSize) ⌝ }
 {
-    load16(e, individual_place(k, REACHED_AT)) as usize
+    load16(e, individual_place(k, PARENT_AT)) as usize
 }
 
 pub fn role(e: &[u8], k: usize) -> u8

@@ -13,9 +13,9 @@ ghost use Rattle.countermodel.specs.Layout.{«individualPlace», individ
 pub const INDIVIDUAL_TAG: u8 = 0x42;
 
 // Where the parts of an individual's field begin, from its tag on.
-pub const REACHED_AT: usize = HEAD_SIZE;
+pub const PARENT_AT: usize = HEAD_SIZE;
 
-pub const ROLE_AT: usize = REACHED_AT + NUMBER_SIZE;
+pub const ROLE_AT: usize = PARENT_AT + NUMBER_SIZE;
 
 pub const NAMES_AT: usize = ROLE_AT + 1;
 

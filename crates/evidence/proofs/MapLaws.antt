@@ -1,5 +1,4 @@
 -- Questions 17 to 20 of a map, by what the code reads.
---   ends-size                                      the end field says how long a file is
 --   image-whole                                    where a file has the form of a map, every image stands whole
 --   label-marked, label-unmarked, label-names      19, by the mark of the image, the mark of the row, and the names
 --   kind-same, role-same                           kinds and roles by their bytes
@@ -26,6 +25,7 @@ use Rattle.ale.specs.Tree.{Kind, exists, forAll, sameKind}
 use Rattle.meaning.specs.Meaning.{kindAt, pictureTable}
 use Rattle.picture.specs.View.{rowCount, viewOf}
 use Rattle.table.proofs.Bools.{both}
+use Rattle.table.proofs.Rows.{ends-length}
 use Rattle.table.specs.Fields.{endsAt, excludedOf, impossibleOf, kindOf, parentOf, roleOf, wantedOf}
 use Rattle.table.specs.Layout.{endSize, kindExists, kindForAll, nameCount, numberSize}
 use Rattle.table.specs.NameSet.{subset}
@@ -34,14 +34,11 @@ use Rattle.evidence.specs.Form.{imageOf, «imagePlace», mapForm}
 use Rattle.evidence.specs.Map.{ask, inOrder, mapAsked, rowAsked}
 use Rattle.evidence.specs.declared.asked.Asked.{Asked}
 use Rattle.evidence.specs.declared.asked.Asked.the-variants.{No, Yes}
-
-pub ends-size : (e : List ℕ) (at : ℕ) → endsAt e at ≡ true → length e ≡ at + endSize
-unfolding endsAt
-ends-size e at h = eqb-true (length e) (at + endSize) (both (eqb (length e) (at + endSize)) _ h .0)
+use Rattle.evidence.proofs.Asking.{ask-yes}
 
 pub image-whole : (e : List ℕ) (m i : ℕ) → mapForm m e ≡ true → i < m → imagePlace i + numberSize ≤ length e
 unfolding mapForm
-image-whole e m i form l = omega (arith, ends-size e (imagePlace m) (both (endsAt e (imagePlace m)) _ form .0))
+image-whole e m i form l = omega (arith, ends-length e (imagePlace m) (both (endsAt e (imagePlace m)) _ form .0))
 
 -- names and marks
 
@@ -126,10 +123,6 @@ module _ (first second : List ℕ) (i u v : ℕ) where
 
 -- the questions in order
 
-passed : (q : ℕ) (b : Bool) (next : Asked) → ask q b next ≡ Yes → (b ≡ true) × (next ≡ Yes)
-passed q true next h = (refl, h)
-passed q false next h = absurd (let z : _≡_ {A = ℕ} 0 1 = cc in omega arith)
-
 pub row-read : (first second e : List ℕ) (n i v u : ℕ) (label edge : Bool) → n ≡ rowCount first → v ≡ imageOf e i → u ≡ imageOf e (parentOf second i) →
     label ≡ labelAgrees pictureSignature (pictureTable first) (pictureTable second) i v →
     edge ≡ edgeAgrees pictureSignature (pictureTable first) (pictureTable second) i u v →
@@ -146,7 +139,7 @@ module _ (first second e : List ℕ) where
 
   image-inside : (n i : ℕ) → n ≡ rowCount first → rowAsked (pictureTable first) (pictureTable second) (imageOf e) i ≡ Yes → imageOf e i < n
   unfolding rowAsked viewOf
-  image-inside n i counted h = rw counted (ltb-true (imageOf e i) (rowCount first) (passed 17 (ltb (imageOf e i) (rowCount first)) _ h .0))
+  image-inside n i counted h = rw counted (ltb-true (imageOf e i) (rowCount first) (ask-yes 17 (ltb (imageOf e i) (rowCount first)) _ h .0))
 
   pub images-on : (n i : ℕ) (answer : Asked) → n ≡ rowCount first → answer ≡ rowAsked (pictureTable first) (pictureTable second) (imageOf e) i → answer ≡ Yes →
       ((k : ℕ) → k < i → imageOf e k < n) → (k : ℕ) → k < i + 1 → imageOf e k < n

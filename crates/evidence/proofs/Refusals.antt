@@ -1,7 +1,7 @@
--- Which refusals the fifth call gives: a number of paper 01 below 24, of an input that is no card.
---   Numbered, Named            questions whose numbers are below 24; an input that is no card
---   verify-refusal             so is every refusal of the call
-use Prim.Native.Nat.{ℕ, zero, suc, _+_, _<_}
+-- Which refusals the fifth call gives: 1 names the buffer, 2 to 14 one of the two pictures, 16 to 23 the evidence; there is no other.
+--   Concerns          the numbers by which an input can be refused
+--   verify-refusal    so is every refusal of the call
+use Prim.Native.Nat.{ℕ, zero, suc, _+_, _≤_}
 use native.Mathlib.Omega.{arith}
 use lib.Dec.{eqb, leb, ltb}
 use mathlib.Core.Bool.{Bool, false, not, true}
@@ -29,7 +29,7 @@ use Rattle.countermodel.specs.Individual.{individualOk}
 use Rattle.countermodel.specs.Layout.{individualCount}
 use Rattle.countermodel.specs.Model.{modelTree}
 use Rattle.workspace.proofs.Preparations.{tablesOf}
-use Rattle.workspace.specs.Prepare.{afterReading, fourteen, prepareAnswer, workSize}
+use Rattle.workspace.specs.Prepare.{afterReading, mergedAsked, prepareAnswer, workSize}
 use Rattle.workspace.specs.declared.prepare.Prepared.{Prepared}
 use Rattle.workspace.specs.declared.prepare.Prepared.the-variants as prepared
 use Rattle.evidence.specs.Call.{evidenceAnswer, onPair, verifyAnswer}
@@ -43,25 +43,25 @@ use Rattle.evidence.specs.declared.check.Verified.the-variants.{MapTaken
 use Rattle.evidence.specs.declared.form.Form.{Form}
 use Rattle.evidence.specs.declared.form.Form.the-variants.{Map, Neither, Refutation}
 
+abbrev pub Concerns : Input → ℕ → Type 0
+Concerns Buffer number = number ≡ 1
+Concerns First number = (2 ≤ number) × (number ≤ 14)
+Concerns Second number = (2 ≤ number) × (number ≤ 14)
+Concerns Evidence number = (16 ≤ number) × (number ≤ 23)
+Concerns Book number = ⊥
+Concerns (Card n) number = ⊥
+
+abbrev Known : Refusal → Type 0
+Known r = Concerns (r .input) (r .number)
+
 abbrev Numbered : Asked → Type 0
 Numbered Yes = Unit
-Numbered (No number) = number < 24
+Numbered (No number) = Concerns Evidence number
 
-abbrev pub Named : Input → Type 0
-Named Buffer = Unit
-Named First = Unit
-Named Second = Unit
-Named Evidence = Unit
-Named Book = Unit
-Named (Card n) = ⊥
-
-abbrev pub Known : Refusal → Type 0
-Known r = (r .number < 24) × Named (r .input)
-
-abbrev Sound : Verified → Type 0
-Sound MapTaken = Unit
-Sound RefutationTaken = Unit
-Sound (Refused r) = Known r
+abbrev Answers : Verified → Type 0
+Answers MapTaken = Unit
+Answers RefutationTaken = Unit
+Answers (Refused r) = Known r
 
 abbrev Prepares : Prepared → Type 0
 Prepares (prepared.Tables p) = Unit
@@ -69,7 +69,7 @@ Prepares (prepared.Refused r) = Known r
 
 -- ---- 16 to 23
 
-ask-numbered : (number : ℕ) (b : Bool) (next : Asked) → number < 24 → Numbered next → Numbered (ask number b next)
+ask-numbered : (number : ℕ) (b : Bool) (next : Asked) → Concerns Evidence number → Numbered next → Numbered (ask number b next)
 ask-numbered number true next l h = h
 ask-numbered number false next l h = l
 
@@ -89,10 +89,10 @@ row-numbered p q im i =
     let rooted = pick (eqb i 0) (eqb (im i) 0) true in
     let labelled = labelAgrees pictureSignature p q i (im i) in
     let joined = pick (eqb i 0) true (edgeAgrees pictureSignature p q i (im (q .parent i)) (im i)) in
-    ask-numbered 17 within (ask 18 rooted (ask 19 labelled (ask 20 joined Yes))) (omega arith)
-    (ask-numbered 18 rooted (ask 19 labelled (ask 20 joined Yes)) (omega arith)
-    (ask-numbered 19 labelled (ask 20 joined Yes) (omega arith)
-    (ask-numbered 20 joined Yes (omega arith) tt)))
+    ask-numbered 17 within (ask 18 rooted (ask 19 labelled (ask 20 joined Yes))) (omega arith, omega arith)
+    (ask-numbered 18 rooted (ask 19 labelled (ask 20 joined Yes)) (omega arith, omega arith)
+    (ask-numbered 19 labelled (ask 20 joined Yes) (omega arith, omega arith)
+    (ask-numbered 20 joined Yes (omega arith, omega arith) tt)))
 
 map-numbered : (p q : Table pictureSignature) (im : ℕ → ℕ) → Numbered (mapAsked p q im)
 unfolding mapAsked
@@ -104,52 +104,54 @@ refutation-numbered t u e =
     let passing = each (individualOk e) (individualCount e) 0 in
     let fits = fitsTest pictureSignature t (modelTree e 0) in
     let fails = not (fitsTest pictureSignature u (modelTree e 0)) in
-    ask-numbered 21 passing (ask 22 fits (ask 23 fails Yes)) (omega arith)
-    (ask-numbered 22 fits (ask 23 fails Yes) (omega arith)
-    (ask-numbered 23 fails Yes (omega arith) tt))
+    ask-numbered 21 passing (ask 22 fits (ask 23 fails Yes)) (omega arith, omega arith)
+    (ask-numbered 22 fits (ask 23 fails Yes) (omega arith, omega arith)
+    (ask-numbered 23 fails Yes (omega arith, omega arith) tt))
 
-asked-sound : (taken : Verified) → Sound taken → (a : Asked) → Numbered a → Sound (onAsked taken a)
-asked-sound taken h Yes k = h
-asked-sound taken h (No number) k = (k, tt)
+asked-answers : (taken : Verified) → Answers taken → (a : Asked) → Numbered a → Answers (onAsked taken a)
+asked-answers taken h Yes k = h
+asked-answers taken h (No number) k = k
 
-form-sound : (p q : Table pictureSignature) (t u : Tree pictureSignature) (e : List ℕ) (f : Form) → Sound (onForm p q t u e f)
-form-sound p q t u e Map = asked-sound MapTaken tt (mapAsked p q (imageOf e)) (map-numbered p q (imageOf e))
-form-sound p q t u e Refutation = asked-sound RefutationTaken tt (refutationAsked t u e) (refutation-numbered t u e)
-form-sound p q t u e Neither = (omega arith, tt)
+form-answers : (p q : Table pictureSignature) (t u : Tree pictureSignature) (e : List ℕ) (f : Form) → Answers (onForm p q t u e f)
+form-answers p q t u e Map = asked-answers MapTaken tt (mapAsked p q (imageOf e)) (map-numbered p q (imageOf e))
+form-answers p q t u e Refutation = asked-answers RefutationTaken tt (refutationAsked t u e) (refutation-numbered t u e)
+form-answers p q t u e Neither = (omega arith, omega arith)
 
 -- ---- 1 to 14
 
 module _ (limits : Limits) (first second : List ℕ) where
-  fourteen-known : (b c : Bool) (p : Prepared) → Prepares p → Prepares (pick b (pick c p (prepared.Refused (tooMany Second))) (prepared.Refused (tooMany First)))
-  fourteen-known true true p h = h
-  fourteen-known true false p h = (omega arith, tt)
-  fourteen-known false c p h = (omega arith, tt)
+  merged-known : (b c : Bool) (p : Prepared) → Prepares p → Prepares (pick b (pick c p (prepared.Refused (tooMany Second))) (prepared.Refused (tooMany First)))
+  merged-known true true p h = h
+  merged-known true false p h = (omega arith, omega arith)
+  merged-known false c p h = (omega arith, omega arith)
 
-  reading-known : (s : List ℕ) (input : Input) → Named input → (r : Reading) → readingOf limits s ≡ r → (next : Prepared) → Prepares next → Prepares (afterReading (answered input r) next)
+  reading-known : (s : List ℕ) (input : Input) → ((q : ℕ) → 2 ≤ q → q ≤ 14 → Concerns input q) → (r : Reading) → readingOf limits s ≡ r → (next : Prepared) → Prepares next → Prepares (afterReading (answered input r) next)
   reading-known s input named (reading.Rows n) e next h = h
-  reading-known s input named (reading.Failed q) e next h = (omega (arith, reading-number limits s q e .most), named)
+  reading-known s input named (reading.Failed q) e next h =
+      let asked = reading-number limits s q e in
+      named q (asked .least) (omega (arith, asked .most))
 
   prepare-known : Prepares (prepareAnswer limits first second)
-  unfolding prepareAnswer fourteen answerOf
+  unfolding prepareAnswer mergedAsked answerOf
   prepare-known =
-      let tables = fourteen limits first second in
+      let tables = mergedAsked limits first second in
       let few = leb (mergedCount limits first) (limits .rows) in
       let few-second = leb (mergedCount limits second) (limits .rows) in
-      reading-known first First tt (readingOf limits first) refl (afterReading (answerOf limits Second second) tables)
-      (reading-known second Second tt (readingOf limits second) refl tables (fourteen-known few few-second (prepared.Tables (tablesOf limits first second)) tt))
+      reading-known first First (λ q a b. (a, b)) (readingOf limits first) refl (afterReading (answerOf limits Second second) tables)
+      (reading-known second Second (λ q a b. (a, b)) (readingOf limits second) refl tables (merged-known few few-second (prepared.Tables (tablesOf limits first second)) tt))
 
 module _ (limits : Limits) (first second e : List ℕ) (room : ℕ) where
-  pair-sound : (a : Prepared) → Prepares a → Sound (onPair a (evidenceAnswer limits first second e))
+  pair-answers : (a : Prepared) → Prepares a → Answers (onPair a (evidenceAnswer limits first second e))
   unfolding evidenceAnswer checkAnswer
-  pair-sound (prepared.Tables p) h =
-      form-sound (pictureTable (normalFile limits first)) (pictureTable (normalFile limits second)) (pictureTree limits first) (pictureTree limits second) e
+  pair-answers (prepared.Tables p) h =
+      form-answers (pictureTable (normalFile limits first)) (pictureTable (normalFile limits second)) (pictureTree limits first) (pictureTree limits second) e
       (formOf limits ((pictureTable (normalFile limits second)) .rows) e)
-  pair-sound (prepared.Refused r) h = h
+  pair-answers (prepared.Refused r) h = h
 
-  room-sound : (b : Bool) → Sound (pick b (onPair (prepareAnswer limits first second) (evidenceAnswer limits first second e)) (Refused shortBuffer))
-  room-sound true = pair-sound (prepareAnswer limits first second) (prepare-known limits first second)
-  room-sound false = (omega arith, tt)
+  room-answers : (b : Bool) → Answers (pick b (onPair (prepareAnswer limits first second) (evidenceAnswer limits first second e)) (Refused shortBuffer))
+  room-answers true = pair-answers (prepareAnswer limits first second) (prepare-known limits first second)
+  room-answers false = refl
 
-  pub verify-refusal : (r : Refusal) → verifyAnswer limits first second e room ≡ Refused r → (r .number < 24) × Named (r .input)
+  pub verify-refusal : (r : Refusal) → verifyAnswer limits first second e room ≡ Refused r → Concerns (r .input) (r .number)
   unfolding verifyAnswer
-  verify-refusal r h = subst Sound h (room-sound (leb (workSize limits) room))
+  verify-refusal r h = subst Answers h (room-answers (leb (workSize limits) room))

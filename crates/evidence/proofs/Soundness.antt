@@ -1,6 +1,7 @@
 -- 01, "For such a pair the check answers": which evidence is taken, for arbitrary bytes, and what that shows of the two pictures.
 --   forms-apart         no file has both forms
---   asked-map, asked-refutation          the answer by the form and the questions of it
+--   map-no-refusal, refutation-no-refusal   a refusal is neither answer
+--   asked-map, asked-refutation             the answer by the form and the questions of it
 --   map-taken           "map taken" exactly when the evidence is a map and 17 to 20 are answered yes
 --   refutation-taken    "refutation taken" exactly when it is a refutation and 21 to 23 are
 --   map-sound           a map is taken only if the second covers the first
@@ -8,44 +9,42 @@
 --   one-kind            so not both kinds can be taken
 use Prim.Native.Nat.{ℕ, _*_, _<_}
 use native.Mathlib.Omega.{arith}
-use borrow.Author.Tests.{eqb-true, ltb-true}
-use lib.Dec.{T, eqb, leb, ltb}
+use borrow.Author.Tests.{eqb-true}
+use lib.Dec.{T, eqb}
 use lib.ListN.{getD}
-use mathlib.Core.Bool.{Bool, _&&_, false, not, true}
+use mathlib.Core.Bool.{Bool, _&&_, false, true}
 use mathlib.Core.List.{List}
 use mathlib.Core.Logic.{_↔_}
-use mathlib.Core.Path.{_∙_, _≡_, refl, subst, sym}
-use Rattle.table.proofs.Bools.{both, is-true, true-is}
+use mathlib.Core.Path.{_≡_, refl, subst}
+use Rattle.table.proofs.Bools.{both}
 use Rattle.table.proofs.Ranges.{each-at}
 use Rattle.table.specs.Bounds.{Bounded}
 use Rattle.table.specs.Fields.{endsAt}
 use Rattle.table.specs.Layout.{lengthAt, numberSize}
 use Rattle.table.specs.Number.{be}
 use Rattle.table.specs.Pick.{pick}
-use Rattle.table.specs.Range.{each}
 use Rattle.table.specs.declared.layout.Limits.{Limits}
 use Rattle.ale.proofs.MapExistence.{homomorphism-exists}
 use Rattle.ale.proofs.Subsumption.{subsumption-homomorphism}
 use Rattle.ale.proofs.Tests.{clash, refute}
 use Rattle.ale.specs.Homomorphism.{mapsTo}
-use Rattle.ale.specs.Interpretation.{Subsumed, structureOf}
+use Rattle.ale.specs.Interpretation.{Subsumed}
 use Rattle.ale.specs.ModelCheck.{fitsTest}
 use Rattle.ale.specs.PictureSignature.{pictureSignature}
-use Rattle.ale.specs.Structure.{Fits}
 use Rattle.ale.specs.Table.{Table}
 use Rattle.ale.specs.Tree.{Tree}
-use Rattle.picture.specs.View.{Readable}
+use Rattle.picture.specs.declared.answer.Refusal.{Refusal}
 use Rattle.meaning.proofs.Normals.{normal-readable}
 use Rattle.meaning.proofs.Pictures.{picture-known, picture-parents}
 use Rattle.meaning.specs.Meaning.{pictureTable, pictureTree}
-use Rattle.meaning.specs.NormalTable.{mergedCount, normalFile, normalTreeOf}
-use Rattle.countermodel.proofs.Individuals.{ok-parents}
-use Rattle.countermodel.specs.Individual.{individualHead, individualOk, individuals, refutationForm}
-use Rattle.countermodel.specs.Layout.{individualCount, individualLength, individualPlace, individualTag, individualsWithin}
+use Rattle.meaning.specs.NormalTable.{normalFile, normalTreeOf}
+use Rattle.countermodel.proofs.Individuals.{form-asks, ok-parents}
+use Rattle.countermodel.specs.Individual.{individualHead, individuals, refutationForm}
+use Rattle.countermodel.specs.Layout.{individualCount, individualLength, individualPlace, individualTag}
 use Rattle.countermodel.specs.Model.{modelTree, rowTree}
 use Rattle.workspace.specs.Prepare.{Acceptable}
 use Rattle.evidence.specs.Call.{evidenceAnswer}
-use Rattle.evidence.specs.Check.{checkAnswer, onAsked, onForm, refutationAsked}
+use Rattle.evidence.specs.Check.{checkAnswer, onAsked, onForm, refusalBy, refutationAsked}
 use Rattle.evidence.specs.Form.{formOf, imageOf, imagePlace, mapForm, mapTag}
 use Rattle.evidence.specs.Map.{mapAsked}
 use Rattle.evidence.specs.Taken.{MapOf, RefutationOf}
@@ -53,7 +52,6 @@ use Rattle.evidence.specs.declared.asked.Asked.{Asked}
 use Rattle.evidence.specs.declared.asked.Asked.the-variants.{No, Yes}
 use Rattle.evidence.specs.declared.check.Verified.{Verified}
 use Rattle.evidence.specs.declared.check.Verified.the-variants.{MapTaken, RefutationTaken, Refused}
-use Rattle.evidence.specs.declared.form.Form.{Form}
 use Rattle.evidence.specs.declared.form.Form.the-variants.{Map, Neither, Refutation}
 use Rattle.evidence.proofs.Homomorphisms.{map-yes, yes-map}
 use Rattle.evidence.proofs.NormalTables.{normal-rowTree, normal-some}
@@ -61,26 +59,13 @@ use Rattle.evidence.proofs.Refutations.{question-fits, refutation-yes, 
 
 -- ---- forms
 
-pub form-some : (limits : Limits) (e : List ℕ) → refutationForm limits e ≡ true → 0 < individualCount e
-unfolding refutationForm
-form-some limits e h =
-    ltb-true 0 (individualCount e)
-    (both (ltb 0 (individualCount e)) (leb (individualCount e) (individualsWithin limits) && (endsAt e (individualPlace (individualCount e) 0) && each (individualHead e) (individualCount e) 0)) h .0)
-
 refutation-tag : (limits : Limits) (e : List ℕ) → refutationForm limits e ≡ true → getD e 0 0 ≡ individualTag
-unfolding refutationForm individualHead
+unfolding individualHead
 refutation-tag limits e h =
-    let n = individualCount e in
-    let heads = each (individualHead e) n 0 in
-    let ends = endsAt e (individualPlace n 0) in
-    let few = leb n (individualsWithin limits) in
-    let (a, h₁) = both (ltb 0 n) (few && (ends && heads)) h in
-    let (b, h₂) = both few (ends && heads) h₁ in
-    let (c, h₃) = both ends heads h₂ in
-    let some = ltb-true 0 n a in
+    let (some, few, ends, heads) = form-asks limits e h in
     eqb-true (getD e 0 0) individualTag
     (both (eqb (getD e (individualPlace 0 0) 0) individualTag) (eqb (be e (individualPlace 0 lengthAt) numberSize) individualLength)
-    (each-at (individualHead e) n 0 h₃ 0 (omega arith) (omega arith)) .0)
+    (each-at (individualHead e) (individualCount e) 0 heads 0 (omega arith) (omega arith)) .0)
 
 map-tag : (rows : ℕ) (e : List ℕ) → mapForm rows e ≡ true → getD e 0 0 ≡ mapTag
 unfolding mapForm
@@ -94,34 +79,35 @@ forms-apart limits rows e h k = omega (arith, map-tag rows e h, refutation-tag l
 
 -- ---- the answer
 
-asked-yes : (taken : Verified) → ((number : ℕ) → onAsked taken (No number) ≡ taken → ⊥) → (a : Asked) → onAsked taken a ≡ taken → a ≡ Yes
+-- no refusal is such an answer
+pub map-no-refusal : (r : Refusal) → Refused r ≡ MapTaken → ⊥
+map-no-refusal r h = let z : _≡_ {A = ℕ} 0 1 = cc in omega arith
+
+pub refutation-no-refusal : (r : Refusal) → Refused r ≡ RefutationTaken → ⊥
+refutation-no-refusal r h = let z : _≡_ {A = ℕ} 0 1 = cc in omega arith
+
+asked-yes : (taken : Verified) → ((r : Refusal) → Refused r ≡ taken → ⊥) → (a : Asked) → onAsked taken a ≡ taken → a ≡ Yes
 asked-yes taken other Yes h = refl
-asked-yes taken other (No number) h = absurd (other number h)
-
-refused-map : (number : ℕ) → onAsked MapTaken (No number) ≡ MapTaken → ⊥
-refused-map number h = let z : _≡_ {A = ℕ} 0 1 = cc in omega arith
-
-refused-refutation : (number : ℕ) → onAsked RefutationTaken (No number) ≡ RefutationTaken → ⊥
-refused-refutation number h = let z : _≡_ {A = ℕ} 0 1 = cc in omega arith
+asked-yes taken other (No number) h = absurd (other (refusalBy number) h)
 
 not-map : (a : Asked) → onAsked RefutationTaken a ≡ MapTaken → ⊥
 not-map Yes h = let z : _≡_ {A = ℕ} 0 1 = cc in omega arith
-not-map (No number) h = let z : _≡_ {A = ℕ} 0 1 = cc in omega arith
+not-map (No number) h = map-no-refusal (refusalBy number) h
 
 not-refutation : (a : Asked) → onAsked MapTaken a ≡ RefutationTaken → ⊥
 not-refutation Yes h = let z : _≡_ {A = ℕ} 0 1 = cc in omega arith
-not-refutation (No number) h = let z : _≡_ {A = ℕ} 0 1 = cc in omega arith
+not-refutation (No number) h = refutation-no-refusal (refusalBy number) h
 
 module _ (p q : Table pictureSignature) (t u : Tree pictureSignature) (limits : Limits) (e : List ℕ) where
   by-map : (b c : Bool) → onForm p q t u e (pick b Map (pick c Refutation Neither)) ≡ MapTaken → (b ≡ true) × (mapAsked p q (imageOf e) ≡ Yes)
-  by-map true c h = (refl, asked-yes MapTaken refused-map (mapAsked p q (imageOf e)) h)
+  by-map true c h = (refl, asked-yes MapTaken map-no-refusal (mapAsked p q (imageOf e)) h)
   by-map false true h = absurd (not-map (refutationAsked t u e) h)
-  by-map false false h = absurd (refused-map 16 h)
+  by-map false false h = absurd (map-no-refusal (refusalBy 16) h)
 
   by-refutation : (b c : Bool) → onForm p q t u e (pick b Map (pick c Refutation Neither)) ≡ RefutationTaken → (c ≡ true) × (refutationAsked t u e ≡ Yes)
   by-refutation true c h = absurd (not-refutation (mapAsked p q (imageOf e)) h)
-  by-refutation false true h = (refl, asked-yes RefutationTaken refused-refutation (refutationAsked t u e) h)
-  by-refutation false false h = absurd (not-refutation (No 16) h)
+  by-refutation false true h = (refl, asked-yes RefutationTaken refutation-no-refusal (refutationAsked t u e) h)
+  by-refutation false false h = absurd (refutation-no-refusal (refusalBy 16) h)
 
   pub asked-map : checkAnswer limits p q t u e ≡ MapTaken ↔ ((mapForm (q .rows) e ≡ true) × (mapAsked p q (imageOf e) ≡ Yes))
   unfolding checkAnswer formOf
@@ -163,7 +149,7 @@ module _ (limits : Limits) (first second e : List ℕ) (bounded : Bounded limits
       let (to, from) = asked-refutation p q t u limits e in (
         λ h. let (form, asked) = to h in
             let (passed, fits, fails) = refutation-yes t u e asked in
-            let some = form-some limits e form in
+            let some = form-asks limits e form .0 in
             let up = ok-parents e passed in
             record {
               form = form;

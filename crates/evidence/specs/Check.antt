@@ -1,7 +1,7 @@
 -- 01, questions 16 to 23: the answer for evidence e. p and q are the normal tables, of which a map speaks; t and u the pictures' trees, which individual 0
 -- of a refutation fits or not.
 --   refutationAsked   21 of every individual, then 22, 23
---   refusedBy         the refusal by a question; it names the evidence
+--   refusalBy, refusedBy   the refusal by a question; it names the evidence
 --   onAsked           taken where all is answered yes
 --   onForm            by the form
 --   checkAnswer       16, and then the questions of the form
@@ -15,6 +15,7 @@ use Rattle.ale.specs.PictureSignature.{pictureSignature}
 use Rattle.ale.specs.Table.{Table}
 use Rattle.ale.specs.Tree.{Tree}
 use Rattle.picture.specs.declared.answer.Input.the-variants.{Evidence}
+use Rattle.picture.specs.declared.answer.Refusal.{Refusal}
 use Rattle.countermodel.specs.Individual.{individualOk}
 use Rattle.countermodel.specs.Layout.{individualCount}
 use Rattle.countermodel.specs.Model.{modelTree}
@@ -36,8 +37,11 @@ refutationAsked t u e =
     (ask 23 (not (fitsTest pictureSignature u (modelTree e 0)))
     Yes))
 
+abbrev pub refusalBy : ℕ → Refusal
+refusalBy number = record { number = number; input = Evidence }
+
 abbrev pub refusedBy : ℕ → Verified
-refusedBy number = Refused (record { number = number; input = Evidence })
+refusedBy number = Refused (refusalBy number)
 
 abbrev pub onAsked : Verified → Asked → Verified
 onAsked taken Yes = taken

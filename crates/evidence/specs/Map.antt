@@ -1,5 +1,6 @@
 -- 01, "Map, row by row": questions 17 to 20. p is the first normal table, q the second, im the images of q's rows.
 --   ask        go on with `next` where question number is answered yes; else it is the refusal's number
+--   andThen    one row's questions, and then the rest
 --   rowAsked   17 to 20 of row i
 --   inOrder    of the n rows from i on, in number order, to the first no
 --   mapAsked   of every row

@@ -66,6 +66,7 @@ fn answer(taken: Verified, asked: Asked) -> Verified
     }
 }
 
+// 16, and then the questions of the form.
 pub fn check(first: &[u8], n: usize, second: &[u8], m: usize, limits: Limits, e: &[u8]) -> Verified
     requires { ⌜ (Bounded limits) × ((Checked (now first) n) × (Checked (now second) m)) ⌝ }
     ensures { λ r. ⌜ r ≡ checkIn limits (now (first .entry)) (now (second .entry)) (now (e .entry)) ⌝ }

@@ -1,6 +1,5 @@
 // 16: which of the two forms a file has.
 use countermodel::individual::has_refutation_form;
-use countermodel::layout::INDIVIDUAL_TAG;
 use table::layout::HEAD_SIZE;
 use table::layout::LENGTH_AT;
 use table::layout::Limits;
@@ -53,7 +52,7 @@ fn has_map_form(e: &[u8], rows: usize) -> bool
     }
 }
 
-// No file has both forms: their first tags differ.
+// The form of a file. None has both: their first tags differ.
 pub fn form_of(e: &[u8], rows: usize, limits: Limits) -> Form
     requires { ⌜ (rows ≤ maxRows) × (Bounded limits) ⌝ }
     ensures { λ r. ⌜ r ≡ formOf limits rows (now (e .entry)) ⌝ }

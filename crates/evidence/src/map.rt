@@ -96,6 +96,7 @@ fn row_asked(first: &[u8], n: usize, second: &[u8], m: usize, e: &[u8], i: usize
     Asked::Yes
 }
 
+// 17 to 20 of every row, to the first no.
 pub fn map_asked(first: &[u8], n: usize, second: &[u8], m: usize, e: &[u8]) -> Asked
     requires { ⌜ (Checked (now first) n) × ((Checked (now second) m) × (mapForm m (now e) ≡ true)) ⌝ }
     ensures { λ r. ⌜ r ≡ mapAsked (pictureTable (now (first .entry))) (pictureTable (now (second .entry))) (imageOf (now (e .entry))) ⌝ }

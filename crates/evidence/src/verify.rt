@@ -30,6 +30,7 @@ fn check_in(work: &[u8], pair: Pair, limits: Limits, e: &[u8]) -> Verified
     check(first, n, second, m, limits, e)
 }
 
+// The call: 1; the pair; 16 to 23. Only the pair is written.
 pub fn verify(
     first: &[u8],
     second: &[u8],

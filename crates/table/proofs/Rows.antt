@@ -8,6 +8,7 @@
 --   same-first, same-after                a list begins with its first part, and the rows of its last part come after those before
 --   length-rowOf, length-rowBytes,
 --   length-endBytes                       the sizes of a row and of the end field
+--   ends-length                           where an end field stands a file ends
 --   HoldsRow, held-tag .. held-excluded   a field with the bytes of a row, and what it reads as
 --   held-end-tag, held-end-length         what a field with the bytes of the end field reads as
 --   pushed, ended                         the table d with a row, or with the end field, put at n
@@ -20,19 +21,23 @@
 --   parent-fits, wanted-fits,
 --   excluded-fits                         of a list of bytes the fields fit their widths
 use mathlib.Core.Path.{_≡_, refl, ap, sym, _∙_}
+use mathlib.Core.Bool.{_&&_, true}
 use mathlib.Core.List.{List, [], _++_}
 use Prim.Native.Nat.{ℕ, _+_, _*_, _-_, _^_, _≤_, _<_}
 use native.Mathlib.Nat.{add-assoc, zero-add}
 use native.Mathlib.Decide.{decLt}
 use native.Mathlib.Omega.{arith}
+use borrow.Author.Tests.{eqb-true}
+use lib.Dec.{eqb}
 use lib.ListN.{length, take, getD, List·getD-append}
 use lib.Seq.{getD-take, getD-append-add}
 use Rattle.table.specs.Layout.{numberSize, lengthAt, «place», rowTag, endTag, endLength, endSize, headSize, nameBytes, nameCount, parentAt, kindAt, roleAt, impossibleAt, wantedAt, excludedAt, rowLength, rowSize}
 use Rattle.table.specs.Number.{Bytes, be, beBytes}
 use Rattle.table.specs.NameSet.{setOf}
 use Rattle.table.specs.Put.{put}
-use Rattle.table.specs.Fields.{tagOf, lengthOf, parentOf, kindOf, roleOf, impossibleOf, wantedOf, excludedOf, rowOf, rowBytes, endBytes}
+use Rattle.table.specs.Fields.{tagOf, lengthOf, parentOf, kindOf, roleOf, impossibleOf, wantedOf, excludedOf, rowOf, rowBytes, endBytes, endsAt}
 use Rattle.table.specs.declared.row.Row.{Row}
+use Rattle.table.proofs.Bools.{both}
 use Rattle.table.proofs.Puts.{put-before, put-in, put-after}
 use Rattle.table.proofs.Numbers.{be-same, be-bound, be-inside}
 
@@ -191,6 +196,12 @@ module _ (d : List ℕ) (n : ℕ) (r : Row) (h : place n rowSize ≤ length d) w
   row-other m u = let w = length-rowBytes r in field-other d (rowBytes r) n m (omega arith) (omega arith) u
 
 -- the end field
+
+pub ends-length : (s : List ℕ) (at : ℕ) → endsAt s at ≡ true → length s ≡ at + endSize
+unfolding endsAt
+ends-length s at h =
+    let here = eqb (length s) (at + endSize) in
+    eqb-true (length s) (at + endSize) (both here (eqb (getD s at 0) endTag && eqb (be s (at + lengthAt) numberSize) endLength) h .0)
 
 pub length-endBytes : length endBytes ≡ endSize
 unfolding endBytes beBytes

@@ -39,7 +39,7 @@ use Rattle.table.specs.Bounds.{pictureSize}
 use Rattle.table.specs.Fields.{endBytes}
 use Rattle.table.specs.Put.{put}
 use Rattle.table.specs.declared.layout.Limits.{Limits}
-use Rattle.workspace.specs.Prepare.{Acceptable, afterReading, fourteen, halvesPut, prepareAnswer, tableRows, workSize}
+use Rattle.workspace.specs.Prepare.{Acceptable, afterReading, mergedAsked, halvesPut, prepareAnswer, tableRows, workSize}
 use Rattle.workspace.specs.declared.prepare.Pair.{Pair}
 use Rattle.workspace.specs.declared.prepare.Prepared.the-variants.{Refused, Tables}
 use Rattle.workspace.proofs.Halves.{join-lower, join-past, join-upper, join-whole, length-join}
@@ -50,28 +50,28 @@ module _ (limits : Limits) (first second : List ℕ) where
 
   -- ---- by the tests that are made
 
-  pub many-first : leb (mergedCount limits first) (limits .rows) ≡ false → fourteen limits first second ≡ Refused (tooMany First)
-  unfolding fourteen
+  pub many-first : leb (mergedCount limits first) (limits .rows) ≡ false → mergedAsked limits first second ≡ Refused (tooMany First)
+  unfolding mergedAsked
   many-first e = rw e
 
   module _ (few : leb (mergedCount limits first) (limits .rows) ≡ true) where
-    pub many-second : leb (mergedCount limits second) (limits .rows) ≡ false → fourteen limits first second ≡ Refused (tooMany Second)
-    unfolding fourteen
+    pub many-second : leb (mergedCount limits second) (limits .rows) ≡ false → mergedAsked limits first second ≡ Refused (tooMany Second)
+    unfolding mergedAsked
     many-second e = rw (few, e)
 
-    pub few-both : leb (mergedCount limits second) (limits .rows) ≡ true → fourteen limits first second ≡ Tables tablesOf
-    unfolding fourteen
+    pub few-both : leb (mergedCount limits second) (limits .rows) ≡ true → mergedAsked limits first second ≡ Tables tablesOf
+    unfolding mergedAsked
     few-both e = rw (few, e)
 
   pub prepare-answers : (a b : Answer) → answerOf limits First first ≡ a → answerOf limits Second second ≡ b →
-      prepareAnswer limits first second ≡ afterReading a (afterReading b (fourteen limits first second))
+      prepareAnswer limits first second ≡ afterReading a (afterReading b (mergedAsked limits first second))
   unfolding prepareAnswer
   prepare-answers a b e f = rw (e, f)
 
   -- ---- by the pictures
 
   prepare-readings : (r t : Reading) → readingOf limits first ≡ r → readingOf limits second ≡ t →
-      prepareAnswer limits first second ≡ afterReading (answered First r) (afterReading (answered Second t) (fourteen limits first second))
+      prepareAnswer limits first second ≡ afterReading (answered First r) (afterReading (answered Second t) (mergedAsked limits first second))
   unfolding answerOf
   prepare-readings r t e f = prepare-answers (answered First r) (answered Second t) (ap (answered First) e) (ap (answered Second) f)
 
@@ -85,7 +85,7 @@ module _ (limits : Limits) (first second : List ℕ) where
     prepare-second q e = prepare-readings (reading.Rows (first-readable .rows)) (reading.Failed q) (first-readable .reads) e
 
     module _ (second-readable : Readable limits second) where
-      prepare-readable : prepareAnswer limits first second ≡ fourteen limits first second
+      prepare-readable : prepareAnswer limits first second ≡ mergedAsked limits first second
       prepare-readable =
           prepare-readings (reading.Rows (first-readable .rows)) (reading.Rows (second-readable .rows)) (first-readable .reads) (second-readable .reads)
 
@@ -106,9 +106,9 @@ module _ (limits : Limits) (first second : List ℕ) where
   -- ---- tables are given in no other case
 
   module _ (p : Pair) where
-    fourteen-acceptable : (b c : Bool) → leb (mergedCount limits first) (limits .rows) ≡ b → leb (mergedCount limits second) (limits .rows) ≡ c →
-        Readable limits first → Readable limits second → fourteen limits first second ≡ Tables p → Acceptable limits first second × (p ≡ tablesOf)
-    fourteen-acceptable true true e f r t h =
+    merged-acceptable : (b c : Bool) → leb (mergedCount limits first) (limits .rows) ≡ b → leb (mergedCount limits second) (limits .rows) ≡ c →
+        Readable limits first → Readable limits second → mergedAsked limits first second ≡ Tables p → Acceptable limits first second × (p ≡ tablesOf)
+    merged-acceptable true true e f r t h =
         let same : Tables p ≡ Tables tablesOf = sym h ∙ few-both e f in (
           record {
             first-readable = r;
@@ -118,9 +118,9 @@ module _ (limits : Limits) (first second : List ℕ) where
           },
           cc,
         )
-    fourteen-acceptable true false e f r t h =
+    merged-acceptable true false e f r t h =
         let other : Tables p ≡ Refused (tooMany Second) = sym h ∙ many-second e f in absurd (let z : _≡_ {A = ℕ} 0 1 = cc in omega arith)
-    fourteen-acceptable false c e f r t h =
+    merged-acceptable false c e f r t h =
         let other : Tables p ≡ Refused (tooMany First) = sym h ∙ many-first e in absurd (let z : _≡_ {A = ℕ} 0 1 = cc in omega arith)
 
     readings-acceptable : (r t : Reading) → readingOf limits first ≡ r → readingOf limits second ≡ t →
@@ -128,7 +128,7 @@ module _ (limits : Limits) (first second : List ℕ) where
     readings-acceptable (reading.Rows n) (reading.Rows m) e f h =
         let r : Readable limits first = record { rows = n; reads = e } in
         let t : Readable limits second = record { rows = m; reads = f } in
-        fourteen-acceptable (leb (mergedCount limits first) (limits .rows)) (leb (mergedCount limits second) (limits .rows)) refl refl r t
+        merged-acceptable (leb (mergedCount limits first) (limits .rows)) (leb (mergedCount limits second) (limits .rows)) refl refl r t
         (sym (prepare-readable r t) ∙ h)
     readings-acceptable (reading.Rows n) (reading.Failed q) e f h =
         let other : Tables p ≡ Refused (record { number = q; input = Second }) = sym h ∙ prepare-second (record { rows = n; reads = e }) q f in
@@ -143,7 +143,7 @@ module _ (limits : Limits) (first second : List ℕ) where
 -- ---- two tables that were built within the limit
 
 module _ {limits : Limits} {first second out out₂ end end₂ : List ℕ} {r t : Branch} (built : Built limits first out r end) (built-second : Built limits second out₂ t end₂) (within : r .merged ≤ limits .rows) (within-second : t .merged ≤ limits .rows) where
-  pub built-tables : fourteen limits first second ≡ Tables (record { first = r .table .rows; second = t .table .rows })
+  pub built-tables : mergedAsked limits first second ≡ Tables (record { first = r .table .rows; second = t .table .rows })
   built-tables =
       let first-few : mergedCount limits first ≤ limits .rows = omega (arith, built .count) in
       let second-few : mergedCount limits second ≤ limits .rows = omega (arith, built-second .count) in

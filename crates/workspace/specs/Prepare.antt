@@ -4,7 +4,7 @@
 --   tableRows        the rows of a picture's normal table
 --   afterReading     2 to 13 of an input, and what comes after them
 --   askMerged        14 of an input
---   fourteen         14 of the first, 14 of the second; then the tables' rows
+--   mergedAsked      14 of the first, 14 of the second; then the tables' rows
 --   prepareAnswer    2 to 13 of the first, then of the second, then 14 of both
 --   halvesPut        the first normal table from byte 0, the second from where the second half begins, the rest of each half zero
 --   onPrepared       the work space: written if all were answered yes, else as it was
@@ -48,8 +48,8 @@ afterReading (answer.Refused r) next = Refused r
 abbrev pub askMerged : Limits → Input → List ℕ → Prepared → Prepared
 askMerged limits input s next = pick (leb (mergedCount limits s) (limits .rows)) next (Refused (tooMany input))
 
-unfoldable pub fourteen : Limits → List ℕ → List ℕ → Prepared
-fourteen limits first second =
+unfoldable pub mergedAsked : Limits → List ℕ → List ℕ → Prepared
+mergedAsked limits first second =
     askMerged limits First first
     (askMerged limits Second second
     (Tables (record { first = tableRows limits first; second = tableRows limits second })))
@@ -58,7 +58,7 @@ unfoldable pub prepareAnswer : Limits → List ℕ → List ℕ → Prepared
 prepareAnswer limits first second =
     afterReading (answerOf limits First first)
     (afterReading (answerOf limits Second second)
-    (fourteen limits first second))
+    (mergedAsked limits first second))
 
 unfoldable pub halvesPut : Limits → List ℕ → List ℕ → List ℕ → List ℕ
 halvesPut limits first second work = put work 0 (halfOf limits (normalFile limits first) ++ halfOf limits (normalFile limits second))

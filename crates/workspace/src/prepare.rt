@@ -21,7 +21,7 @@ ghost use Rattle.table.specs.Put.{put};
 ghost use Rattle.normal.specs.Grown.{prefix};
 ghost use Rattle.normal.specs.Half.{halfOf};
 ghost use Rattle.normal.specs.Rows.{Checked};
-ghost use Rattle.workspace.specs.Prepare.{fourteen, halvesPut, onPrepared, prepareAnswer, workSize};
+ghost use Rattle.workspace.specs.Prepare.{mergedAsked, halvesPut, onPrepared, prepareAnswer, workSize};
 
 // The rows of the two normal tables.
 pub struct Pair {
@@ -69,7 +69,7 @@ fn tabulate(
     work: &mut [u8],
 ) -> Prepared
     requires { ⌜ (Checked (now first) n) × ((Checked (now second) m) × ((Bounded limits) × (workSize limits ≤ length (now work)))) ⌝ }
-    ensures { λ r. ⌜ (r ≡ fourteen limits (now (first .entry)) (now (second .entry))) × (now (work .exit) ≡ onPrepared r (halvesPut limits (now (first .entry)) (now (second .entry)) (now (work .entry))) (now (work .entry))) ⌝ }
+    ensures { λ r. ⌜ (r ≡ mergedAsked limits (now (first .entry)) (now (second .entry))) × (now (work .exit) ≡ onPrepared r (halvesPut limits (now (first .entry)) (now (second .entry)) (now (work .entry))) (now (work .entry))) ⌝ }
 {
     let mut scratch = [0u8; SCRATCH];
     let built = build(first, n, limits, &mut scratch);
@@ -96,6 +96,7 @@ fn tabulate(
     })
 }
 
+// 2 to 13 of the first, then of the second, then 14 of both, and the tables.
 pub fn prepare(first: &[u8], second: &[u8], limits: Limits, work: &mut [u8]) -> Prepared
     requires { ⌜ (Bounded limits) × (workSize limits ≤ length (now work)) ⌝ }
     ensures { λ r. ⌜ (r ≡ prepareAnswer limits (now (first .entry)) (now (second .entry))) × (now (work .exit) ≡ onPrepared r (halvesPut limits (now (first .entry)) (now (second .entry)) (now (work .entry))) (now (work .entry))) ⌝ }

@@ -2,5 +2,5 @@
 pub mod Words
 pub mod NormalWords
 pub mod VerifyWords
-pub mod EmptyCovers
+pub mod EmptySubsumes
 pub mod StarredHold

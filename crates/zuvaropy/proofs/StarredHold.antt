@@ -16,30 +16,30 @@ use Rattle.meaning.specs.NormalTable.{mergedCount, mergedTree, normalFile, norm
 use Rattle.normal.specs.Call.{normalizeAnswer, normalizeResult}
 use Rattle.countermodel.specs.Individual.{individualHead, individualOk, refutationForm}
 use Rattle.countermodel.specs.Layout.{individualCount}
-use Rattle.workspace.specs.Prepare.{fourteen, prepareAnswer}
+use Rattle.workspace.specs.Prepare.{mergedAsked, prepareAnswer}
 use Rattle.evidence.specs.Call.{evidenceAnswer, verifyAnswer}
 use Rattle.evidence.specs.Check.{checkAnswer, refutationAsked}
 use Rattle.evidence.specs.Form.{formOf, mapForm}
 use Rattle.evidence.specs.Map.{inOrder, mapAsked, rowAsked}
 use Rattle.zuvaropy.specs.Calls.{normalizeBuffer, normalizeWord, verifyWord}
-use Rattle.zuvaropy.specs.Starred.{AllHold, Holds, allFive, alone, covers, coversNot, noneReached, oneEach, room, someBoth, someEach, someReached, starred, toBoth, toMarked}
+use Rattle.zuvaropy.specs.Starred.{AllHold, Holds, allFive, alone, noneReached, oneEach, room, someBoth, someEach, someReached, starred, subsumes, subsumesNot, toBoth, toMarked}
 use Rattle.zuvaropy.specs.Word.{outcomeNo, outcomeYes, valueWord}
-use Rattle.zuvaropy.proofs.EmptyCovers.{empty-covers}
-use Rattle.zuvaropy.proofs.VerifyWords.{verify-map-covers, verify-refutation-not}
+use Rattle.zuvaropy.proofs.EmptySubsumes.{empty-subsumes}
+use Rattle.zuvaropy.proofs.VerifyWords.{verify-map-subsumed, verify-refutation-not}
 
 -- a word that says so shows what the two pictures mean
 module _ (first second e : List ℕ) where
-  shown : verifyWord first second e room ≡ valueWord outcomeYes 0 → Holds (covers first second e)
-  shown w = (w, verify-map-covers first second e room (omega (arith, w)))
+  shown : verifyWord first second e room ≡ valueWord outcomeYes 0 → Holds (subsumes first second e)
+  shown w = (w, verify-map-subsumed first second e room (omega (arith, w)))
 
-  shown-not : verifyWord first second e room ≡ valueWord outcomeNo 0 → Holds (coversNot first second e)
+  shown-not : verifyWord first second e room ≡ valueWord outcomeNo 0 → Holds (subsumesNot first second e)
   shown-not w = (w, verify-refutation-not first second e room (omega (arith, w)))
 
 pub starred-hold : AllHold starred
 unfolding be beBytes rowOf endBytes endsAt put depthIn depth tagOk lengthFor kindOk roleOk parentOk valueField rowField endField fieldAt scanFrom readingOf answerOf rowCount viewOf mergedTree mergedCount normalTreeOf normalFile normalizeAnswer normalizeResult normalizeWord normalizeBuffer
-    each individualCount individualHead refutationForm individualOk mapForm formOf rowAsked inOrder mapAsked refutationAsked checkAnswer evidenceAnswer fourteen prepareAnswer verifyAnswer verifyWord
+    each individualCount individualHead refutationForm individualOk mapForm formOf rowAsked inOrder mapAsked refutationAsked checkAnswer evidenceAnswer mergedAsked prepareAnswer verifyAnswer verifyWord
 starred-hold = (
-  empty-covers,
+  empty-subsumes,
   (
     (refl, refl),
     (

@@ -10,7 +10,7 @@
 --   verify-map, map-verify        the word says "map taken" exactly when the evidence is a map of the pair and 17 to 20 are answered yes,
 --   verify-refutation,
 --   refutation-verify             and "refutation taken" exactly when it is a refutation and 21 to 23 are
---   verify-map-covers,
+--   verify-map-subsumed,
 --   verify-refutation-not         so a map is taken only if the second covers the first, a refutation only if it does not
 --   verify-past, verify-kept      bytes past the two halves keep their contents, whatever the answer; so does the work space's length
 use Prim.Native.Nat.{ℕ, _<_, _≤_}
@@ -33,8 +33,8 @@ use Rattle.normal.specs.Half.{halfOf}
 use Rattle.workspace.proofs.Preparations.{halves-same, prepare-first, prepare-many-first, prepare-many-second, prepare-second}
 use Rattle.workspace.specs.Prepare.{Acceptable, halvesPut, prepareAnswer, workSize}
 use Rattle.workspace.specs.declared.prepare.Prepared.the-variants as prepared
-use Rattle.evidence.proofs.Refusals.{Named, verify-refusal}
-use Rattle.evidence.proofs.Soundness.{map-sound, map-taken, refutation-sound, refutation-taken}
+use Rattle.evidence.proofs.Refusals.{Concerns, verify-refusal}
+use Rattle.evidence.proofs.Soundness.{map-no-refusal, map-sound, map-taken, refutation-no-refusal, refutation-sound, refutation-taken}
 use Rattle.evidence.proofs.Verifications.{acceptable-verify, acceptable-work, refused-verify, refused-work, short-verify, short-work, verify-taken, work-kept, work-past}
 use Rattle.evidence.specs.Call.{evidenceAnswer, verifyAnswer}
 use Rattle.evidence.specs.Taken.{MapOf, RefutationOf}
@@ -46,14 +46,6 @@ use Rattle.zuvaropy.proofs.Words.{outcome, refusal-outcome, refused}
 
 bench : Bounded benchLimits
 bench = (omega arith, omega arith)
-
-named-card : (i : Input) → Named i → cardOf i < 256
-named-card Buffer h = omega arith
-named-card First h = omega arith
-named-card Second h = omega arith
-named-card Evidence h = omega arith
-named-card Book h = omega arith
-named-card (Card n) h = absurd h
 
 module _ (first second evidence work : List ℕ) where
   abbrev pub Refuses : ℕ → Input → Type 0
@@ -112,27 +104,29 @@ module _ (first second evidence work : List ℕ) where
 -- ---- what a word shows
 
 module _ (first second evidence : List ℕ) (room : ℕ) where
-  map-word : (v : Verified) → verifyAnswer benchLimits first second evidence room ≡ v → outcome (verifiedWord v) ≡ outcomeYes →
-      verifyAnswer benchLimits first second evidence room ≡ verified.MapTaken
-  map-word verified.MapTaken e h = e
+  -- the word of a refusal has outcome 0
+  number-small : (i : Input) (number : ℕ) → Concerns i number → (number < 256) × (cardOf i < 256)
+  number-small Buffer number h = (omega arith, omega arith)
+  number-small First number (a, b) = (omega arith, omega arith)
+  number-small Second number (a, b) = (omega arith, omega arith)
+  number-small Evidence number (a, b) = (omega arith, omega arith)
+  number-small Book number h = absurd h
+  number-small (Card n) number h = absurd h
+
+  refusal-zero : (r : Refusal) → verifyAnswer benchLimits first second evidence room ≡ verified.Refused r → outcome (refusalWord r) ≡ 0
+  refusal-zero r e =
+      let (number, card) = number-small (r .input) (r .number) (verify-refusal benchLimits first second evidence room r e) in
+      refusal-outcome r number card
+
+  map-word : (v : Verified) → verifyAnswer benchLimits first second evidence room ≡ v → outcome (verifiedWord v) ≡ outcomeYes → v ≡ verified.MapTaken
+  map-word verified.MapTaken e h = refl
   map-word verified.RefutationTaken e h = absurd (omega arith)
-  map-word (verified.Refused r) e h =
-      let (small, named) = verify-refusal benchLimits first second evidence room r e in
-      absurd (omega (arith, h, refusal-outcome r (omega arith) (named-card (r .input) named)))
+  map-word (verified.Refused r) e h = absurd (omega (arith, h, refusal-zero r e))
 
-  refutation-word : (v : Verified) → verifyAnswer benchLimits first second evidence room ≡ v → outcome (verifiedWord v) ≡ outcomeNo →
-      verifyAnswer benchLimits first second evidence room ≡ verified.RefutationTaken
+  refutation-word : (v : Verified) → verifyAnswer benchLimits first second evidence room ≡ v → outcome (verifiedWord v) ≡ outcomeNo → v ≡ verified.RefutationTaken
   refutation-word verified.MapTaken e h = absurd (omega arith)
-  refutation-word verified.RefutationTaken e h = e
-  refutation-word (verified.Refused r) e h =
-      let (small, named) = verify-refusal benchLimits first second evidence room r e in
-      absurd (omega (arith, h, refusal-outcome r (omega arith) (named-card (r .input) named)))
-
-  no-map : (r : Refusal) → verified.Refused r ≡ verified.MapTaken → ⊥
-  no-map r e = let z : _≡_ {A = ℕ} 0 1 = cc in omega arith
-
-  no-refutation : (r : Refusal) → verified.Refused r ≡ verified.RefutationTaken → ⊥
-  no-refutation r e = let z : _≡_ {A = ℕ} 0 1 = cc in omega arith
+  refutation-word verified.RefutationTaken e h = refl
+  refutation-word (verified.Refused r) e h = absurd (omega (arith, h, refusal-zero r e))
 
   -- outcome 1, whatever the bytes: there is room, the pair is acceptable, and the evidence is a map of it
   pub verify-map : outcome (verifyWord first second evidence room) ≡ outcomeYes →
@@ -140,7 +134,7 @@ module _ (first second evidence : List ℕ) (room : ℕ) where
   unfolding verifyWord
   verify-map h =
       let taken = map-word (verifyAnswer benchLimits first second evidence room) refl h in
-      let (enough, pair, answer) = verify-taken benchLimits first second evidence room verified.MapTaken no-map taken in
+      let (enough, pair, answer) = verify-taken benchLimits first second evidence room verified.MapTaken map-no-refusal taken in
       (enough, pair, map-taken benchLimits first second evidence bench pair .0 answer)
 
   pub verify-refutation : outcome (verifyWord first second evidence room) ≡ outcomeNo →
@@ -148,7 +142,7 @@ module _ (first second evidence : List ℕ) (room : ℕ) where
   unfolding verifyWord
   verify-refutation h =
       let taken = refutation-word (verifyAnswer benchLimits first second evidence room) refl h in
-      let (enough, pair, answer) = verify-taken benchLimits first second evidence room verified.RefutationTaken no-refutation taken in
+      let (enough, pair, answer) = verify-taken benchLimits first second evidence room verified.RefutationTaken refutation-no-refusal taken in
       (enough, pair, refutation-taken benchLimits first second evidence bench pair .0 answer)
 
   -- and the reverse
@@ -164,9 +158,9 @@ module _ (first second evidence : List ℕ) (room : ℕ) where
         ap verifiedWord (acceptable-verify benchLimits first second evidence room enough pair ∙ refutation-taken benchLimits first second evidence bench pair .1 m)
 
   -- a map is taken only if the second covers the first, a refutation only if it does not
-  pub verify-map-covers : outcome (verifyWord first second evidence room) ≡ outcomeYes →
+  pub verify-map-subsumed : outcome (verifyWord first second evidence room) ≡ outcomeYes →
       Subsumed pictureSignature (pictureTree benchLimits first) (pictureTree benchLimits second)
-  verify-map-covers h =
+  verify-map-subsumed h =
       let (enough, pair, m) = verify-map h in
       map-sound benchLimits first second evidence bench pair (map-taken benchLimits first second evidence bench pair .1 m)
 

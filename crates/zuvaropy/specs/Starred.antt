@@ -8,9 +8,10 @@
 --   mapFile, individual         a map by its images; an individual by its parent, its role and the names that hold
 --   refutation                  individuals, and the end field
 --   lent                        a result buffer of the length laid down, each byte 255
+--   room                        a work space of the length laid down
 --   Case                        normal: a picture and its normal table
---                               covers: the second covers the first, with a map that the check takes; coversNot: it does not, with a refutation
---                               coversAll: a picture that covers every picture, with one map that the check takes for each
+--                               subsumes: the second covers the first, with a map that the check takes; subsumesNot: it does not, with a refutation
+--                               subsumesAll: a picture that covers every picture, with one map that the check takes for each that passes 14
 --   Holds, AllHold              what a claim says of the calls; that each of a list holds
 --   starred                     the cases
 use Prim.Native.Nat.{ℕ, _*_, _+_, _^_, _≤_}
@@ -89,30 +90,30 @@ lent = replicate (pictureSize benchLimits) 255
 
 pub data Case : Type 0 where
   normal : List ℕ → List ℕ → Case
-  covers : List ℕ → List ℕ → List ℕ → Case
-  coversNot : List ℕ → List ℕ → List ℕ → Case
-  coversAll : List ℕ → List ℕ → Case
+  subsumes : List ℕ → List ℕ → List ℕ → Case
+  subsumesNot : List ℕ → List ℕ → List ℕ → Case
+  subsumesAll : List ℕ → List ℕ → Case
 
 abbrev pub room : ℕ
 room = workSize benchLimits
 
 -- normal: the word has the table's length; the buffer holds the table, and past it what was lent
--- covers, coversNot: the word says that the map, or the refutation, is taken, and it is so by the meaning of the two pictures
--- coversAll: so for every picture that passes 2 to 14
+-- subsumes, subsumesNot: the word says that the map, or the refutation, is taken, and it is so by the meaning of the two pictures
+-- subsumesAll: so of every readable picture; where its merged table has too many rows, the check refuses it by 14
 abbrev pub Holds : Case → Type 0
 Holds (normal first table) =
     (normalizeWord first (length lent) ≡ valueWord outcomeYes (length table))
     × (normalizeBuffer first lent ≡ table ++ drop (length table) lent)
-Holds (covers first second map) =
+Holds (subsumes first second map) =
     (verifyWord first second map room ≡ valueWord outcomeYes 0)
     × Subsumed pictureSignature (pictureTree benchLimits first) (pictureTree benchLimits second)
-Holds (coversNot first second refuting) =
+Holds (subsumesNot first second refuting) =
     (verifyWord first second refuting room ≡ valueWord outcomeNo 0)
     × (Subsumed pictureSignature (pictureTree benchLimits first) (pictureTree benchLimits second) → ⊥)
-Holds (coversAll second map) =
-    (first : List ℕ) → Readable benchLimits first → mergedCount benchLimits first ≤ maxRows →
-    (verifyWord first second map room ≡ valueWord outcomeYes 0)
-    × Subsumed pictureSignature (pictureTree benchLimits first) (pictureTree benchLimits second)
+Holds (subsumesAll second map) =
+    (first : List ℕ) → Readable benchLimits first →
+    Subsumed pictureSignature (pictureTree benchLimits first) (pictureTree benchLimits second)
+    × (mergedCount benchLimits first ≤ maxRows → verifyWord first second map room ≡ valueWord outcomeYes 0)
 
 abbrev pub AllHold : List Case → Type 0
 AllHold [] = Unit {0}
@@ -128,7 +129,7 @@ abbrev pub toRoot : List ℕ
 toRoot = mapFile (0 ∷ [])
 
 abbrev pub k1 : Case
-k1 = coversAll empty toRoot
+k1 = subsumesAll empty toRoot
 
 -- Name 3 wanted and excluded: normal is one marked row.
 abbrev pub k2 : Case
@@ -171,10 +172,10 @@ abbrev pub oneEach : List ℕ
 oneEach = refutation (individual 0 0 [] ∷ individual 0 r (3 ∷ []) ∷ individual 0 r (5 ∷ []) ∷ [])
 
 abbrev pub k7 : Case
-k7 = covers someBoth someEach toBoth
+k7 = subsumes someBoth someEach toBoth
 
 abbrev pub k7-not : Case
-k7-not = coversNot someEach someBoth oneEach
+k7-not = subsumesNot someEach someBoth oneEach
 
 -- all r impossible is covered by all r{5}, not by some r{}.
 abbrev pub noneReached : List ℕ
@@ -193,10 +194,10 @@ abbrev pub alone : List ℕ
 alone = refutation (individual 0 0 [] ∷ [])
 
 abbrev pub k8 : Case
-k8 = covers noneReached allFive toMarked
+k8 = subsumes noneReached allFive toMarked
 
 abbrev pub k8-not : Case
-k8-not = coversNot noneReached someReached alone
+k8-not = subsumesNot noneReached someReached alone
 
 -- all r(some s{1}), some r{2}: 4 rows, normal 5; that table's normal has 6.
 abbrev k12-five : List ℕ

@@ -39,7 +39,7 @@ pub extern "C" fn zuvaropy_normalize(picture: &[u8], result: &mut [u8]) -> u64
     }
 }
 
-// Checks evidence: whether a map or a refutation is taken for two pictures. Their normal tables stand in the work space then.
+// Checks evidence for two pictures: a map taken or a refutation taken. Once 14 is answered yes for both, their normal tables stand in the work space.
 #[no_mangle]
 pub extern "C" fn zuvaropy_verify(
     first: &[u8],
