@@ -4,7 +4,6 @@
 --   follow                   the rows along the links from row j on, of which there are at most so many
 --   OnChain                  a walk along the rows that hang from row c may be at j
 --   chain-first, chain-next  what the walk has ahead: at first all rows that hang from c, then the row it is at and what is ahead of the next
---   chain-end                nothing, at 0
 --   chain-on-first, chain-on-next, chain-rises   it stays on the chain, and goes on to greater rows
 --   children-linked          so the links are followed to the rows that hang from c
 use Prim.Native.Nat.{_+_, _-_, _<_, _≤_, suc, zero, ℕ}
@@ -35,9 +34,6 @@ follow links width (suc n) j = pick (eqb j 0) [] (j ∷ follow links width n (ge
 
 abbrev pub OnChain : (ℕ → ℕ) → ℕ → ℕ → ℕ → Type 0
 OnChain parent rows c j = (j ≡ 0 → ⊥) → (j < rows) × (parent j ≡ c)
-
-pub chain-end : (parent : ℕ → ℕ) (rows c : ℕ) → ahead parent rows c 0 ≡ []
-chain-end parent rows c = refl
 
 module _ (parent : ℕ → ℕ) (rows c : ℕ) where
   -- between a row and the nearest none hangs from c
