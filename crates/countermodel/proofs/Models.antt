@@ -1,9 +1,10 @@
 -- The model check goes along links: what is still to be decided at a row or at an individual of a chain, and one turn of each loop.
 --   refutation-has, checked-has              an individual, a row is there
---   fitsFrom                                 individual i passes what the successors of row w from row c on ask
---   FitsAt                                   it has passed what those before c ask, so these decide
---   fits-start, fits-next, fits-less         before the loop over them, and one turn more, which brings its end nearer
---   fits-unsatisfied, fits-fails, fits-end   where it stops
+--   fits-unsatisfied, fits-satisfied         the label first, and then the successors decide
+--   belowFrom                                individual i passes what the successors of row w from row c on ask
+--   BelowAt                                  it has passed what those before c ask, so these decide
+--   below-start, below-next, below-less      before the loop over them, and one turn more, which brings its end nearer
+--   below-fails, below-end                   where it stops
 --   differs                                  whether an answer is another than `every`, the answer that lets the loop go on
 --   meetsFrom                                of the individuals that i reaches from j on, one decides what successor c asks
 --   MeetsAt                                  none before j has, so these decide
@@ -38,7 +39,7 @@ use Rattle.table.specs.Links.{Linked}
 use Rattle.table.specs.Pick.{pick}
 use Rattle.countermodel.specs.Individual.{HasIndividual, Refutation, individualParent, individualRole, individualTable}
 use Rattle.countermodel.specs.Layout.{mostIndividuals}
-use Rattle.countermodel.specs.Model.{fitsRow, modelTree, reachedFits, reachedForest, rowTree, satisfiesRow}
+use Rattle.countermodel.specs.Model.{belowFits, fitsRow, modelTree, reachedFits, reachedForest, rowTree, satisfiesRow}
 use Rattle.countermodel.proofs.Individuals.{ok-parents}
 
 checked-parents : (t : List ℕ) (rows : ℕ) → Checked t rows → ParentsFirst pictureSignature (pictureTable t)
@@ -61,6 +62,22 @@ chain-less : (parent : ℕ → ℕ) (rows c width : ℕ) (links : List ℕ) → 
 chain-less parent rows c width links linked j z on k e =
     rw e (walk-less rows j (getD links (width + j) 0) z (on z .0) (λ u. let r = chain-rises parent rows c width links linked j z on u in omega arith))
 
+-- ---- 22: the label, and then each successor
+
+module _ (t e reached : List ℕ) (n rows w i : ℕ) (refutation : Refutation e n reached) (checked : Checked t rows) where
+  fits-split : fitsRow t w e i ≡ (satisfiesRow t w e i && belowFits t w e i)
+  unfolding fitsRow satisfiesRow belowFits viewOf
+  fits-split =
+      ap₂ (fitsTest pictureSignature)
+      (whole-step pictureSignature (pictureTable t) (checked-parents t rows checked) w)
+      (whole-step pictureSignature (individualTable e) (refutation-parents e reached n refutation) i)
+
+  pub fits-unsatisfied : (r : Bool) → r ≡ satisfiesRow t w e i → r ≡ false → fitsRow t w e i ≡ false
+  fits-unsatisfied r is s = fits-split ∙ rw (sym is ∙ s)
+
+  pub fits-satisfied : (r b : Bool) → r ≡ satisfiesRow t w e i → r ≡ true → b ≡ belowFits t w e i → fitsRow t w e i ≡ b
+  fits-satisfied r b is s rest = fits-split ∙ rw (sym is ∙ s, rest)
+
 -- ---- along the rows that hang from row w
 
 -- what the rows of a list ask
@@ -68,51 +85,43 @@ abbrev fitsRows : List ℕ → List ℕ → ℕ → List ℕ → Bool
 fitsRows t e i s =
     fitsAllTest pictureSignature (successors pictureSignature (pictureTable t) (rowTree (pictureTable t)) s) (reachedForest e i)
 
-unfoldable pub fitsFrom : List ℕ → ℕ → ℕ → List ℕ → ℕ → ℕ → Bool
-fitsFrom t rows w e i c = fitsRows t e i (ahead (parentOf t) rows w c)
+unfoldable pub belowFrom : List ℕ → ℕ → ℕ → List ℕ → ℕ → ℕ → Bool
+belowFrom t rows w e i c = fitsRows t e i (ahead (parentOf t) rows w c)
 
-pub record FitsAt (t : List ℕ) (rows w : ℕ) (e : List ℕ) (i c : ℕ) : Type 0 where
+pub record BelowAt (t : List ℕ) (rows w : ℕ) (e : List ℕ) (i c : ℕ) : Type 0 where
   pub on : OnChain (parentOf t) rows w c
-  pub rest : fitsRow t w e i ≡ fitsFrom t rows w e i c
+  pub rest : belowFits t w e i ≡ belowFrom t rows w e i c
 
-module _ (t e reached links : List ℕ) (n rows w i : ℕ) (refutation : Refutation e n reached) (checked : Checked t rows)
-    (linked : Linked (parentOf t) rows maxRows links) where
-  -- 22: the label, and then each successor
-  fits-split : w < rows → fitsRow t w e i ≡ (satisfiesRow t w e i && fitsFrom t rows w e i (getD links w 0))
-  unfolding fitsRow satisfiesRow fitsFrom viewOf
-  fits-split l =
-      ap₂ (fitsTest pictureSignature)
-      (whole-step pictureSignature (pictureTable t) (checked-parents t rows checked) w)
-      (whole-step pictureSignature (individualTable e) (refutation-parents e reached n refutation) i)
-      ∙ ap (λ (s : List ℕ). satisfiesRow t w e i && fitsRows t e i s)
+module _ (t e links : List ℕ) (rows w i : ℕ) (checked : Checked t rows) (linked : Linked (parentOf t) rows maxRows links) where
+  below-all : w < rows → belowFits t w e i ≡ belowFrom t rows w e i (getD links w 0)
+  unfolding belowFits belowFrom viewOf
+  below-all l =
+      ap (fitsRows t e i)
       (ap (λ m. filterBelow (childOf (parentOf t) w) m) (sym (checked .counted)) ∙ chain-first (parentOf t) rows w maxRows links linked l)
 
-  pub fits-unsatisfied : (r : Bool) → w < rows → r ≡ satisfiesRow t w e i → r ≡ false → fitsRow t w e i ≡ false
-  fits-unsatisfied r l is s = fits-split l ∙ rw (sym is ∙ s)
+  pub below-start : (c : ℕ) → w < rows → c ≡ getD links w 0 → BelowAt t rows w e i c
+  below-start c l first =
+      rw first (record { on = chain-on-first (parentOf t) rows w maxRows links linked l; rest = below-all l })
 
-  pub fits-start : (r : Bool) (c : ℕ) → w < rows → r ≡ satisfiesRow t w e i → r ≡ true → c ≡ getD links w 0 → FitsAt t rows w e i c
-  fits-start r c l is s first =
-      rw first (record { on = chain-on-first (parentOf t) rows w maxRows links linked l; rest = fits-split l ∙ rw (sym is ∙ s) })
-
-  module _ (c : ℕ) (z : c ≡ 0 → ⊥) (at : FitsAt t rows w e i c) where
-    fits-turn : fitsFrom t rows w e i c ≡ (reachedFits t c e i && fitsFrom t rows w e i (getD links (maxRows + c) 0))
-    unfolding fitsFrom reachedFits viewOf
-    fits-turn =
+  module _ (c : ℕ) (z : c ≡ 0 → ⊥) (at : BelowAt t rows w e i c) where
+    below-turn : belowFrom t rows w e i c ≡ (reachedFits t c e i && belowFrom t rows w e i (getD links (maxRows + c) 0))
+    unfolding belowFrom reachedFits viewOf
+    below-turn =
         ap (fitsRows t e i) (chain-next (parentOf t) rows w maxRows links linked c z (at .on))
 
-    pub fits-next : (r : Bool) (k : ℕ) → r ≡ reachedFits t c e i → r ≡ true → k ≡ getD links (maxRows + c) 0 → FitsAt t rows w e i k
-    fits-next r k is h next =
-        rw next (record { on = chain-on-next (parentOf t) rows w maxRows links linked c z (at .on); rest = at .rest ∙ fits-turn ∙ rw (sym is ∙ h) })
+    pub below-next : (r : Bool) (k : ℕ) → r ≡ reachedFits t c e i → r ≡ true → k ≡ getD links (maxRows + c) 0 → BelowAt t rows w e i k
+    below-next r k is h next =
+        rw next (record { on = chain-on-next (parentOf t) rows w maxRows links linked c z (at .on); rest = at .rest ∙ below-turn ∙ rw (sym is ∙ h) })
 
-    pub fits-less : (k : ℕ) → k ≡ getD links (maxRows + c) 0 → pick (eqb k 0) 0 (rows + 1 - k) < pick (eqb c 0) 0 (rows + 1 - c)
-    fits-less k next = chain-less (parentOf t) rows w maxRows links linked c z (at .on) k next
+    pub below-less : (k : ℕ) → k ≡ getD links (maxRows + c) 0 → pick (eqb k 0) 0 (rows + 1 - k) < pick (eqb c 0) 0 (rows + 1 - c)
+    below-less k next = chain-less (parentOf t) rows w maxRows links linked c z (at .on) k next
 
-    pub fits-fails : (r : Bool) → r ≡ reachedFits t c e i → r ≡ false → fitsRow t w e i ≡ false
-    fits-fails r is h = at .rest ∙ fits-turn ∙ rw (sym is ∙ h)
+    pub below-fails : (r : Bool) → r ≡ reachedFits t c e i → r ≡ false → belowFits t w e i ≡ false
+    below-fails r is h = at .rest ∙ below-turn ∙ rw (sym is ∙ h)
 
-pub fits-end : (t : List ℕ) (rows w : ℕ) (e : List ℕ) (i c : ℕ) → FitsAt t rows w e i c → c ≡ 0 → fitsRow t w e i ≡ true
-unfolding fitsFrom
-fits-end t rows w e i c at z = at .rest ∙ rw (eq-eqb c 0 z)
+pub below-end : (t : List ℕ) (rows w : ℕ) (e : List ℕ) (i c : ℕ) → BelowAt t rows w e i c → c ≡ 0 → belowFits t w e i ≡ true
+unfolding belowFrom
+below-end t rows w e i c at z = at .rest ∙ rw (eq-eqb c 0 z)
 
 -- ---- along the individuals that individual i reaches
 

@@ -1,18 +1,22 @@
 -- 22 and 23 row by row: whether an individual of the refutation e fits a row of the table t.
 --   rowTree        the tree of a row, with all that hangs from it: no more rows stand below one another than there are
 --   modelTree      the individuals below individual i
+--   RowLabel       a label of the code is that of row w
 --   satisfiesRow   the names that hold of individual i, against the label of row w
 --   fitsRow        individual i fits row w
+--   belowFits      what the successors of row w ask of the individuals that i reaches
 --   reachedFits    what successor c asks of the individuals that i reaches
 use Prim.Native.Nat.{ℕ}
 use mathlib.Core.Bool.{Bool}
 use mathlib.Core.List.{List}
-use Rattle.ale.specs.ModelCheck.{fitsTest, restrictionTest, satisfiesTest}
+use Rattle.ale.specs.ModelCheck.{fitsAllTest, fitsTest, restrictionTest, satisfiesTest}
 use Rattle.ale.specs.PictureSignature.{pictureSignature}
 use Rattle.ale.specs.Signature.{Signature}
 use Rattle.ale.specs.Table.{Table, successorRows, successors, treeOf}
 use Rattle.ale.specs.Tree.{Forest, Tree}
 use Rattle.meaning.specs.Meaning.{pictureTable}
+use Rattle.normal.specs.Labels.{LabelIs}
+use Rattle.normal.specs.declared.label.Label.{Label}
 use Rattle.countermodel.specs.Individual.{individualTable}
 
 abbrev pub rowTree : Table pictureSignature → ℕ → Tree pictureSignature
@@ -21,15 +25,25 @@ rowTree p i = treeOf pictureSignature p (p .rows) i
 abbrev pub modelTree : List ℕ → ℕ → Tree pictureSignature
 modelTree e i = rowTree (individualTable e) i
 
+abbrev pub RowLabel : List ℕ → ℕ → Label → Type 0
+RowLabel t w label = LabelIs label ((pictureTable t) .label w)
+
 unfoldable pub satisfiesRow : List ℕ → ℕ → List ℕ → ℕ → Bool
 satisfiesRow t w e i = satisfiesTest pictureSignature ((pictureTable t) .label w) ((individualTable e) .label i .wanted)
 
 unfoldable pub fitsRow : List ℕ → ℕ → List ℕ → ℕ → Bool
 fitsRow t w e i = fitsTest pictureSignature (rowTree (pictureTable t) w) (modelTree e i)
 
+-- what hangs from a row, as successors
+abbrev pub rowForest : Table pictureSignature → ℕ → Forest pictureSignature
+rowForest p i = successors pictureSignature p (λ j. rowTree p j) (successorRows pictureSignature p i)
+
 -- the individuals that i reaches, as successors
 abbrev pub reachedForest : List ℕ → ℕ → Forest pictureSignature
-reachedForest e i = successors pictureSignature (individualTable e) (λ j. modelTree e j) (successorRows pictureSignature (individualTable e) i)
+reachedForest e i = rowForest (individualTable e) i
+
+unfoldable pub belowFits : List ℕ → ℕ → List ℕ → ℕ → Bool
+belowFits t w e i = fitsAllTest pictureSignature (rowForest (pictureTable t) w) (reachedForest e i)
 
 unfoldable pub reachedFits : List ℕ → ℕ → List ℕ → ℕ → Bool
 reachedFits t c e i =

@@ -4,6 +4,7 @@ use crate::individual::names;
 use crate::individual::role as individual_role;
 use crate::layout::MAX_INDIVIDUALS;
 use crate::links::INDIVIDUAL_LINKS;
+use normal::label::Label;
 use normal::rows::LINKS;
 use normal::rows::fill_links;
 use table::layout::KIND_FOR_ALL;
@@ -14,6 +15,7 @@ use table::row::impossible;
 use table::row::kind;
 use table::row::role;
 use table::row::wanted;
+ghost use mathlib.Core.List.{List};
 ghost use mathlib.Core.Path.{_≡_};
 ghost use Prim.Native.Nat.{ℕ, _<_};
 ghost use Rattle.table.specs.Bounds.{maxRows};
@@ -21,7 +23,7 @@ ghost use Rattle.table.specs.Fields.{HasRow, parentOf};
 ghost use Rattle.table.specs.Links.{Linked};
 ghost use Rattle.normal.specs.Rows.{Checked};
 ghost use Rattle.countermodel.specs.Individual.{HasIndividual, Refutation};
-ghost use Rattle.countermodel.specs.Model.{fitsRow, reachedFits, satisfiesRow};
+ghost use Rattle.countermodel.specs.Model.{RowLabel, belowFits, fitsRow, reachedFits, satisfiesRow};
 
 // A number of the links, with its range.
 fn index(x: u16) -> usize
@@ -30,22 +32,56 @@ fn index(x: u16) -> usize
     x as usize
 }
 
-// The names that hold of an individual, against the label of a row.
-fn satisfies(e: &[u8], i: usize, t: &[u8], w: usize) -> bool
-    requires { ⌜ (HasIndividual (now e) i) × (HasRow (now t) w) ⌝ }
-    ensures { λ r. ⌜ r ≡ satisfiesRow (now (t .entry)) w (now (e .entry)) i ⌝ }
+// The label of row w.
+fn label_at(t: &[u8], w: usize) -> Label
+    requires { ⌜ HasRow (now t) w ⌝ }
+    ensures { λ r. ⌜ RowLabel (now (t .entry)) w r ⌝ }
 {
-    if impossible(t, w) == 1 {
+    let bottom = impossible(t, w) as u64;
+    Label {
+        wanted: wanted(t, w),
+        excluded: excluded(t, w),
+        bottom,
+    }
+}
+
+// The names that hold of an individual, against a label.
+fn satisfies(e: &[u8], i: usize, label: Label) -> bool
+    requires { ⌜ HasIndividual (now e) i ⌝ }
+    ensures { λ r. ⌜ ((t : List ℕ) (w : ℕ) → RowLabel t w label → r ≡ satisfiesRow t w (now (e .entry)) i) ⌝ }
+{
+    if label.bottom == 1 {
         return false;
     }
     let held = names(e, i);
-    let wanted = wanted(t, w);
-    let excluded = excluded(t, w);
+    let wanted = label.wanted;
+    let excluded = label.excluded;
     wanted.subset(held) && !excluded.overlaps(held)
 }
 
-// Whether individual i fits row w.
+// Whether individual i fits row w, whose label is given. Only `restricted` calls it, so it is compiled into the loop there.
 fn fits(
+    e: &[u8],
+    n: usize,
+    reached: &[u16; INDIVIDUAL_LINKS],
+    t: &[u8],
+    rows: usize,
+    links: &[u8; LINKS],
+    label: Label,
+    i: usize,
+    w: usize,
+) -> bool
+    requires { ⌜ (Refutation (now e) n (now reached)) × (((Checked (now t) rows) × (Linked (parentOf (now t)) rows maxRows (now links))) × ((RowLabel (now t) w label) × ((i < n) × (w < rows)))) ⌝ }
+    ensures { λ r. ⌜ r ≡ fitsRow (now (t .entry)) w (now (e .entry)) i ⌝ }
+{
+    if !satisfies(e, i, label) {
+        return false;
+    }
+    below(e, n, reached, t, rows, links, i, w)
+}
+
+// Whether what the successors of row w ask of the individuals that i reaches is so.
+fn below(
     e: &[u8],
     n: usize,
     reached: &[u16; INDIVIDUAL_LINKS],
@@ -56,11 +92,8 @@ fn fits(
     w: usize,
 ) -> bool
     requires { ⌜ (Refutation (now e) n (now reached)) × (((Checked (now t) rows) × (Linked (parentOf (now t)) rows maxRows (now links))) × ((i < n) × (w < rows))) ⌝ }
-    ensures { λ r. ⌜ r ≡ fitsRow (now (t .entry)) w (now (e .entry)) i ⌝ }
+    ensures { λ r. ⌜ r ≡ belowFits (now (t .entry)) w (now (e .entry)) i ⌝ }
 {
-    if !satisfies(e, i, t, w) {
-        return false;
-    }
     let mut c = wide(links[w]) as usize;
     while c != 0 {
         if !restricted(e, n, reached, t, rows, links, i, c) {
@@ -72,6 +105,7 @@ fn fits(
 }
 
 // Whether what successor c asks of the individuals that i reaches by its role is so: one of them fits it, or, of an all-successor, every one.
+// The label of c is read once, and not at all where i reaches none.
 fn restricted(
     e: &[u8],
     n: usize,
@@ -86,11 +120,15 @@ fn restricted(
     ensures { λ r. ⌜ r ≡ reachedFits (now (t .entry)) c (now (e .entry)) i ⌝ }
 {
     let every = kind(t, c) == KIND_FOR_ALL;
-    let by = role(t, c);
     let mut j = index(reached[i]);
+    if j == 0 {
+        return every;
+    }
+    let by = role(t, c);
+    let label = label_at(t, c);
     while j != 0 {
         if individual_role(e, j) == by {
-            if fits(e, n, reached, t, rows, links, j, c) != every {
+            if fits(e, n, reached, t, rows, links, label, j, c) != every {
                 return !every;
             }
         }
@@ -112,5 +150,8 @@ pub fn fits_table(
 {
     let mut links = [0u8; LINKS];
     fill_links(t, rows, &mut links);
-    fits(e, n, reached, t, rows, &links, 0, 0)
+    if !satisfies(e, 0, label_at(t, 0)) {
+        return false;
+    }
+    below(e, n, reached, t, rows, &links, 0, 0)
 }

@@ -1,7 +1,7 @@
 -- A merged row as it is left: isInconsistent, dropped, or with what hangs from it. The tests of the code are those of the theory, over any kind.
 --   grown-node   a row that was written, with what hangs from it, and then left, is one successor more
 use Prim.Native.Nat.{_+_, _<_, _≤_, suc, ℕ}
-use lib.Bits.{and-zero-r, bitAnd}
+use lib.Bits.{bitAnd}
 use lib.Dec.{eqb}
 use lib.ListN.{length}
 use mathlib.Core.Bool.{Bool, _&&_, _||_, false, not, true}
@@ -32,18 +32,14 @@ use Rattle.normal.specs.declared.node.Branch.{Branch}
 use Rattle.normal.specs.declared.node.Edge.{Edge}
 use Rattle.normal.specs.declared.label.Label.{Label}
 use Rattle.normal.proofs.Growth.{entered-length}
-use Rattle.normal.proofs.Tests.{eqb-same}
+use Rattle.table.proofs.NameSets.{subset-none}
 use Rattle.normal.proofs.Prefixes.{prefix-before, prefix-put}
 
 -- ---- the tests
 
--- within the empty set is empty
-within-none : (x : ℕ) → eqb (bitAnd x 0) x ≡ eqb x 0
-within-none x = rw (and-zero-r x) (eqb-same 0 x)
-
 inconsistent-is : (label : Label) (l : tree.Label pictureSignature) (below : Branch) (g : Forest pictureSignature) → LabelIs label l → below .bottom ≡ any pictureSignature (bottomExists pictureSignature) g → isInconsistent label below ≡ inconsistent pictureSignature l g
 inconsistent-is label l below g is e =
-    rw (is .wanted-is, is .excluded-is, is .bottom-is, e, within-none (bitAnd (l .wanted .set) (l .excluded .set))) (or-assoc (l .bottom) _ _)
+    rw (is .wanted-is, is .excluded-is, is .bottom-is, e, subset-none (bitAnd (l .wanted .set) (l .excluded .set))) (or-assoc (l .bottom) _ _)
 
 nil-is : (n : ℕ) (g : Forest pictureSignature) → eqb (n + sizes pictureSignature g) n ≡ isNil pictureSignature g
 nil-is n nil = eq-eqb (n + 0) n (omega arith)
@@ -69,7 +65,7 @@ dropped-is : (b : Branch) (edge : Edge) (label : Label) (l : tree.Label pictureS
 dropped-is b edge label l below g is e possible =
     sym
     (by-kind (eqb (edge .kind) kindForAll) (node l g) (bare label && eqb (below .table .rows) (b .table .rows + 1))
-    (rw (is .wanted-is, is .excluded-is, e, possible, nil-is (b .table .rows + 1) g, within-none (l .wanted .set), within-none (l .excluded .set))
+    (rw (is .wanted-is, is .excluded-is, e, possible, nil-is (b .table .rows + 1) g, subset-none (l .wanted .set), subset-none (l .excluded .set))
     (trivial-is (eqb (l .wanted .set) 0) (eqb (l .excluded .set) 0) (isNil pictureSignature g))))
 
 -- ---- the row as it is left

@@ -5,6 +5,7 @@
 --   set-ext                                                 sets with the same names are equal
 --   subset-has, has-subset                                  a set is within another exactly when the other has its names
 --   subset-not                                              a set that is not within another has a name that the other lacks
+--   subset-none                                             only the set of no name is within it
 --   overlap-has, has-overlap                                sets overlap exactly when some name is in both
 use mathlib.Core.Path.{_≡_, refl, ap, sym, _∙_}
 use mathlib.Core.Bool.{Bool, true, false, not, _&&_, _||_, false≢true, true≢false}
@@ -13,11 +14,12 @@ use native.Mathlib.Nat.{zero-div, lt-of-not-le, lt-of-le-of-lt}
 use native.Mathlib.Decide.{decLt}
 use native.Mathlib.Omega.{arith}
 use lib.Dec.{eqb, ltb}
-use lib.Bits.{bitAnd, or-lt, and-le-l}
+use lib.Bits.{bitAnd, or-lt, and-le-l, and-zero-r}
 use lib.Pow.{ones-sub-lt}
 use borrow.Author.Tests.{lt-ltb, le-ltb, eqb-true, eqb-false, eq-eqb, ne-eqb, not-true}
 use Rattle.table.specs.Layout.{nameCount}
 use Rattle.table.specs.NameSet.{bit, has, none, union, intersection, complement, subset, overlap}
+use Rattle.table.proofs.Bools.{by-test}
 use Rattle.table.proofs.Bits.{pow-above, bit-bound, bit-or, bit-and, bit-below, bit-complement, bits-differ, bit-found, bits-eq}
 
 pub union-below : (a b : ℕ) → a < 2 ^ nameCount → b < 2 ^ nameCount → union a b < 2 ^ nameCount
@@ -99,3 +101,9 @@ overlap-has a b s =
 
 pub has-overlap : (a b n : ℕ) → has a n ≡ true → has b n ≡ true → overlap a b ≡ true
 has-overlap a b n p q = ap not (ne-eqb (bitAnd a b) 0 (λ z. false≢true (sym (has-none n) ∙ ap (λ (x : ℕ). has x n) (sym z) ∙ has-intersection a b n ∙ rw (p, q))))
+
+pub subset-none : (a : ℕ) → subset a none ≡ eqb a 0
+subset-none a =
+    by-test (eqb a 0)
+    (λ e. let z = eqb-true a 0 e in rw (e, z))
+    (λ e. rw (e, and-zero-r a) (ne-eqb 0 a (λ z. eqb-false a 0 e (sym z))))
