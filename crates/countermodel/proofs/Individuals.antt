@@ -25,7 +25,7 @@ use Rattle.ale.specs.Table.{KnownRoles, ParentsFirst, successorOf}
 use Rattle.table.proofs.Bools.{both, by-test}
 use Rattle.table.proofs.Numbers.{be-bound}
 use Rattle.table.proofs.Ranges.{each-at}
-use Rattle.table.proofs.Rows.{ends-length}
+use Rattle.table.proofs.Rows.{ends-parts}
 use Rattle.table.specs.Bounds.{Bounded, benchLimits}
 use Rattle.table.specs.Fields.{endsAt}
 use Rattle.table.specs.Layout.{endSize, nameBytes, nameCount, roles}
@@ -71,7 +71,7 @@ module _ (limits : Limits) (e : List ℕ) where
       }
 
   pub form-length : refutationForm limits e ≡ true → length e ≡ individualPlace (individualCount e) endSize
-  form-length h = omega (arith, ends-length e (individualPlace (individualCount e) 0) (form-asks h .2))
+  form-length h = omega (arith, ends-parts e (individualPlace (individualCount e) 0) (form-asks h .2) .0)
 
 -- ---- 21
 

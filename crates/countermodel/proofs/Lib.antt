@@ -1,5 +1,6 @@
 -- The laws of refutations, by subject.
 pub mod Sizes
 pub mod Individuals
+pub mod Files
 pub mod LabelTests
 pub mod Models

@@ -1,5 +1,6 @@
 -- The laws of evidence, by subject.
 -- questions in their order, and what 17 to 20 and 21 to 23 say
+pub mod Files
 pub mod Asking
 pub mod Homomorphisms
 pub mod Refutations
@@ -12,3 +13,5 @@ pub mod Refusals
 -- the code's tests
 pub mod MapLaws
 pub mod CheckLaws
+-- worked cases, computed
+pub mod EvidenceCases

@@ -25,7 +25,7 @@ use Rattle.ale.specs.Tree.{Kind, exists, forAll, sameKind}
 use Rattle.meaning.specs.Meaning.{kindAt, pictureTable}
 use Rattle.picture.specs.View.{rowCount, viewOf}
 use Rattle.table.proofs.Bools.{both}
-use Rattle.table.proofs.Rows.{ends-length}
+use Rattle.table.proofs.Rows.{ends-parts}
 use Rattle.table.specs.Fields.{endsAt, excludedOf, impossibleOf, kindOf, parentOf, roleOf, wantedOf}
 use Rattle.table.specs.Layout.{endSize, kindExists, kindForAll, nameCount, numberSize}
 use Rattle.table.specs.NameSet.{subset}
@@ -38,7 +38,7 @@ use Rattle.evidence.proofs.Asking.{ask-yes}
 
 pub image-whole : (e : List ℕ) (m i : ℕ) → mapForm m e ≡ true → i < m → imagePlace i + numberSize ≤ length e
 unfolding mapForm
-image-whole e m i form l = omega (arith, ends-length e (imagePlace m) (both (endsAt e (imagePlace m)) _ form .0))
+image-whole e m i form l = omega (arith, ends-parts e (imagePlace m) (both (endsAt e (imagePlace m)) _ form .0) .0)
 
 -- names and marks
 

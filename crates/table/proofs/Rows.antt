@@ -8,7 +8,7 @@
 --   same-first, same-after                a list begins with its first part, and the rows of its last part come after those before
 --   length-rowOf, length-rowBytes,
 --   length-endBytes                       the sizes of a row and of the end field
---   ends-length                           where an end field stands a file ends
+--   ends-parts, parts-ends                a file ends at a place exactly if tag 2F and length 0 stand there, and nothing after them
 --   HoldsRow, held-tag .. held-excluded   a field with the bytes of a row, and what it reads as
 --   held-end-tag, held-end-length         what a field with the bytes of the end field reads as
 --   pushed, ended                         the table d with a row, or with the end field, put at n
@@ -27,7 +27,7 @@ use Prim.Native.Nat.{ℕ, _+_, _*_, _-_, _^_, _≤_, _<_}
 use native.Mathlib.Nat.{add-assoc, zero-add}
 use native.Mathlib.Decide.{decLt}
 use native.Mathlib.Omega.{arith}
-use borrow.Author.Tests.{eqb-true}
+use borrow.Author.Tests.{eq-eqb, eqb-true}
 use lib.Dec.{eqb}
 use lib.ListN.{length, take, getD, List·getD-append}
 use lib.Seq.{getD-take, getD-append-add}
@@ -197,11 +197,19 @@ module _ (d : List ℕ) (n : ℕ) (r : Row) (h : place n rowSize ≤ length d) w
 
 -- the end field
 
-pub ends-length : (s : List ℕ) (at : ℕ) → endsAt s at ≡ true → length s ≡ at + endSize
-unfolding endsAt
-ends-length s at h =
-    let here = eqb (length s) (at + endSize) in
-    eqb-true (length s) (at + endSize) (both here (eqb (getD s at 0) endTag && eqb (be s (at + lengthAt) numberSize) endLength) h .0)
+module _ (s : List ℕ) (at : ℕ) where
+  pub ends-parts : endsAt s at ≡ true → (length s ≡ at + 3) × (getD s at 0 ≡ 0x2F) × (be s (at + 1) 2 ≡ 0)
+  unfolding endsAt
+  ends-parts h =
+      let tagged = eqb (getD s at 0) endTag in
+      let empty = eqb (be s (at + lengthAt) numberSize) endLength in
+      let (a, r) = both (eqb (length s) (at + endSize)) (tagged && empty) h in
+      let (b, c) = both tagged empty r in
+      (eqb-true (length s) (at + endSize) a, eqb-true (getD s at 0) endTag b, eqb-true (be s (at + lengthAt) numberSize) endLength c)
+
+  pub parts-ends : length s ≡ at + 3 → getD s at 0 ≡ 0x2F → be s (at + 1) 2 ≡ 0 → endsAt s at ≡ true
+  unfolding endsAt
+  parts-ends a b c = rw (eq-eqb (length s) (at + endSize) a, eq-eqb (getD s at 0) endTag b, eq-eqb (be s (at + lengthAt) numberSize) endLength c)
 
 pub length-endBytes : length endBytes ≡ endSize
 unfolding endBytes beBytes

@@ -7,7 +7,7 @@ use mathlib.Core.Path.{_≡_, _∙_, ap, sym}
 use native.Mathlib.Omega.{arith}
 use Rattle.table.specs.Fields.{endsAt}
 use Rattle.evidence.specs.Form.{«imagePlace», mapForm}
-use Rattle.table.proofs.Rows.{ends-length}
+use Rattle.table.proofs.Rows.{ends-parts}
 use Rattle.evidence.proofs.form.has_map_form.Statement.{statement}
 use Rattle.evidence.proofs.form.has_map_form.Tie as tie
 
@@ -33,12 +33,12 @@ ends c =
 shared-slice-read-tag : tie.Need-shared-slice-read-tag
 shared-slice-read-tag c =
     let a = c .before .before .before .before .before .args in
-    omega (arith, ends-length (now (a .e)) (imagePlace (a .rows)) (ends (c .before)))
+    omega (arith, ends-parts (now (a .e)) (imagePlace (a .rows)) (ends (c .before)) .0)
 
 load16-requires : tie.Need-load16-requires
 load16-requires c κs =
     let a = c .before .before .before .before .before .before .args in
-    omega (arith, ends-length (now (a .e)) (imagePlace (a .rows)) (ends (c .before .before)))
+    omega (arith, ends-parts (now (a .e)) (imagePlace (a .rows)) (ends (c .before .before)) .0)
 
 mul-result : tie.Need-mul-result
 mul-result c = search needs
