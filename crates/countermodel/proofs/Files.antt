@@ -5,8 +5,8 @@
 --   names-at                   where its names stand
 use Prim.Native.Nat.{ℕ, _*_, _+_, _<_, _≤_, suc}
 use native.Mathlib.Omega.{arith}
-use borrow.Author.Tests.{eq-eqb, eqb-false, eqb-true, le-leb, lt-ltb, ltb-true, ne-eqb}
-use lib.Dec.{eqb, ltb}
+use borrow.Author.Tests.{eq-eqb, eqb-false, eqb-true, le-leb, lt-ltb}
+use lib.Dec.{eqb}
 use lib.ListN.{getD, length}
 use mathlib.Core.Bool.{true}
 use mathlib.Core.List.{List}
@@ -20,7 +20,7 @@ use Rattle.table.specs.Number.{be}
 use Rattle.table.specs.declared.layout.Limits.{Limits}
 use Rattle.countermodel.specs.Individual.{individualHead, individualNames, individualOk, individualParent, individualRole, refutationForm}
 use Rattle.countermodel.specs.Layout.{individualCount, individualLength, individualPlace, individualTag, individualsWithin}
-use Rattle.countermodel.proofs.Individuals.{form-asks}
+use Rattle.countermodel.proofs.Individuals.{form-asks, later-ok, root-ok}
 
 pub record RefutationFile (limits : Limits) (e : List ℕ) (n : ℕ) : Type 0 where
   pub some : 1 ≤ n
@@ -85,29 +85,11 @@ module _ (limits : Limits) (e : List ℕ) where
 -- ---- 21
 
 module _ (e : List ℕ) (k : ℕ) where
-  abbrev FirstPasses : Type 0
-  FirstPasses = (be e (14 * k + 3) 2 ≡ 0) × (getD e (14 * k + 5) 0 ≡ 0)
-
-  abbrev LaterPasses : Type 0
-  LaterPasses = (be e (14 * k + 3) 2 < k) × (getD e (14 * k + 5) 0 < 32)
-
-  first-passes : individualOk e k ≡ true → k ≡ 0 → FirstPasses
-  unfolding individualOk
-  first-passes h z =
-      let (a, b) = both (eqb (individualParent e k) 0) (eqb (individualRole e k) 0) (rw (eq-eqb k 0 z) at h) in
-      (eqb-true (individualParent e k) 0 a, eqb-true (individualRole e k) 0 b)
-
-  later-passes : individualOk e k ≡ true → (k ≡ 0 → ⊥) → LaterPasses
-  unfolding individualOk
-  later-passes h z =
-      let (a, b) = both (ltb (individualParent e k) k) (ltb (individualRole e k) roles) (rw (ne-eqb k 0 z) at h) in
-      (ltb-true (individualParent e k) k a, ltb-true (individualRole e k) roles b)
-
   pub question-21 : individualOk e k ≡ true ↔
       ((k ≡ 0 → (be e (14 * k + 3) 2 ≡ 0) × (getD e (14 * k + 5) 0 ≡ 0)) × ((k ≡ 0 → ⊥) → (be e (14 * k + 3) 2 < k) × (getD e (14 * k + 5) 0 < 32)))
   unfolding individualOk
   question-21 = (
-    λ h. (first-passes h, later-passes h),
+    λ h. (root-ok e k h, later-ok e k h),
     λ (first, later). by-test (eqb k 0)
         (λ e₀. let z = eqb-true k 0 e₀ in let (a, b) = first z in rw (e₀, eq-eqb (individualParent e k) 0 a, eq-eqb (individualRole e k) 0 b))
         (λ e₀. let z = eqb-false k 0 e₀ in let (a, b) = later z in rw (e₀, lt-ltb (individualParent e k) k a, lt-ltb (individualRole e k) roles b)),

@@ -3,7 +3,8 @@
 --   count-whole                        the individuals that are counted stand whole in the file
 --   form-asks                          what the form of a refutation asks
 --   form-individuals, form-length      16: the individuals that a refutation has; the end field follows them, and the file stops
---   individual-parent                  21: a parent stands before its individual
+--   root-ok, later-ok                  21: of individual 0, and of a later one
+--   individual-parent                  a parent stands before its individual
 --   individual-role                    and its role is one of the format's
 --   ok-parents, ok-roles, ok-root      21, of the table of individuals
 --   reached-is                         the interpretation: a later individual is reached from its parent by its role, and no other pairs exist
@@ -15,7 +16,7 @@ use lib.ListN.{length}
 use mathlib.Core.Bool.{Bool, _&&_, true}
 use mathlib.Core.List.{List}
 use mathlib.Core.Logic.{_↔_}
-use mathlib.Core.Path.{_∙_, _≡_, ap, refl, subst, sym}
+use mathlib.Core.Path.{_≡_, ap, refl, subst, sym}
 use native.Mathlib.Nat.{mod-eq-of-lt, mul-le-mul}
 use native.Mathlib.Omega.{arith}
 use Rattle.ale.proofs.TableLaws.{successor-intro, successor-nonzero, successor-parent}
@@ -31,7 +32,6 @@ use Rattle.table.specs.Fields.{endsAt}
 use Rattle.table.specs.Layout.{endSize, nameBytes, nameCount, roles}
 use Rattle.table.specs.NameSet.{has}
 use Rattle.table.specs.Number.{Bytes, be}
-use Rattle.table.specs.Pick.{pick}
 use Rattle.table.specs.Range.{each}
 use Rattle.table.specs.declared.layout.Limits.{Limits}
 use Rattle.countermodel.specs.Individual.{Individuals, individualHead, individualNames, individualOk, individualParent, individualRole, individualTable, individuals, refutationForm}
@@ -75,26 +75,18 @@ module _ (limits : Limits) (e : List ℕ) where
 
 -- ---- 21
 
--- of individual 0, and of a later one
-abbrev rootOk : List ℕ → ℕ → Bool
-rootOk e k = eqb (individualParent e k) 0 && eqb (individualRole e k) 0
-
-abbrev laterOk : List ℕ → ℕ → Bool
-laterOk e k = ltb (individualParent e k) k && ltb (individualRole e k) roles
-
 module _ (e : List ℕ) (k : ℕ) (h : individualOk e k ≡ true) where
-  root-ok : k ≡ 0 → (individualParent e k ≡ 0) × (individualRole e k ≡ 0)
+  -- of individual 0, and of a later one
+  pub root-ok : k ≡ 0 → (individualParent e k ≡ 0) × (individualRole e k ≡ 0)
   unfolding individualOk
   root-ok z =
-      let ok : rootOk e k ≡ true = sym (ap (λ b. pick b (rootOk e k) (laterOk e k)) (eq-eqb k 0 z)) ∙ h in
-      let (p, r) = both (eqb (individualParent e k) 0) (eqb (individualRole e k) 0) ok in
+      let (p, r) = both (eqb (individualParent e k) 0) (eqb (individualRole e k) 0) (rw (eq-eqb k 0 z) at h) in
       (eqb-true (individualParent e k) 0 p, eqb-true (individualRole e k) 0 r)
 
-  later-ok : (k ≡ 0 → ⊥) → (individualParent e k < k) × (individualRole e k < roles)
+  pub later-ok : (k ≡ 0 → ⊥) → (individualParent e k < k) × (individualRole e k < roles)
   unfolding individualOk
   later-ok z =
-      let ok : laterOk e k ≡ true = sym (ap (λ b. pick b (rootOk e k) (laterOk e k)) (ne-eqb k 0 z)) ∙ h in
-      let (p, r) = both (ltb (individualParent e k) k) (ltb (individualRole e k) roles) ok in
+      let (p, r) = both (ltb (individualParent e k) k) (ltb (individualRole e k) roles) (rw (ne-eqb k 0 z) at h) in
       (ltb-true (individualParent e k) k p, ltb-true (individualRole e k) roles r)
 
   pub individual-parent : (k ≡ 0 → ⊥) → individualParent e k < k
