@@ -12,7 +12,7 @@ use lib.Dec.{eqb, eqb→eq}
 use lib.ListN.{getD}
 use mathlib.Core.Bool.{Bool, _&&_, not}
 use mathlib.Core.List.{List, [], _++_, _∷_}
-use mathlib.Core.Path.{_∙_, _≡_, ap, refl, subst, sym}
+use mathlib.Core.Path.{_∙_, _≡_, ap, subst, sym}
 use native.Mathlib.Omega.{arith}
 use Rattle.table.proofs.Bools.{by-test}
 use Rattle.table.specs.Links.{Linked, Nearest}

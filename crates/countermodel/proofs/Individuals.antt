@@ -31,7 +31,7 @@ use Rattle.table.specs.Bounds.{Bounded, benchLimits}
 use Rattle.table.specs.Fields.{endsAt}
 use Rattle.table.specs.Layout.{endSize, nameBytes, nameCount, roles}
 use Rattle.table.specs.NameSet.{has}
-use Rattle.table.specs.Number.{Bytes, be}
+use Rattle.table.specs.Number.{Bytes}
 use Rattle.table.specs.Range.{each}
 use Rattle.table.specs.declared.layout.Limits.{Limits}
 use Rattle.countermodel.specs.Individual.{Individuals, individualHead, individualNames, individualOk, individualParent, individualRole, individualTable, individuals, refutationForm}

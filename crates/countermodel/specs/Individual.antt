@@ -8,7 +8,7 @@
 --   HasIndividual        an individual's field stands whole in the file
 --   Individuals          so many do, all that the file has
 --   Refutation           they also pass 21, and `links` has those that each one reaches
-use Prim.Native.Nat.{ℕ, _<_, _≤_, _^_}
+use Prim.Native.Nat.{ℕ, _<_, _≤_}
 use lib.Dec.{eqb, leb, ltb}
 use lib.ListN.{getD, length}
 use mathlib.Core.Bool.{Bool, _&&_, false, true}

@@ -1,9 +1,11 @@
--- 22 and 23 row by row: whether an individual of the refutation e fits a row of the table t.
+-- 22 and 23: the tree of individuals, which is tested; and row by row, whether an individual of the refutation e fits a row of the table t. Of these
+-- a reader has to believe the first two; the others say what the parts of the code decide.
 --   rowTree        the tree of a row, with all that hangs from it: no more rows stand below one another than there are
 --   modelTree      the individuals below individual i
 --   RowLabel       a label of the code is that of row w
 --   satisfiesRow   the names that hold of individual i, against the label of row w
 --   fitsRow        individual i fits row w
+--   rowForest, reachedForest   what hangs from a row, and the individuals that i reaches, as successors
 --   belowFits      what the successors of row w ask of the individuals that i reaches
 --   reachedFits    what successor c asks of the individuals that i reaches
 use Prim.Native.Nat.{ℕ}
@@ -11,7 +13,6 @@ use mathlib.Core.Bool.{Bool}
 use mathlib.Core.List.{List}
 use Rattle.ale.specs.ModelCheck.{fitsAllTest, fitsTest, restrictionTest, satisfiesTest}
 use Rattle.ale.specs.PictureSignature.{pictureSignature}
-use Rattle.ale.specs.Signature.{Signature}
 use Rattle.ale.specs.Table.{Table, successorRows, successors, treeOf}
 use Rattle.ale.specs.Tree.{Forest, Tree}
 use Rattle.meaning.specs.Meaning.{pictureTable}

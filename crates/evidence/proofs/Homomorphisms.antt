@@ -13,7 +13,7 @@ use Rattle.ale.specs.PictureSignature.{pictureSignature}
 use Rattle.ale.specs.RowMap.{IsHomomorphism, edgeAgrees, labelAgrees}
 use Rattle.ale.specs.Table.{Table}
 use Rattle.evidence.specs.declared.asked.Asked.the-variants.{Yes}
-use Rattle.evidence.specs.Map.{ask, inOrder, mapAsked, rowAsked}
+use Rattle.evidence.specs.Map.{ask, mapAsked, rowAsked}
 use Rattle.evidence.proofs.Asking.{ask-yes, inOrder-yes, yes-ask, yes-inOrder}
 
 module _ (p q : Table pictureSignature) (im : ℕ → ℕ) where

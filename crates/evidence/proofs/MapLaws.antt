@@ -9,7 +9,7 @@
 --   images-on                                      a row whose questions are answered yes has an image in the first, as those before it
 --   order-on, order-stops, order-done              a turn of the questions in order: a row passes, fails, or none is left
 use Prim.Native.Nat.{_+_, _-_, _<_, _^_, _≤_, suc, zero, ℕ}
-use borrow.Author.Tests.{eq-eqb, eqb-true, ltb-true, ne-eqb}
+use borrow.Author.Tests.{eq-eqb, ltb-true, ne-eqb}
 use lib.Dec.{eqb, ltb}
 use lib.ListN.{length}
 use mathlib.Core.Bool.{Bool, _&&_, and-false, and-true, false, true}
@@ -27,7 +27,7 @@ use Rattle.picture.specs.View.{rowCount, viewOf}
 use Rattle.table.proofs.Bools.{both}
 use Rattle.table.proofs.Rows.{ends-parts}
 use Rattle.table.specs.Fields.{endsAt, excludedOf, impossibleOf, kindOf, parentOf, roleOf, wantedOf}
-use Rattle.table.specs.Layout.{endSize, kindExists, kindForAll, nameCount, numberSize}
+use Rattle.table.specs.Layout.{kindExists, kindForAll, nameCount, numberSize}
 use Rattle.table.specs.NameSet.{subset}
 use Rattle.table.specs.Pick.{pick}
 use Rattle.evidence.specs.Form.{imageOf, «imagePlace», mapForm}

@@ -7,7 +7,7 @@
 --   map-sound           a map is taken only if the second covers the first
 --   refutation-sound    and a refutation only if it does not
 --   one-kind            so not both kinds can be taken
-use Prim.Native.Nat.{ℕ, _*_, _<_}
+use Prim.Native.Nat.{ℕ, _*_}
 use native.Mathlib.Omega.{arith}
 use borrow.Author.Tests.{eqb-true}
 use lib.Dec.{T, eqb}

@@ -1,10 +1,10 @@
 -- 01, questions 16 to 23: the answer for evidence e. p and q are the normal tables, of which a map speaks; t and u the pictures' trees, which individual 0
 -- of a refutation fits or not.
---   refutationAsked   21 of every individual, then 22, 23
+--   refutationAsked        21 of every individual, then 22, 23
 --   refusalBy, refusedBy   the refusal by a question; it names the evidence
---   onAsked           taken where all is answered yes
---   onForm            by the form
---   checkAnswer       16, and then the questions of the form
+--   onAsked                taken where all is answered yes
+--   onForm                 by the form
+--   checkAnswer            16, and then the questions of the form
 use Prim.Native.Nat.{ℕ}
 use mathlib.Core.Bool.{not}
 use mathlib.Core.List.{List}

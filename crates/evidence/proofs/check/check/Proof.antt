@@ -1,5 +1,5 @@
 -- The form decides which questions are asked, and what they need of the file.
-use mathlib.Core.Path.{_∙_, _≡_, ap, sym}
+use mathlib.Core.Path.{_∙_, ap, sym}
 use denote.Ref.{now}
 use Rattle.countermodel.proofs.Individuals.{form-individuals}
 use Rattle.evidence.specs.Check.{onAsked}

@@ -1,7 +1,6 @@
 -- At the loop's head the tables have the rows from j on. Each row becomes the lowest of its parent's.
 use Prim.Native.Nat.{_≤_, _<_, _-_}
 use native.Mathlib.Omega.{arith}
-use borrow.Author.Needs.{needs}
 use denote.Ref.{now}
 use Rattle.table.specs.Bounds.{maxRows}
 use Rattle.table.specs.Fields.{parentOf}
