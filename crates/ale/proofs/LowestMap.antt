@@ -1,6 +1,10 @@
 -- The map that we write is a homomorphism: if the second table's root maps to the first's, taking the lowest possible row each time never fails.
 -- The invariant, by induction on the row: every row's tree maps to the tree of its image. So if a row's image u is not ⊥, each edge of the row
 -- has an image among the edges of u; a row that can be taken exists, and the search returns the lowest. If u is ⊥, u itself takes everything.
+--   firstFrom-passes, firstFrom-lowest   a search that can succeed does, and finds the lowest
+--   image-root, image-next               the image of row 0, and that of a row from its parent's
+--   image-lowest                         no lower row could be taken
+--   lowest-homomorphism                  the map is a homomorphism
 use Prim.Native.Nat.{_+_, _-_, _<_, _≤_, suc, zero, ℕ}
 use lib.Dec.{T, eqb, eqb-refl, eqb→eq}
 use lib.ListN.{List·getD-append, getD, length, length-append}
@@ -139,10 +143,10 @@ module _ (S : Signature) (p q : Table S) where
             let t″ = subst (λ x. T (mapsTo S (treeOf S q (q .rows) i) x)) (treeOf-below p up v y m d) t′ in
             (v, a, and-intro (edgeJoins S p q i u v) (rowMapsTo S p q i v) c t″)
 
-    image-root : 0 < q .rows → image S p q 0 ≡ 0
+    pub image-root : 0 < q .rows → image S p q 0 ≡ 0
     image-root b = course-at (imageFrom S p q) (q .rows) (q .rows - 1) 0 (omega arith)
 
-    image-next : (i : ℕ) → i < q .rows → ¬ (i ≡ 0) → image S p q i ≡ nextImage S p q i (image S p q (q .parent i))
+    pub image-next : (i : ℕ) → i < q .rows → ¬ (i ≡ 0) → image S p q i ≡ nextImage S p q i (image S p q (q .parent i))
     image-next i b z =
         let j = q .parent i in
         let v = uq i b z in

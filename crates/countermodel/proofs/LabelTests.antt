@@ -1,32 +1,23 @@
 -- The names that hold of an individual, against the label of a row, from what the code has of both. A set of names that is read is below
 -- 2 ^ nameCount, so `setAt` leaves it as it is.
---   Read                                   a set as the code has it, of the number that stands in the file
---   row-label                              the label that the code reads is that of the row
 --   satisfies-bottom                       a marked row is not satisfied
 --   satisfies-lacks                        nor is one of which a wanted name does not hold
 --   satisfies-held                         else the excluded names decide
-use Prim.Native.Nat.{_%_, _<_, _^_, ℕ}
+use Prim.Native.Nat.{_%_, _^_, ℕ}
 use borrow.Author.Tests.{eq-eqb, ne-eqb}
 use lib.Bits.{bitAnd}
 use lib.Dec.{eqb}
 use mathlib.Core.Bool.{Bool, _&&_, and-false, and-true, false, not, true}
 use mathlib.Core.List.{List}
-use mathlib.Core.Path.{_∙_, _≡_, ap, refl, sym}
-use native.Mathlib.Nat.{mod-eq-of-lt}
-use Rattle.picture.specs.View.{viewOf}
+use mathlib.Core.Path.{_∙_, _≡_, refl, sym}
 use Rattle.table.proofs.NameSets.{subset-none}
-use Rattle.table.specs.Fields.{excludedOf, impossibleOf, wantedOf}
 use Rattle.table.specs.Layout.{nameCount}
 use Rattle.table.specs.NameSet.{intersection, none, overlap, setOf, subset}
 use Rattle.normal.specs.declared.label.Label.{Label}
+use Rattle.homomorphism.proofs.Labels.{Read, low-same}
+use Rattle.homomorphism.specs.Search.{RowLabel}
 use Rattle.countermodel.specs.Individual.{individualNames}
-use Rattle.countermodel.specs.Model.{RowLabel, satisfiesRow}
-
-abbrev pub Read : ℕ → ℕ → Type 0
-Read set number = (set ≡ number) × (set < 2 ^ nameCount)
-
-low-same : (set number : ℕ) → Read set number → number % 2 ^ nameCount ≡ set
-low-same set number (e, l) = ap (λ n. n % 2 ^ nameCount) (sym e) ∙ mod-eq-of-lt l
+use Rattle.countermodel.specs.Model.{satisfiesRow}
 
 not-not : (b : Bool) → b ≡ not (not b)
 not-not true = refl
@@ -36,16 +27,6 @@ abbrev labelTest : ℕ → ℕ → ℕ → Bool → Bool
 labelTest wanted excluded held bottom = subset wanted held && (subset (intersection excluded held) none && not bottom)
 
 module _ (t : List ℕ) (w : ℕ) (label : Label) where
-  pub row-label : (mark : ℕ) → Read (setOf (label .wanted)) (wantedOf t w) → Read (setOf (label .excluded)) (excludedOf t w) →
-      label .bottom ≡ mark → mark ≡ impossibleOf t w → RowLabel t w label
-  unfolding viewOf
-  row-label mark wants excludes same is =
-      record {
-        wanted-is = sym (low-same (setOf (label .wanted)) (wantedOf t w) wants);
-        excluded-is = sym (low-same (setOf (label .excluded)) (excludedOf t w) excludes);
-        bottom-is = ap (λ m. eqb m 1) (same ∙ is);
-      }
-
   module _ (e : List ℕ) (i : ℕ) (stands : RowLabel t w label) where
     satisfies-label : satisfiesRow t w e i
         ≡ labelTest (setOf (label .wanted)) (setOf (label .excluded)) (individualNames e i % 2 ^ nameCount) (eqb (label .bottom) 1)

@@ -4,3 +4,8 @@ pub mod Individuals
 pub mod Files
 pub mod LabelTests
 pub mod Models
+pub mod Writings
+pub mod Walks
+pub mod Canonicals
+pub mod IndividualTrees
+pub mod Refutables

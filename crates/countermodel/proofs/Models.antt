@@ -1,5 +1,6 @@
 -- The model check goes along links: what is still to be decided at a row or at an individual of a chain, and one turn of each loop.
 --   refutation-has, checked-has              an individual, a row is there
+--   chain-less                               a walk along a chain rises, so it ends
 --   fits-unsatisfied, fits-satisfied         the label first, and then the successors decide
 --   belowFrom                                individual i passes what the successors of row w from row c on ask
 --   BelowAt                                  it has passed what those before c ask, so these decide
@@ -56,7 +57,7 @@ pub checked-has : (t : List ℕ) (rows k : ℕ) → Checked t rows → k < rows 
 checked-has t rows k d l = (omega (arith, d .most), omega (arith, d .whole))
 
 -- a walk along a chain rises, so it ends
-chain-less : (parent : ℕ → ℕ) (rows c width : ℕ) (links : List ℕ) → Linked parent rows width links → (j : ℕ) → (j ≡ 0 → ⊥) →
+pub chain-less : (parent : ℕ → ℕ) (rows c width : ℕ) (links : List ℕ) → Linked parent rows width links → (j : ℕ) → (j ≡ 0 → ⊥) →
     OnChain parent rows c j → (k : ℕ) → k ≡ getD links (width + j) 0 →
     pick (eqb k 0) 0 (rows + 1 - k) < pick (eqb j 0) 0 (rows + 1 - j)
 chain-less parent rows c width links linked j z on k e =

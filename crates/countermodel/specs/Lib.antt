@@ -2,3 +2,5 @@
 pub mod Layout
 pub mod Individual
 pub mod Model
+pub mod Writing
+pub mod Refuting

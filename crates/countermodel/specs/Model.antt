@@ -2,7 +2,6 @@
 -- a reader has to believe the first two; the others say what the parts of the code decide.
 --   rowTree        the tree of a row, with all that hangs from it: no more rows stand below one another than there are
 --   modelTree      the individuals below individual i
---   RowLabel       a label of the code is that of row w
 --   satisfiesRow   the names that hold of individual i, against the label of row w
 --   fitsRow        individual i fits row w
 --   rowForest, reachedForest   what hangs from a row, and the individuals that i reaches, as successors
@@ -16,8 +15,6 @@ use Rattle.ale.specs.PictureSignature.{pictureSignature}
 use Rattle.ale.specs.Table.{Table, successorRows, successors, treeOf}
 use Rattle.ale.specs.Tree.{Forest, Tree}
 use Rattle.meaning.specs.Meaning.{pictureTable}
-use Rattle.normal.specs.Labels.{LabelIs}
-use Rattle.normal.specs.declared.label.Label.{Label}
 use Rattle.countermodel.specs.Individual.{individualTable}
 
 abbrev pub rowTree : Table pictureSignature → ℕ → Tree pictureSignature
@@ -25,9 +22,6 @@ rowTree p i = treeOf pictureSignature p (p .rows) i
 
 abbrev pub modelTree : List ℕ → ℕ → Tree pictureSignature
 modelTree e i = rowTree (individualTable e) i
-
-abbrev pub RowLabel : List ℕ → ℕ → Label → Type 0
-RowLabel t w label = LabelIs label ((pictureTable t) .label w)
 
 unfoldable pub satisfiesRow : List ℕ → ℕ → List ℕ → ℕ → Bool
 satisfiesRow t w e i = satisfiesTest pictureSignature ((pictureTable t) .label w) ((individualTable e) .label i .wanted)

@@ -1,5 +1,6 @@
-// A refutation: its individuals by number, question 21, and whether individual 0 fits a table.
+// A refutation: its individuals by number, question 21, whether individual 0 fits a table, and the one that is written.
 pub mod individual;
 pub mod layout;
 pub mod links;
 pub mod model;
+pub mod writer;

@@ -4,45 +4,31 @@ use crate::individual::names;
 use crate::individual::role as individual_role;
 use crate::layout::MAX_INDIVIDUALS;
 use crate::links::INDIVIDUAL_LINKS;
+use homomorphism::label::label_at;
 use normal::label::Label;
 use normal::rows::LINKS;
 use normal::rows::fill_links;
 use table::layout::KIND_FOR_ALL;
 use table::layout::MAX_ROWS;
 use table::number::wide;
-use table::row::excluded;
-use table::row::impossible;
 use table::row::kind;
 use table::row::role;
-use table::row::wanted;
 ghost use mathlib.Core.List.{List};
 ghost use mathlib.Core.Path.{_≡_};
 ghost use Prim.Native.Nat.{ℕ, _<_};
 ghost use Rattle.table.specs.Bounds.{maxRows};
-ghost use Rattle.table.specs.Fields.{HasRow, parentOf};
+ghost use Rattle.table.specs.Fields.{parentOf};
 ghost use Rattle.table.specs.Links.{Linked};
 ghost use Rattle.normal.specs.Rows.{Checked};
+ghost use Rattle.homomorphism.specs.Search.{RowLabel};
 ghost use Rattle.countermodel.specs.Individual.{HasIndividual, Refutation};
-ghost use Rattle.countermodel.specs.Model.{RowLabel, belowFits, fitsRow, reachedFits, satisfiesRow};
+ghost use Rattle.countermodel.specs.Model.{belowFits, fitsRow, reachedFits, satisfiesRow};
 
 // A number of the links, with its range.
 fn index(x: u16) -> usize
     ensures { λ r. ⌜ (r ≡ x) × (r < 65536) ⌝ }
 {
     x as usize
-}
-
-// The label of row w.
-fn label_at(t: &[u8], w: usize) -> Label
-    requires { ⌜ HasRow (now t) w ⌝ }
-    ensures { λ r. ⌜ RowLabel (now (t .entry)) w r ⌝ }
-{
-    let bottom = impossible(t, w) as u64;
-    Label {
-        wanted: wanted(t, w),
-        excluded: excluded(t, w),
-        bottom,
-    }
 }
 
 // The names that hold of an individual, against a label.

@@ -14,7 +14,8 @@ use Rattle.table.proofs.Rows.{ends-parts, parts-ends}
 use Rattle.table.specs.Fields.{endsAt}
 use Rattle.table.specs.Layout.{lengthAt, numberSize}
 use Rattle.table.specs.Number.{be}
-use Rattle.evidence.specs.Form.{imageOf, imagePlace, mapForm, mapTag}
+use Rattle.homomorphism.specs.Layout.{imageOf, imagePlace, mapTag}
+use Rattle.evidence.specs.Form.{mapForm}
 
 pub record MapFile (rows : ℕ) (e : List ℕ) : Type 0 where
   pub tag : getD e 0 0 ≡ 0x41

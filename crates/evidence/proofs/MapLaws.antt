@@ -1,36 +1,34 @@
 -- Questions 17 to 20 of a map, by what the code reads.
 --   image-whole                                    where a file has the form of a map, every image stands whole
---   label-marked, label-unmarked, label-names      19, by the mark of the image, the mark of the row, and the names
---   kind-same, role-same                           kinds and roles by their bytes
+--   label-marked, label-else                       19, where the image is marked, and where it is not
 --   edge-root, edge-elsewhere, edge-joined         whether two rows are joined: not to row 0, not by another parent, else by kind and role
 --   edge-stays, edge-apart, edge-unmarked          20, where the image is its parent's and that is marked; where it is another; where it is not marked
 --   row-read                                       17 to 20 of a row, by what was read
 --   map-starts                                     the questions of a map are those of its rows from 0 on
 --   images-on                                      a row whose questions are answered yes has an image in the first, as those before it
 --   order-on, order-stops, order-done              a turn of the questions in order: a row passes, fails, or none is left
-use Prim.Native.Nat.{_+_, _-_, _<_, _^_, _≤_, suc, zero, ℕ}
+use Prim.Native.Nat.{_+_, _-_, _<_, _≤_, suc, zero, ℕ}
 use borrow.Author.Tests.{eq-eqb, ltb-true, ne-eqb}
 use lib.Dec.{eqb, ltb}
 use lib.ListN.{length}
-use mathlib.Core.Bool.{Bool, _&&_, and-false, and-true, false, true}
+use mathlib.Core.Bool.{Bool, and-false, false, true}
 use mathlib.Core.List.{List}
-use mathlib.Core.Logic.{_⊎_, inl, inr, ⊎-elim}
-use mathlib.Core.Path.{_≡_, _∙_, refl, subst, sym}
-use native.Mathlib.Nat.{eq-or-lt-of-le, mod-eq-of-lt, sub-zero}
+use mathlib.Core.Logic.{⊎-elim}
+use mathlib.Core.Path.{_≡_, _∙_, subst, sym}
+use native.Mathlib.Nat.{eq-or-lt-of-le, sub-zero}
 use native.Mathlib.Omega.{arith}
-use Rattle.ale.specs.Homomorphism.{roleServes}
 use Rattle.ale.specs.PictureSignature.{pictureSignature}
 use Rattle.ale.specs.RowMap.{edgeAgrees, edgeJoins, labelAgrees}
-use Rattle.ale.specs.Tree.{Kind, exists, forAll, sameKind}
-use Rattle.meaning.specs.Meaning.{kindAt, pictureTable}
+use Rattle.meaning.specs.Meaning.{pictureTable}
 use Rattle.picture.specs.View.{rowCount, viewOf}
 use Rattle.table.proofs.Bools.{both}
 use Rattle.table.proofs.Rows.{ends-parts}
-use Rattle.table.specs.Fields.{endsAt, excludedOf, impossibleOf, kindOf, parentOf, roleOf, wantedOf}
-use Rattle.table.specs.Layout.{kindExists, kindForAll, nameCount, numberSize}
-use Rattle.table.specs.NameSet.{subset}
+use Rattle.table.specs.Fields.{endsAt, impossibleOf, parentOf}
+use Rattle.table.specs.Layout.{numberSize}
 use Rattle.table.specs.Pick.{pick}
-use Rattle.evidence.specs.Form.{imageOf, «imagePlace», mapForm}
+use Rattle.homomorphism.specs.Layout.{imageOf, «imagePlace»}
+use Rattle.homomorphism.specs.Search.{labelCarried, sameEdge}
+use Rattle.evidence.specs.Form.{mapForm}
 use Rattle.evidence.specs.Map.{ask, inOrder, mapAsked, rowAsked}
 use Rattle.evidence.specs.declared.asked.Asked.{Asked}
 use Rattle.evidence.specs.declared.asked.Asked.the-variants.{No, Yes}
@@ -47,43 +45,12 @@ module _ (first second : List ℕ) (v i : ℕ) where
   unfolding viewOf
   label-marked e = simp (eq-eqb (impossibleOf first v) 1 e)
 
-  pub label-unmarked : (impossibleOf first v ≡ 1 → ⊥) → impossibleOf second i ≡ 1 →
-      labelAgrees pictureSignature (pictureTable first) (pictureTable second) i v ≡ false
-  unfolding viewOf
-  label-unmarked d e = simp (ne-eqb (impossibleOf first v) 1 d, eq-eqb (impossibleOf second i) 1 e, and-false)
-
-  pub label-names : (has lacks wants excludes : ℕ) (carried : Bool) → (impossibleOf first v ≡ 1 → ⊥) → (impossibleOf second i ≡ 1 → ⊥) →
-      ((has ≡ wantedOf first v) × (has < 2 ^ nameCount)) → ((lacks ≡ excludedOf first v) × (lacks < 2 ^ nameCount)) →
-      ((wants ≡ wantedOf second i) × (wants < 2 ^ nameCount)) → ((excludes ≡ excludedOf second i) × (excludes < 2 ^ nameCount)) →
-      carried ≡ subset wants has → labelAgrees pictureSignature (pictureTable first) (pictureTable second) i v ≡ (carried && subset excludes lacks)
-  unfolding viewOf
-  label-names has lacks wants excludes carried d e (h, h-fits) (l, l-fits) (w, w-fits) (x, x-fits) told =
-      simp (
-        ne-eqb (impossibleOf first v) 1 d,
-        ne-eqb (impossibleOf second i) 1 e,
-        and-true,
-        sym h,
-        sym l,
-        sym w,
-        sym x,
-        mod-eq-of-lt h-fits,
-        mod-eq-of-lt l-fits,
-        mod-eq-of-lt w-fits,
-        mod-eq-of-lt x-fits,
-        told,
-      )
+  pub label-else : (carried : Bool) → (impossibleOf first v ≡ 1 → ⊥) → carried ≡ labelCarried first second i v →
+      carried ≡ labelAgrees pictureSignature (pictureTable first) (pictureTable second) i v
+  unfolding viewOf labelCarried
+  label-else carried d told = told ∙ simp (ne-eqb (impossibleOf first v) 1 d)
 
 -- edges
-
-kind-same : (a b : ℕ) → (a ≡ kindExists) ⊎ (a ≡ kindForAll) → (b ≡ kindExists) ⊎ (b ≡ kindForAll) → sameKind (kindAt b) (kindAt a) ≡ eqb a b
-kind-same a b (inl x) (inl y) = rw (x, y)
-kind-same a b (inl x) (inr y) = rw (x, y)
-kind-same a b (inr x) (inl y) = rw (x, y)
-kind-same a b (inr x) (inr y) = rw (x, y)
-
-role-same : (k : Kind) (r s : ℕ) → roleServes pictureSignature k r s ≡ eqb r s
-role-same exists r s = refl
-role-same forAll r s = refl
 
 module _ (first second : List ℕ) (i u v : ℕ) where
   pub edge-root : v ≡ 0 → edgeJoins pictureSignature (pictureTable first) (pictureTable second) i u v ≡ false
@@ -93,20 +60,10 @@ module _ (first second : List ℕ) (i u v : ℕ) where
   unfolding viewOf
   edge-elsewhere d = simp (ne-eqb (parentOf first v) u d, and-false)
 
-  pub edge-joined : (kind kind′ : ℕ) → (v ≡ 0 → ⊥) → parentOf first v ≡ u →
-      (kindOf first v ≡ kindExists) ⊎ (kindOf first v ≡ kindForAll) → (kindOf second i ≡ kindExists) ⊎ (kindOf second i ≡ kindForAll) →
-      kind ≡ kindOf first v → kind′ ≡ kindOf second i →
-      edgeJoins pictureSignature (pictureTable first) (pictureTable second) i u v ≡ (eqb kind kind′ && eqb (roleOf first v) (roleOf second i))
-  unfolding viewOf
-  edge-joined kind kind′ d e k l x y =
-      simp (
-        ne-eqb v 0 d,
-        eq-eqb (parentOf first v) u e,
-        kind-same (kindOf first v) (kindOf second i) k l,
-        role-same (kindAt (kindOf second i)) (roleOf first v) (roleOf second i),
-        x,
-        y,
-      )
+  pub edge-joined : (same : Bool) → (v ≡ 0 → ⊥) → parentOf first v ≡ u → same ≡ sameEdge first second i v →
+      same ≡ edgeJoins pictureSignature (pictureTable first) (pictureTable second) i u v
+  unfolding viewOf sameEdge
+  edge-joined same d e told = told ∙ simp (ne-eqb v 0 d, eq-eqb (parentOf first v) u e)
 
   pub edge-stays : v ≡ u → impossibleOf first u ≡ 1 → edgeAgrees pictureSignature (pictureTable first) (pictureTable second) i u v ≡ true
   unfolding viewOf

@@ -34,7 +34,8 @@ use Rattle.workspace.specs.declared.prepare.Prepared.{Prepared}
 use Rattle.workspace.specs.declared.prepare.Prepared.the-variants as prepared
 use Rattle.evidence.specs.Call.{evidenceAnswer, onPair, verifyAnswer}
 use Rattle.evidence.specs.Check.{checkAnswer, onAsked, onForm, refutationAsked}
-use Rattle.evidence.specs.Form.{formOf, imageOf}
+use Rattle.homomorphism.specs.Layout.{imageOf}
+use Rattle.evidence.specs.Form.{formOf}
 use Rattle.evidence.specs.Map.{andThen, ask, inOrder, mapAsked, rowAsked}
 use Rattle.evidence.specs.declared.asked.Asked.{Asked}
 use Rattle.evidence.specs.declared.asked.Asked.the-variants.{No, Yes}

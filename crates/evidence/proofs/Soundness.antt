@@ -45,7 +45,8 @@ use Rattle.countermodel.specs.Model.{modelTree, rowTree}
 use Rattle.workspace.specs.Prepare.{Acceptable}
 use Rattle.evidence.specs.Call.{evidenceAnswer}
 use Rattle.evidence.specs.Check.{checkAnswer, onAsked, onForm, refusalBy, refutationAsked}
-use Rattle.evidence.specs.Form.{formOf, imageOf, imagePlace, mapForm, mapTag}
+use Rattle.homomorphism.specs.Layout.{imageOf, imagePlace, mapTag}
+use Rattle.evidence.specs.Form.{formOf, mapForm}
 use Rattle.evidence.specs.Map.{mapAsked}
 use Rattle.evidence.specs.Taken.{MapOf, RefutationOf}
 use Rattle.evidence.specs.declared.asked.Asked.{Asked}

@@ -25,7 +25,8 @@ use Rattle.evidence.specs.declared.check.Verified.{Verified}
 use Rattle.evidence.specs.declared.check.Verified.the-variants.{MapTaken, RefutationTaken, Refused}
 use Rattle.evidence.specs.declared.form.Form.{Form}
 use Rattle.evidence.specs.declared.form.Form.the-variants.{Map, Neither, Refutation}
-use Rattle.evidence.specs.Form.{formOf, imageOf}
+use Rattle.homomorphism.specs.Layout.{imageOf}
+use Rattle.evidence.specs.Form.{formOf}
 use Rattle.evidence.specs.Map.{ask, mapAsked}
 
 -- 21. For each individual in order: parent below its number, role below 32, both 0 for individual 0?

@@ -16,7 +16,8 @@ use Rattle.meaning.specs.Meaning.{pictureTable, pictureTree}
 use Rattle.meaning.specs.NormalTable.{normalFile}
 use Rattle.countermodel.specs.Individual.{individualOk, individuals, refutationForm}
 use Rattle.countermodel.specs.Layout.{individualCount}
-use Rattle.evidence.specs.Form.{imageOf, mapForm}
+use Rattle.homomorphism.specs.Layout.{imageOf}
+use Rattle.evidence.specs.Form.{mapForm}
 
 module _ (limits : Limits) (first second e : List ℕ) where
   pub record MapOf : Type 0 where

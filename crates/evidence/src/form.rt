@@ -1,40 +1,21 @@
 // 16: which of the two forms a file has.
 use countermodel::individual::has_refutation_form;
-use table::layout::HEAD_SIZE;
+use homomorphism::layout::MAP_TAG;
+use homomorphism::layout::image_place;
 use table::layout::LENGTH_AT;
 use table::layout::Limits;
 use table::layout::NUMBER_SIZE;
 use table::number::load16;
 use table::row::ends_at;
 ghost use mathlib.Core.Path.{_≡_};
-ghost use Prim.Native.Nat.{ℕ, _+_, _≤_};
-ghost use lib.ListN.{length};
+ghost use Prim.Native.Nat.{ℕ, _≤_};
 ghost use Rattle.table.specs.Bounds.{Bounded, maxRows};
-ghost use Rattle.table.specs.Layout.{numberSize};
-ghost use Rattle.evidence.specs.Form.{formOf, imageOf, «imagePlace», mapForm};
-
-pub const MAP_TAG: u8 = 0x41;
+ghost use Rattle.evidence.specs.Form.{formOf, mapForm};
 
 pub enum Form {
     Map,
     Refutation,
     Neither,
-}
-
-// The byte at which the image of a row stands.
-fn image_place(i: usize) -> usize
-    requires { ⌜ i ≤ maxRows ⌝ }
-    ensures { λ r. ⌜ r ≡ «imagePlace» i ⌝ }
-{
-    HEAD_SIZE + NUMBER_SIZE * i
-}
-
-// The image of row i.
-pub fn image(e: &[u8], i: usize) -> usize
-    requires { ⌜ (i ≤ maxRows) × («imagePlace» i + numberSize ≤ length (now e)) ⌝ }
-    ensures { λ r. ⌜ r ≡ imageOf (now (e .entry)) i ⌝ }
-{
-    load16(e, image_place(i)) as usize
 }
 
 // A map of so many rows.

@@ -1,12 +1,11 @@
 // 17 to 20, for each row of the second table in turn.
 use crate::asked::Asked;
-use crate::form::image;
-use table::row::excluded;
+use homomorphism::label::label_at;
+use homomorphism::label::label_within;
+use homomorphism::layout::image;
+use homomorphism::search::same_edge;
 use table::row::impossible;
-use table::row::kind;
 use table::row::parent;
-use table::row::role;
-use table::row::wanted;
 ghost use mathlib.Core.Path.{_≡_};
 ghost use mathlib.Core.Bool.{true};
 ghost use Prim.Native.Nat.{ℕ, _<_};
@@ -15,7 +14,8 @@ ghost use Rattle.ale.specs.PictureSignature.{pictureSignature};
 ghost use Rattle.ale.specs.RowMap.{edgeAgrees, edgeJoins, labelAgrees};
 ghost use Rattle.meaning.specs.Meaning.{pictureTable};
 ghost use Rattle.normal.specs.Rows.{Checked};
-ghost use Rattle.evidence.specs.Form.{imageOf, mapForm};
+ghost use Rattle.homomorphism.specs.Layout.{imageOf};
+ghost use Rattle.evidence.specs.Form.{mapForm};
 ghost use Rattle.evidence.specs.Map.{mapAsked, rowAsked};
 
 // 19: the image carries the row's names and its mark, or is marked.
@@ -26,14 +26,7 @@ fn label_agrees(first: &[u8], v: usize, second: &[u8], i: usize) -> bool
     if impossible(first, v) == 1 {
         return true;
     }
-    if impossible(second, i) == 1 {
-        return false;
-    }
-    let has = wanted(first, v);
-    let lacks = excluded(first, v);
-    let wants = wanted(second, i);
-    let excludes = excluded(second, i);
-    wants.subset(has) && excludes.subset(lacks)
+    label_within(label_at(second, i), first, v)
 }
 
 // Whether rows u and v of the first are joined by an edge of row i's kind and role.
@@ -47,7 +40,7 @@ fn edge_joins(first: &[u8], n: usize, u: usize, v: usize, second: &[u8], m: usiz
     if parent(first, v) != u {
         return false;
     }
-    kind(first, v) == kind(second, i) && role(first, v) == role(second, i)
+    same_edge(first, n, v, second, m, i)
 }
 
 // 20: they are so joined, or u is marked and v is u.

@@ -1,7 +1,5 @@
 // A table under construction: the rows are counted by value, and the bytes stay in the lent part.
-use crate::layout::END_LENGTH;
 use crate::layout::END_SIZE;
-use crate::layout::END_TAG;
 use crate::layout::EXCLUDED_AT;
 use crate::layout::ROW_LENGTH;
 use crate::layout::ROW_TAG;
@@ -9,6 +7,7 @@ use crate::layout::WANTED_AT;
 use crate::layout::place;
 use crate::number::copy_in;
 use crate::row::Row;
+use crate::row::write_end;
 ghost use mathlib.Core.Path.{_≡_};
 ghost use Prim.Native.Nat.{ℕ, _+_, _≤_, _<_};
 ghost use lib.ListN.{length};
@@ -58,8 +57,7 @@ impl Builder {
         ensures { λ r. ⌜ (r ≡ «place» (self .rows) endSize) × (now (out .exit) ≡ put (now (out .entry)) («place» (self .rows) 0) endBytes) ⌝ }
     {
         let rows = self.rows;
-        let end = [END_TAG, (END_LENGTH / 256) as u8, (END_LENGTH % 256) as u8];
-        copy_in(out, place(rows, 0), &end);
+        write_end(out, place(rows, 0));
         place(rows, END_SIZE)
     }
 }

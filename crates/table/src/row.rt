@@ -11,15 +11,17 @@ use crate::layout::ROLE_AT;
 use crate::layout::WANTED_AT;
 use crate::layout::place;
 use crate::names::Names;
+use crate::number::copy_in;
 use crate::number::load16;
 ghost use mathlib.Core.Path.{_≡_};
 ghost use Prim.Native.Nat.{ℕ, _+_, _^_, _≤_, _<_};
 ghost use lib.ListN.{length, getD};
-ghost use Rattle.table.specs.Layout.{«place», numberSize, nameBytes, nameCount, headSize, rowSize};
+ghost use Rattle.table.specs.Layout.{«place», numberSize, nameBytes, nameCount, headSize, rowSize, endSize};
 ghost use Rattle.table.specs.Number.{be};
 ghost use Rattle.table.specs.Bounds.{maxRows};
+ghost use Rattle.table.specs.Put.{put};
 ghost use Rattle.table.specs.NameSet.{setOf};
-ghost use Rattle.table.specs.Fields.{tagOf, lengthOf, parentOf, kindOf, roleOf, impossibleOf, wantedOf, excludedOf, HasRow, endsAt};
+ghost use Rattle.table.specs.Fields.{tagOf, lengthOf, parentOf, kindOf, roleOf, impossibleOf, wantedOf, excludedOf, HasRow, endBytes, endsAt};
 
 // A row by value: what a table under construction takes.
 pub struct Row {
@@ -83,6 +85,15 @@ pub fn ends_at(s: &[u8], at: usize) -> bool
         END_TAG => load16(s, at + LENGTH_AT) as usize == END_LENGTH,
         0..=0x2E | 0x30..=0xFF => false,
     }
+}
+
+// Writes the end field at a place.
+pub fn write_end(out: &mut [u8], at: usize)
+    requires { ⌜ at + endSize ≤ length (now out) ⌝ }
+    ensures { λ _. ⌜ now (out .exit) ≡ put (now (out .entry)) at endBytes ⌝ }
+{
+    let end = [END_TAG, (END_LENGTH / 256) as u8, (END_LENGTH % 256) as u8];
+    copy_in(out, at, &end);
 }
 
 // The value of a row.

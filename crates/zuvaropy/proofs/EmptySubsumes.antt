@@ -31,7 +31,8 @@ use Rattle.meaning.specs.Meaning.{pictureTable, pictureTree}
 use Rattle.meaning.specs.NormalTable.{mergedCount, mergedTree, normalFile, normalTreeOf}
 use Rattle.workspace.specs.Prepare.{Acceptable}
 use Rattle.evidence.proofs.NormalTables.{normal-some}
-use Rattle.evidence.specs.Form.{imageOf, mapForm}
+use Rattle.homomorphism.specs.Layout.{imageOf}
+use Rattle.evidence.specs.Form.{mapForm}
 use Rattle.zuvaropy.specs.Calls.{verifyWord}
 use Rattle.zuvaropy.specs.Starred.{Holds, empty, k1, room, toRoot}
 use Rattle.zuvaropy.specs.Word.{outcomeYes, valueWord}

@@ -29,7 +29,7 @@ use Rattle.countermodel.specs.Layout.{individualLength, individualTag}
 use Rattle.picture.specs.View.{Readable}
 use Rattle.meaning.specs.NormalTable.{mergedCount}
 use Rattle.workspace.specs.Prepare.{workSize}
-use Rattle.evidence.specs.Form.{mapTag}
+use Rattle.homomorphism.specs.Layout.{mapTag}
 use Rattle.zuvaropy.specs.Calls.{normalizeBuffer, normalizeWord, verifyWord}
 use Rattle.zuvaropy.specs.Word.{outcomeNo, outcomeYes, valueWord}
 

@@ -25,7 +25,7 @@ use Rattle.countermodel.proofs.model.restricted.Kinds as restricted-kin
 use Rattle.countermodel.proofs.model.+below+fits+restricted.Lts-restricted as restricted-lts
 use Rattle.countermodel.proofs.individual.role.Reads as individual-role-reads
 use Rattle.countermodel.proofs.model.index.Reads as index-reads
-use Rattle.countermodel.proofs.model.label_at.Reads as label-at-reads
+use Rattle.homomorphism.proofs.label.label_at.Reads as label-at-reads
 use Rattle.countermodel.proofs.model.satisfies.Reads as satisfies-reads
 use Rattle.table.proofs.number.wide.Reads as wide-reads
 use Rattle.table.proofs.row.kind.Reads as kind-reads

@@ -6,7 +6,8 @@ use mathlib.Core.Bool.{true}
 use mathlib.Core.Path.{_≡_, _∙_, ap, sym}
 use native.Mathlib.Omega.{arith}
 use Rattle.table.specs.Fields.{endsAt}
-use Rattle.evidence.specs.Form.{«imagePlace», mapForm}
+use Rattle.homomorphism.specs.Layout.{«imagePlace»}
+use Rattle.evidence.specs.Form.{mapForm}
 use Rattle.table.proofs.Rows.{ends-parts}
 use Rattle.evidence.proofs.form.has_map_form.Statement.{statement}
 use Rattle.evidence.proofs.form.has_map_form.Tie as tie

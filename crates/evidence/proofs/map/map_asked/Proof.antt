@@ -5,7 +5,7 @@ use denote.Ref.{now}
 use mathlib.Core.Path.{_≡_, _∙_, sym}
 use native.Mathlib.Omega.{arith}
 use Rattle.meaning.specs.Meaning.{pictureTable}
-use Rattle.evidence.specs.Form.{imageOf}
+use Rattle.homomorphism.specs.Layout.{imageOf}
 use Rattle.evidence.specs.Map.{inOrder, mapAsked, rowAsked}
 use Rattle.evidence.proofs.MapLaws.{images-on, map-starts, order-done, order-on, order-stops}
 use Rattle.evidence.proofs.map.map_asked.Statement.{statement}

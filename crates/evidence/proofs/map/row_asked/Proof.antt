@@ -11,7 +11,7 @@ use mathlib.Core.Path.{_≡_, _∙_, ap, refl, sym}
 use native.Mathlib.Omega.{arith}
 use Rattle.meaning.specs.Meaning.{pictureTable}
 use Rattle.table.specs.Pick.{pick}
-use Rattle.evidence.specs.Form.{imageOf}
+use Rattle.homomorphism.specs.Layout.{imageOf}
 use Rattle.evidence.specs.Map.{ask, rowAsked}
 use Rattle.evidence.specs.declared.asked.Asked.the-variants.{Yes}
 use Rattle.evidence.proofs.MapLaws.{image-whole, row-read}

@@ -2,9 +2,9 @@
 use mathlib.Core.Path.{refl}
 use borrow.Author.Needs.{needs}
 use denote.Ref.{now}
-use Rattle.countermodel.proofs.LabelTests.{row-label}
-use Rattle.countermodel.proofs.model.label_at.Statement.{statement}
-use Rattle.countermodel.proofs.model.label_at.Tie as tie
+use Rattle.homomorphism.proofs.Labels.{row-label}
+use Rattle.homomorphism.proofs.label.label_at.Statement.{statement}
+use Rattle.homomorphism.proofs.label.label_at.Tie as tie
 
 impossible-requires : tie.Need-impossible-requires
 impossible-requires c κs = search needs

@@ -5,8 +5,8 @@ use denote.Ref.{now}
 use mathlib.Core.Path.{_∙_, ap}
 use Rattle.table.specs.Layout.{numberSize}
 use Rattle.table.specs.Number.{be}
-use Rattle.evidence.proofs.form.image.Statement.{statement}
-use Rattle.evidence.proofs.form.image.Tie as tie
+use Rattle.homomorphism.proofs.layout.image.Statement.{statement}
+use Rattle.homomorphism.proofs.layout.image.Tie as tie
 
 image-place-requires : tie.Need-image-place-requires
 image-place-requires c κs = search needs

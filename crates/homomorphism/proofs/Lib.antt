@@ -1,0 +1,5 @@
+-- Laws of the search and of the map, by subject.
+pub mod Labels
+pub mod Walks
+pub mod Searches
+pub mod Maps
