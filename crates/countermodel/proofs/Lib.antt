@@ -4,8 +4,10 @@ pub mod Individuals
 pub mod Files
 pub mod LabelTests
 pub mod Models
+-- what is written
 pub mod Writings
 pub mod Walks
 pub mod Canonicals
-pub mod IndividualTrees
+pub mod Refutings
+pub mod RefutingTurns
 pub mod Refutables

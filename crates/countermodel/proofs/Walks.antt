@@ -1,4 +1,5 @@
 -- A walk along the rows that hang from row u writes the individuals that a function f gives for each of them, one row after the other.
+--   successors-ahead         it has all of them ahead at first
 --   Split                    f of a row and others is f of the row, and then f of the others; f of none is none
 --   WalkAt                   at row v: so far everything before it was written, there is room for what is ahead, and that will complete it
 --   walk-start               before the first turn
@@ -30,6 +31,12 @@ use Rattle.countermodel.specs.Writing.{Room, Written}
 use Rattle.countermodel.proofs.Models.{chain-less}
 use Rattle.countermodel.proofs.Writings.{room-left, room-right, room-same, written-append, written-kept, written-none, written-same}
 
+pub successors-ahead : (s links : List ℕ) (rows u : ℕ) → LinkedTable s rows links → u < rows →
+    successorRows pictureSignature (pictureTable s) u ≡ ahead (parentOf s) rows u (getD links u 0)
+unfolding viewOf
+successors-ahead s links rows u table l =
+    ap (λ m. filterBelow (childOf (parentOf s) u) m) (sym (table .checked .counted)) ∙ chain-first (parentOf s) rows u maxRows links (table .linked) l
+
 pub record Split (f : List ℕ → Forest pictureSignature) : Type 0 where
   pub none : f [] ≡ nil
   pub first : (v : ℕ) (vs : List ℕ) → f (v ∷ vs) ≡ append pictureSignature (f (v ∷ [])) (f vs)
@@ -54,15 +61,10 @@ parts f g parent next a e =
 
 module _ (f : List ℕ → Forest pictureSignature) (split : Split f) (s links : List ℕ) (rows u parent : ℕ) (table : LinkedTable s rows links)
     (start : List ℕ) (k : ℕ) where
-  successors-ahead : u < rows → successorRows pictureSignature (pictureTable s) u ≡ ahead (parentOf s) rows u (getD links u 0)
-  unfolding viewOf
-  successors-ahead l =
-      ap (λ m. filterBelow (childOf (parentOf s) u) m) (sym (table .checked .counted)) ∙ chain-first (parentOf s) rows u maxRows links (table .linked) l
-
   pub walk-start : (v : ℕ) → u < rows → v ≡ getD links u 0 → Room start k (reachedAll (f (successorRows pictureSignature (pictureTable s) u)) parent k) →
       WalkAt f s rows u parent start k v k start
   walk-start v l e room =
-      let same = ap (λ vs. reachedAll (f vs) parent k) (successors-ahead l) in
+      let same = ap (λ vs. reachedAll (f vs) parent k) (successors-ahead s links rows u table l) in
       rw e (record {
         on = chain-on-first (parentOf s) rows u maxRows links (table .linked) l;
         kept = refl;

@@ -3,4 +3,5 @@ pub mod individual;
 pub mod layout;
 pub mod links;
 pub mod model;
+pub mod refute;
 pub mod writer;

@@ -88,9 +88,17 @@ write-canonical-write-canonical-below-requires t c κs =
     let a = st .args in
     let pre = st .pre .1 in
     let names = c .before .before .before .before .wanted in
-    let one = c .before .before .before .write-individual in
-    (omega (arith, st .pre .0), (pre .0, (pre .1 .0, canonical-room (now (a .first)) (a .depth) (a .u) (now (a .out)) (a .k) (a .parent) (a .role)
-    (pre .1 .1) (one .last .0) (setOf (names .result)) (names .ensures) (one .ensures))))
+    let one = c .before .before .before .write-individual in (
+      omega (arith, st .pre .0),
+      (
+        pre .0,
+        (
+          pre .1 .0,
+          canonical-room (now (a .first)) (a .depth) (a .u) (now (a .out)) (a .k) (a .parent) (a .role)
+              (pre .1 .1) (one .last .0) (setOf (names .result)) (names .ensures) (one .ensures),
+        ),
+      ),
+    )
 
 write-canonical-same-length : (t : ℕ) → write-canonical-lts.Need-same-length (write-canonical-claims t)
     (write-canonical-at t) write-canonical.Post
@@ -182,10 +190,18 @@ write-canonical-below-write-canonical-requires t c κs =
     let z = c .before .before .before .before .loop-test .taken in
     let kind = c .before .before .before .kind in
     let role = c .before .role in
-    let deep = c .before .before .before .before .before .before .before .before .if1 .left in
-    (omega (arith, st .pre .0, deep), (pre .0, (l .inv .on z .0, canonical-turn (now (a .first)) (now (a .links)) (a .n) (a .u) (a .parent) (pre .0)
-    (now (a .out)) (a .k) (a .depth) (c .before .before .before .before .before .before .before .before .if1 .left) (l .v) (l .next) (l .out) z
-    (l .inv) (kind .result) (kind .ensures) (role .result) (role .ensures) (c .before .before .if2 .taken))))
+    let deep = c .before .before .before .before .before .before .before .before .if1 .left in (
+      omega (arith, st .pre .0, deep),
+      (
+        pre .0,
+        (
+          l .inv .on z .0,
+          canonical-turn (now (a .first)) (now (a .links)) (a .n) (a .u) (a .parent) (pre .0)
+              (now (a .out)) (a .k) (a .depth) (c .before .before .before .before .before .before .before .before .if1 .left) (l .v) (l .next) (l .out) z
+              (l .inv) (kind .result) (kind .ensures) (role .result) (role .ensures) (c .before .before .if2 .taken),
+        ),
+      ),
+    )
 
 write-canonical-below-add-wide : (t : ℕ) → write-canonical-below-lts.Need-add-wide (write-canonical-below-claims t)
     (write-canonical-below-at t) write-canonical-below′.Post write-canonical-below-Inv-loop write-canonical-below-μ-loop
