@@ -5,8 +5,10 @@
 --   first-part, second-part     the tables as they are lent from the work space
 --   check-parts                 the answer over them
 --   tables-in                   once both tables are written they are there, each as the code needs it
---   check-halves                and the answer over them is what the definition says of the pictures
---   prepared-in, prepared-check   so after `prepare` has given the pair
+--   prepared-pair               after `prepare` has given the pair, it is acceptable,
+--   prepared-first,
+--   prepared-second, prepared-in   the tables are the normal files, each as the code needs it,
+--   prepared-check              and the answer over them is what the definition says of the pictures
 use Prim.Native.Nat.{ℕ, _+_, _-_, _≤_}
 use native.Mathlib.Omega.{arith}
 use lib.ListN.{drop, length, take}
@@ -117,27 +119,30 @@ module _ (limits : Limits) (first second work : List ℕ) (bounded : Bounded lim
             (readable-checked limits (normalFile limits second) (tableRows limits second) (normal-reads limits second (pair .second-few) bounded) bounded);
       }
 
-  pub check-halves : (e : List ℕ) →
-      checkIn limits (firstIn (tablesOf limits first second) (halvesPut limits first second work)) (secondIn limits (tablesOf limits first second) (halvesPut limits first second work)) e
-      ≡ evidenceAnswer limits first second e
-  check-halves e =
-      check-parts limits (firstIn p (halvesPut limits first second work)) (secondIn limits p (halvesPut limits first second work)) (normalFile limits first) (normalFile limits second) e first-is second-is
-      ∙ check-evidence limits first second e bounded pair
-
-module _ (limits : Limits) (first second old e work : List ℕ) (answer : Prepared) (pair : Pair) (bounded : Bounded limits) (enough : workSize limits ≤ length old) (is : answer ≡ prepareAnswer limits first second) (written : work ≡ onPrepared answer (halvesPut limits first second old) old) (tables : answer ≡ Tables pair) where
+-- after `prepare`
+module _ (limits : Limits) (first second old work : List ℕ) (answer : Prepared) (pair : Pair) (bounded : Bounded limits) (enough : workSize limits ≤ length old) (is : answer ≡ prepareAnswer limits first second) (written : work ≡ onPrepared answer (halvesPut limits first second old) old) (tables : answer ≡ Tables pair) where
   accepted : Acceptable limits first second × (pair ≡ tablesOf limits first second)
   accepted = tables-acceptable limits first second pair (sym is ∙ tables)
 
-  halves : work ≡ halvesPut limits first second old
-  halves = written ∙ ap (λ a. onPrepared a (halvesPut limits first second old) old) tables
+  pub prepared-pair : Acceptable limits first second
+  prepared-pair = accepted .0
+
+  -- what is true of both tables once they are written
+  as-written : (P : Pair → List ℕ → Type 0) → P (tablesOf limits first second) (halvesPut limits first second old) → P pair work
+  as-written P h =
+      let halves : work ≡ halvesPut limits first second old = written ∙ ap (λ a. onPrepared a (halvesPut limits first second old) old) tables in
+      subst (λ q. P q work) (sym (accepted .1)) (subst (λ w. P (tablesOf limits first second) w) (sym halves) h)
+
+  pub prepared-first : firstIn pair work ≡ normalFile limits first
+  prepared-first = as-written (λ q w. firstIn q w ≡ normalFile limits first) (first-is limits first second old bounded prepared-pair enough)
+
+  pub prepared-second : secondIn limits pair work ≡ normalFile limits second
+  prepared-second = as-written (λ q w. secondIn limits q w ≡ normalFile limits second) (second-is limits first second old bounded prepared-pair enough)
 
   pub prepared-in : TablesIn limits work pair
-  prepared-in =
-      subst (λ q. TablesIn limits work q) (sym (accepted .1))
-      (subst (λ w. TablesIn limits w (tablesOf limits first second)) (sym halves) (tables-in limits first second old bounded (accepted .0) enough))
+  prepared-in = as-written (λ q w. TablesIn limits w q) (tables-in limits first second old bounded prepared-pair enough)
 
-  pub prepared-check : checkIn limits (firstIn pair work) (secondIn limits pair work) e ≡ evidenceAnswer limits first second e
-  prepared-check =
-      ap (λ q. checkIn limits (firstIn q work) (secondIn limits q work) e) (accepted .1)
-      ∙ ap (λ w. checkIn limits (firstIn (tablesOf limits first second) w) (secondIn limits (tablesOf limits first second) w) e) halves
-      ∙ check-halves limits first second old bounded (accepted .0) enough e
+  pub prepared-check : (e : List ℕ) → checkIn limits (firstIn pair work) (secondIn limits pair work) e ≡ evidenceAnswer limits first second e
+  prepared-check e =
+      check-parts limits (firstIn pair work) (secondIn limits pair work) (normalFile limits first) (normalFile limits second) e prepared-first prepared-second
+      ∙ check-evidence limits first second e bounded prepared-pair

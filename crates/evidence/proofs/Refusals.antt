@@ -1,6 +1,7 @@
 -- Which refusals the fifth call gives: 1 names the buffer, 2 to 14 one of the two pictures, 16 to 23 the evidence; there is no other.
---   Concerns          the numbers by which an input can be refused
---   verify-refusal    so is every refusal of the call
+--   Concerns                        the numbers by which an input can be refused
+--   Known, Prepares, prepare-known  so is every refusal of a pair by 2 to 14
+--   verify-refusal                  and every refusal of the call
 use Prim.Native.Nat.{ℕ, zero, suc, _+_, _≤_}
 use native.Mathlib.Omega.{arith}
 use lib.Dec.{eqb, leb, ltb}
@@ -52,7 +53,7 @@ Concerns Evidence number = (16 ≤ number) × (number ≤ 23)
 Concerns Book number = ⊥
 Concerns (Card n) number = ⊥
 
-abbrev Known : Refusal → Type 0
+abbrev pub Known : Refusal → Type 0
 Known r = Concerns (r .input) (r .number)
 
 abbrev Numbered : Asked → Type 0
@@ -64,7 +65,7 @@ Answers MapTaken = Unit
 Answers RefutationTaken = Unit
 Answers (Refused r) = Known r
 
-abbrev Prepares : Prepared → Type 0
+abbrev pub Prepares : Prepared → Type 0
 Prepares (prepared.Tables p) = Unit
 Prepares (prepared.Refused r) = Known r
 
@@ -132,7 +133,7 @@ module _ (limits : Limits) (first second : List ℕ) where
       let asked = reading-number limits s q e in
       named q (asked .least) (omega (arith, asked .most))
 
-  prepare-known : Prepares (prepareAnswer limits first second)
+  pub prepare-known : Prepares (prepareAnswer limits first second)
   unfolding prepareAnswer mergedAsked answerOf
   prepare-known =
       let tables = mergedAsked limits first second in

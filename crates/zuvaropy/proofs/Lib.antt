@@ -1,6 +1,8 @@
 -- Laws of the answer word and of the calls, and the starred cases.
 pub mod Words
 pub mod NormalWords
+pub mod PairWords
 pub mod VerifyWords
+pub mod SubsumesWords
 pub mod EmptySubsumes
 pub mod StarredHold

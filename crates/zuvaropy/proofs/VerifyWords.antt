@@ -2,9 +2,7 @@
 -- The answers themselves, at any limits, are evidence's (Verifications, Soundness).
 --   Refuses                       the word of a refusal, and nothing written
 --   verify-short                  1: the work space is shorter than two halves
---   verify-first, verify-second   2 to 13 of the first picture, then of the second, the number being that of the reading
---   verify-many-first,
---   verify-many-second            14 of the first, then of the second
+--   verify-refuses                2 to 13 of the first picture, then of the second; 14 of the first, then of the second (PairWords)
 --   verify-checked                else 16 to 23 decide the word, and both normal tables stand in the work space
 --   verify-space-same             the two halves then do not depend on what stood there; nor does the word, by its definition
 --   verify-map, map-verify        the word says "map taken" exactly when the evidence is a map of the pair and 17 to 20 are answered yes,
@@ -18,22 +16,18 @@ use native.Mathlib.Omega.{arith}
 use lib.ListN.{getD, length, take}
 use mathlib.Core.List.{List, _++_}
 use mathlib.Core.Path.{_∙_, _≡_, ap, refl}
-use Rattle.table.specs.Bounds.{Bounded, benchLimits, maxRows}
+use Rattle.table.specs.Bounds.{benchLimits}
 use Rattle.ale.specs.Interpretation.{Subsumed}
 use Rattle.ale.specs.PictureSignature.{pictureSignature}
-use Rattle.picture.specs.Read.{readingOf}
-use Rattle.picture.specs.View.{Readable}
 use Rattle.picture.specs.declared.answer.Input.{Input}
-use Rattle.picture.specs.declared.answer.Input.the-variants.{Book, Buffer, Card, Evidence, First, Second}
+use Rattle.picture.specs.declared.answer.Input.the-variants.{Buffer}
 use Rattle.picture.specs.declared.answer.Refusal.{Refusal}
-use Rattle.picture.specs.declared.read.Reading.the-variants as reading
 use Rattle.meaning.specs.Meaning.{pictureTree}
-use Rattle.meaning.specs.NormalTable.{mergedCount, normalFile}
+use Rattle.meaning.specs.NormalTable.{normalFile}
 use Rattle.normal.specs.Half.{halfOf}
-use Rattle.workspace.proofs.Preparations.{halves-same, prepare-first, prepare-many-first, prepare-many-second, prepare-second}
-use Rattle.workspace.specs.Prepare.{Acceptable, halvesPut, prepareAnswer, workSize}
-use Rattle.workspace.specs.declared.prepare.Prepared.the-variants as prepared
-use Rattle.evidence.proofs.Refusals.{Concerns, verify-refusal}
+use Rattle.workspace.proofs.Preparations.{halves-same}
+use Rattle.workspace.specs.Prepare.{Acceptable, halvesPut, workSize}
+use Rattle.evidence.proofs.Refusals.{verify-refusal}
 use Rattle.evidence.proofs.Soundness.{map-no-refusal, map-sound, map-taken, refutation-no-refusal, refutation-sound, refutation-taken}
 use Rattle.evidence.proofs.Verifications.{acceptable-verify, acceptable-work, refused-verify, refused-work, short-verify, short-work, verify-taken, work-kept, work-past}
 use Rattle.evidence.specs.Call.{evidenceAnswer, verifyAnswer}
@@ -41,11 +35,9 @@ use Rattle.evidence.specs.Taken.{MapOf, RefutationOf}
 use Rattle.evidence.specs.declared.check.Verified.{Verified}
 use Rattle.evidence.specs.declared.check.Verified.the-variants as verified
 use Rattle.zuvaropy.specs.Calls.{verifySpace, verifyWord}
-use Rattle.zuvaropy.specs.Word.{cardOf, outcomeNo, outcomeYes, refusalWord, verifiedWord}
-use Rattle.zuvaropy.proofs.Words.{outcome, refusal-outcome, refused}
-
-bench : Bounded benchLimits
-bench = (omega arith, omega arith)
+use Rattle.zuvaropy.specs.Word.{outcomeNo, outcomeYes, refusalWord, verifiedWord}
+use Rattle.zuvaropy.proofs.PairWords.{Refusals, bench, concerns-zero, refusals}
+use Rattle.zuvaropy.proofs.Words.{outcome, refused}
 
 module _ (first second evidence work : List ℕ) where
   abbrev pub Refuses : ℕ → Input → Type 0
@@ -56,27 +48,11 @@ module _ (first second evidence work : List ℕ) where
   verify-short h = (rw (short-verify benchLimits first second evidence (length work) h), short-work benchLimits first second work h)
 
   module _ (enough : workSize benchLimits ≤ length work) where
-    prepared-refuses : (r : Refusal) → prepareAnswer benchLimits first second ≡ prepared.Refused r →
-        (verifyWord first second evidence (length work) ≡ refusalWord r) × (verifySpace first second work ≡ work)
+    pub verify-refuses : Refusals first second Refuses
     unfolding verifyWord verifySpace
-    prepared-refuses r e =
-        (rw (refused-verify benchLimits first second evidence (length work) enough r e), refused-work benchLimits first second work enough r e)
-
-    pub verify-first : (q : ℕ) → readingOf benchLimits first ≡ reading.Failed q → Refuses q First
-    verify-first q e = prepared-refuses (record { number = q; input = First }) (prepare-first benchLimits first second q e)
-
-    module _ (readable : Readable benchLimits first) where
-      pub verify-second : (q : ℕ) → readingOf benchLimits second ≡ reading.Failed q → Refuses q Second
-      verify-second q e = prepared-refuses (record { number = q; input = Second }) (prepare-second benchLimits first second readable q e)
-
-      module _ (readable-second : Readable benchLimits second) where
-        pub verify-many-first : maxRows < mergedCount benchLimits first → Refuses 14 First
-        verify-many-first h =
-            prepared-refuses (record { number = 14; input = First }) (prepare-many-first benchLimits first second readable readable-second h)
-
-        pub verify-many-second : mergedCount benchLimits first ≤ maxRows → maxRows < mergedCount benchLimits second → Refuses 14 Second
-        verify-many-second few h =
-            prepared-refuses (record { number = 14; input = Second }) (prepare-many-second benchLimits first second readable readable-second few h)
+    verify-refuses =
+        refusals first second Refuses (λ r e.
+        (rw (refused-verify benchLimits first second evidence (length work) enough r e), refused-work benchLimits first second work enough r e))
 
     module _ (pair : Acceptable benchLimits first second) where
       pub verify-checked :
@@ -104,19 +80,8 @@ module _ (first second evidence work : List ℕ) where
 -- ---- what a word shows
 
 module _ (first second evidence : List ℕ) (room : ℕ) where
-  -- the word of a refusal has outcome 0
-  number-small : (i : Input) (number : ℕ) → Concerns i number → (number < 256) × (cardOf i < 256)
-  number-small Buffer number h = (omega arith, omega arith)
-  number-small First number (a, b) = (omega arith, omega arith)
-  number-small Second number (a, b) = (omega arith, omega arith)
-  number-small Evidence number (a, b) = (omega arith, omega arith)
-  number-small Book number h = absurd h
-  number-small (Card n) number h = absurd h
-
   refusal-zero : (r : Refusal) → verifyAnswer benchLimits first second evidence room ≡ verified.Refused r → outcome (refusalWord r) ≡ 0
-  refusal-zero r e =
-      let (number, card) = number-small (r .input) (r .number) (verify-refusal benchLimits first second evidence room r e) in
-      refusal-outcome r number card
+  refusal-zero r e = concerns-zero r (verify-refusal benchLimits first second evidence room r e)
 
   map-word : (v : Verified) → verifyAnswer benchLimits first second evidence room ≡ v → outcome (verifiedWord v) ≡ outcomeYes → v ≡ verified.MapTaken
   map-word verified.MapTaken e h = refl

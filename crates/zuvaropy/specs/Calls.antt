@@ -1,7 +1,8 @@
 -- 01, "The calls": the word that each call gives, from the bytes it is lent, and what each buffer lent for writing holds then.
---   validateWord                     the plain test
---   normalizeWord, normalizeBuffer   the normal table
---   verifyWord, verifySpace          the check of evidence
+--   validateWord                                  the plain test
+--   normalizeWord, normalizeBuffer                the normal table
+--   subsumesWord, subsumesSpace, subsumesBuffer   the verdict with evidence
+--   verifyWord, verifySpace                       the check of evidence
 use mathlib.Core.List.{List}
 use Prim.Native.Nat.{ℕ}
 use Rattle.table.specs.Bounds.{benchLimits}
@@ -9,7 +10,8 @@ use Rattle.picture.specs.declared.answer.Input.the-variants.{First}
 use Rattle.picture.specs.Read.{answerOf}
 use Rattle.normal.specs.Call.{normalizeAnswer, normalizeResult}
 use Rattle.evidence.specs.Call.{verifyAnswer, verifyWork}
-use Rattle.zuvaropy.specs.Word.{normalizedWord, readWord, verifiedWord}
+use Rattle.subsumption.specs.Call.{subsumesAnswer, subsumesResult, subsumesWork}
+use Rattle.zuvaropy.specs.Word.{normalizedWord, readWord, verdictWord, verifiedWord}
 
 -- Test one picture; give its row count. A single picture is the first input.
 unfoldable pub validateWord : List ℕ → ℕ
@@ -22,6 +24,19 @@ normalizeWord picture room = normalizedWord (normalizeAnswer benchLimits picture
 -- the result buffer: the normal table from its first byte on, or nothing written
 unfoldable pub normalizeBuffer : List ℕ → List ℕ → List ℕ
 normalizeBuffer picture result = normalizeResult benchLimits picture result
+
+-- Verdict with evidence, and its length (buffer 46,595): 1 of the work space and of the result buffer, so many bytes long; first; second; 14 of each;
+-- yes or no.
+unfoldable pub subsumesWord : List ℕ → List ℕ → ℕ → ℕ → ℕ
+subsumesWord first second work result = verdictWord (subsumesAnswer benchLimits first second work result)
+
+-- the work space, as that of the check; `result` is how long the result buffer is
+unfoldable pub subsumesSpace : List ℕ → List ℕ → List ℕ → ℕ → List ℕ
+subsumesSpace first second work result = subsumesWork benchLimits first second work result
+
+-- the result buffer: the evidence from its first byte on, or nothing written; `work` is how long the work space is
+unfoldable pub subsumesBuffer : List ℕ → List ℕ → ℕ → List ℕ → List ℕ
+subsumesBuffer first second work result = subsumesResult benchLimits first second work result
 
 -- Check evidence: map taken or refutation taken: 1 of the work space, so many bytes long; first; second; 14 of each; 16 to 23.
 unfoldable pub verifyWord : List ℕ → List ℕ → List ℕ → ℕ → ℕ

@@ -12,6 +12,8 @@ use Rattle.normal.specs.declared.normalize.Normalized.{Normalized}
 use Rattle.normal.specs.declared.normalize.Normalized.the-variants as normalized
 use Rattle.evidence.specs.declared.check.Verified.{Verified}
 use Rattle.evidence.specs.declared.check.Verified.the-variants as verified
+use Rattle.subsumption.specs.declared.verdict.Verdict.{Verdict}
+use Rattle.subsumption.specs.declared.verdict.Verdict.the-variants as verdict
 
 abbrev pub outcomeYes : ℕ
 outcomeYes = 1
@@ -50,6 +52,12 @@ readWord (answer.Refused r) = refusalWord r
 abbrev pub normalizedWord : Normalized → ℕ
 normalizedWord (normalized.Length n) = valueWord outcomeYes n
 normalizedWord (normalized.Refused r) = refusalWord r
+
+-- the verdict: yes or no, with the length of the evidence in bytes, or the refusal
+abbrev pub verdictWord : Verdict → ℕ
+verdictWord (verdict.Yes n) = valueWord outcomeYes n
+verdictWord (verdict.No n) = valueWord outcomeNo n
+verdictWord (verdict.Refused r) = refusalWord r
 
 -- the check of evidence: which kind was taken, with value 0, or the refusal
 abbrev pub verifiedWord : Verified → ℕ

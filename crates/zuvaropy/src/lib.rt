@@ -10,10 +10,12 @@ use normal::normalize::normalize;
 use picture::answer::Answer;
 use picture::answer::Input;
 use picture::read::read;
+use subsumption::subsumes::subsumes;
+use subsumption::verdict::Verdict;
 use table::layout::Limits;
 ghost use mathlib.Core.Path.{_≡_};
 ghost use lib.ListN.{length};
-ghost use Rattle.zuvaropy.specs.Calls.{validateWord, normalizeWord, normalizeBuffer, verifySpace, verifyWord};
+ghost use Rattle.zuvaropy.specs.Calls.{validateWord, normalizeWord, normalizeBuffer, subsumesBuffer, subsumesSpace, subsumesWord, verifySpace, verifyWord};
 
 mod word;
 
@@ -36,6 +38,24 @@ pub extern "C" fn zuvaropy_normalize(picture: &[u8], result: &mut [u8]) -> u64
     match normalize(picture, Limits::bench(), result) {
         Normalized::Length(n) => value_word(YES, n as u64),
         Normalized::Refused(refusal) => refusal_word(refusal),
+    }
+}
+
+// The verdict: whether the second picture covers the first. The evidence is written into the result buffer, and its length given; the normal tables stand
+// in the work space then.
+#[no_mangle]
+pub extern "C" fn zuvaropy_subsumes(
+    first: &[u8],
+    second: &[u8],
+    work: &mut [u8],
+    result: &mut [u8],
+) -> u64
+    ensures { λ r. ⌜ (r ≡ subsumesWord (now (first .entry)) (now (second .entry)) (length (now (work .entry))) (length (now (result .entry)))) × ((now (work .exit) ≡ subsumesSpace (now (first .entry)) (now (second .entry)) (now (work .entry)) (length (now (result .entry)))) × (now (result .exit) ≡ subsumesBuffer (now (first .entry)) (now (second .entry)) (length (now (work .entry))) (now (result .entry)))) ⌝ }
+{
+    match subsumes(first, second, Limits::bench(), work, result) {
+        Verdict::Yes(n) => value_word(YES, n as u64),
+        Verdict::No(n) => value_word(NO, n as u64),
+        Verdict::Refused(refusal) => refusal_word(refusal),
     }
 }
 

@@ -37,7 +37,7 @@ check-in-requires c κs =
     let prepare = c .before .before .before .before .before .before .prepare in
     let enough : workSize (a .limits) ≤ length (now (a .work)) = omega (arith, c .before .before .before .before .before .before .before .before .if1 .left, c .before .before .before .before .before .before .before .before .before .half-size .ensures) in
     let pair = c .before .before .pair .given in
-    (start .pre, prepared-in (a .limits) (now (a .first)) (now (a .second)) (now (a .work)) (now (a .evidence)) (prepare .last .1 .1 .1 .0) (prepare .result) (pair .0 .0) (start .pre) enough (prepare .ensures .0) (prepare .ensures .1) (pair .1))
+    (start .pre, prepared-in (a .limits) (now (a .first)) (now (a .second)) (now (a .work)) (prepare .last .1 .1 .1 .0) (prepare .result) (pair .0 .0) (start .pre) enough (prepare .ensures .0) (prepare .ensures .1) (pair .1))
 
 enum-known-refusal : tie.Need-enum-known-refusal
 enum-known-refusal c = search needs
@@ -54,7 +54,7 @@ returns-2 c =
     let pair = c .before .before .before .pair .given in
     let same = sym (prepare .ensures .0) ∙ pair .1 in (
       c .check-in .ensures
-          ∙ prepared-check (a .limits) (now (a .first)) (now (a .second)) (now (a .work)) (now (a .evidence)) (prepare .last .1 .1 .1 .0) (prepare .result) (pair .0 .0) (start .pre) enough (prepare .ensures .0) (prepare .ensures .1) (pair .1)
+          ∙ prepared-check (a .limits) (now (a .first)) (now (a .second)) (now (a .work)) (prepare .last .1 .1 .1 .0) (prepare .result) (pair .0 .0) (start .pre) enough (prepare .ensures .0) (prepare .ensures .1) (pair .1) (now (a .evidence))
           ∙ sym (prepared-verify (a .limits) (now (a .first)) (now (a .second)) (now (a .evidence)) (length (now (a .work))) enough (Tables (pair .0 .0)) same),
       prepare .ensures .1 ∙ sym (prepared-work (a .limits) (now (a .first)) (now (a .second)) (now (a .work)) enough (prepare .result) (sym (prepare .ensures .0))),
     )

@@ -1,0 +1,159 @@
+-- Conditions 2 (the verdict) and 3, of the calls' definitions over byte lists: what zuvaropy_subsumes and zuvaropy_verify promise is an equality with these
+-- (zuvaropy, specs/Calls). Each sentence stands above what says it. The limits are any that the code can hold; those of paper 01, with its numbers, are
+-- `benchLimits`.
+--
+-- The pair: "any two readable pictures, each at most 256 rows when merged" is `Acceptable` (workspace, specs/Prepare). "Buffers of the lengths laid down"
+-- are at least `workSize` and `evidenceSize` bytes long; what the two lent buffers hold beforehand is no argument of an answer, only their lengths are. The
+-- inputs are lists of any numbers, bytes among them; where evidence is said to exist, or is written, it is bytes. The trees of `Covers` are read down to the
+-- depth limit, below which a readable picture has no row (meaning, proofs/Pictures: `picture-whole`).
+--
+--   Covers                the second picture covers the first: 003, Definition 1, with Table 1's extensions, over finite interpretations
+--   SaysYes, SaysNo       the verdict is yes, is no, with evidence of a length
+--   written               the result buffer's bytes up to the reported length
+--   condition-2-verdict   condition 2
+--   condition-3           condition 3
+--   condition-3-any       its first sentence of any bytes at all, in the place of the pictures too
+--   paper-limits          paper 01's limits are such limits, and have its lengths
+use Prim.Native.Nat.{ℕ, _≤_}
+use lib.ListN.{length, take}
+use mathlib.Core.Bool.{false, true}
+use mathlib.Core.List.{List}
+use mathlib.Core.Logic.{_⊎_, _↔_, inl, inr}
+use mathlib.Core.Path.{_≡_, refl}
+use native.Mathlib.Omega.{arith}
+use Rattle.table.proofs.Bools.{by-test}
+use Rattle.table.specs.Bounds.{Bounded, benchLimits}
+use Rattle.table.specs.Number.{Bytes}
+use Rattle.table.specs.declared.layout.Limits.{Limits}
+use Rattle.ale.specs.Concept.{ConceptSubsumed, conceptOf}
+use Rattle.ale.specs.PictureSignature.{pictureSignature}
+use Rattle.meaning.specs.Meaning.{pictureTable, pictureTree}
+use Rattle.meaning.specs.NormalTable.{normalFile}
+use Rattle.workspace.specs.Prepare.{Acceptable, workSize}
+use Rattle.evidence.specs.Call.{verifyAnswer}
+use Rattle.evidence.specs.Form.{mapForm}
+use Rattle.evidence.specs.declared.check.Verified.the-variants.{MapTaken, RefutationTaken}
+use Rattle.subsumption.specs.Call.{subsumesAnswer, subsumesResult}
+use Rattle.subsumption.specs.Verdict.{evidenceOf, evidenceSize, verdictOf}
+use Rattle.subsumption.specs.declared.verdict.Verdict.{Verdict}
+use Rattle.subsumption.specs.declared.verdict.Verdict.the-variants.{No, Yes}
+use Rattle.subsumption.proofs.Answers.{answered-no, answered-yes, evidence-read, no-subsumes, yes-subsumes}
+use Rattle.subsumption.proofs.Writers.{evidence-bytes, evidence-size, map-covers, no-form, no-verify, refutation-fails, verdict-covers, verdict-fails, yes-form, yes-verify}
+
+abbrev pub Covers : Limits → List ℕ → List ℕ → Type 0
+Covers limits second first =
+    ConceptSubsumed pictureSignature (conceptOf pictureSignature (pictureTree limits first)) (conceptOf pictureSignature (pictureTree limits second))
+
+abbrev pub SaysYes : Verdict → Type 0
+SaysYes answer = (n : ℕ) × (answer ≡ Yes n)
+
+abbrev pub SaysNo : Verdict → Type 0
+SaysNo answer = (n : ℕ) × (answer ≡ No n)
+
+abbrev pub written : Limits → List ℕ → List ℕ → ℕ → List ℕ → ℕ → List ℕ
+written limits first second work result n = take n (subsumesResult limits first second work result)
+
+-- "The verdict is yes if and only if, in every finite interpretation, each individual fitting the first picture fits the second, by the published meaning
+-- of ALE." And else it is no: such a pair is not refused.
+pub condition-2-verdict : (limits : Limits) → Bounded limits → (first second : List ℕ) → Acceptable limits first second →
+    (work result : ℕ) → workSize limits ≤ work → evidenceSize limits ≤ result →
+    let answer = subsumesAnswer limits first second work result in
+    (SaysYes answer ↔ Covers limits second first) × (SaysNo answer ↔ (Covers limits second first → ⊥)) × (SaysYes answer ⊎ SaysNo answer)
+condition-2-verdict limits bounded first second pair work result enough long =
+    let n = length (evidenceOf limits first second) in
+    let covers = verdict-covers limits first second bounded pair in
+    let fails = verdict-fails limits first second bounded pair in
+    let says-yes : verdictOf limits first second ≡ true → SaysYes (subsumesAnswer limits first second work result) =
+    λ e. (n, yes-subsumes limits first second work result enough long pair e) in
+    let says-no : verdictOf limits first second ≡ false → SaysNo (subsumesAnswer limits first second work result) =
+    λ e. (n, no-subsumes limits first second work result enough long pair e) in (
+      (λ (m, h). covers .1 (answered-yes limits first second work result m h .verdict-is), λ c. says-yes (covers .0 c)),
+      (λ (m, h). fails .0 (answered-no limits first second work result m h .verdict-is), λ c. says-no (fails .1 c)),
+      by-test (verdictOf limits first second) (λ e. inl (says-yes e)) (λ e. inr (says-no e)),
+    )
+
+pub record Condition3 (limits : Limits) (first second : List ℕ) : Type 0 where
+  -- "Whatever bytes reach the check, a map is taken only if the second covers the first, a refutation only if it does not."
+  pub map-only-if : (e : List ℕ) (room : ℕ) → verifyAnswer limits first second e room ≡ MapTaken → Covers limits second first
+  pub refutation-only-if : (e : List ℕ) (room : ℕ) → verifyAnswer limits first second e room ≡ RefutationTaken → Covers limits second first → ⊥
+  -- "For every such pair the check takes some map exactly when the second covers the first, and some refutation exactly when it does not;"
+  pub some-map : (room : ℕ) → workSize limits ≤ room →
+      ((e : List ℕ) × Bytes e × (verifyAnswer limits first second e room ≡ MapTaken)) ↔ Covers limits second first
+  pub some-refutation : (room : ℕ) → workSize limits ≤ room →
+      ((e : List ℕ) × Bytes e × (verifyAnswer limits first second e room ≡ RefutationTaken)) ↔ (Covers limits second first → ⊥)
+  -- "so exactly one of the two kinds can be taken."
+  pub one : (room : ℕ) → workSize limits ≤ room →
+      ((e : List ℕ) × Bytes e × (verifyAnswer limits first second e room ≡ MapTaken))
+      ⊎ ((e : List ℕ) × Bytes e × (verifyAnswer limits first second e room ≡ RefutationTaken))
+  pub not-both : (d e : List ℕ) (room hall : ℕ) → verifyAnswer limits first second d room ≡ MapTaken → verifyAnswer limits first second e hall ≡ RefutationTaken → ⊥
+  -- "Our writer produces evidence of at most 46,595 bytes, a map exactly when its verdict is yes,"
+  pub length-yes : (work result n : ℕ) → subsumesAnswer limits first second work result ≡ Yes n → n ≤ evidenceSize limits
+  pub length-no : (work result n : ℕ) → subsumesAnswer limits first second work result ≡ No n → n ≤ evidenceSize limits
+  pub map-yes : (work : ℕ) (result : List ℕ) (n : ℕ) → subsumesAnswer limits first second work (length result) ≡ Yes n →
+      mapForm ((pictureTable (normalFile limits second)) .rows) (written limits first second work result n) ≡ true
+  pub map-no : (work : ℕ) (result : List ℕ) (n : ℕ) → subsumesAnswer limits first second work (length result) ≡ No n →
+      mapForm ((pictureTable (normalFile limits second)) .rows) (written limits first second work result n) ≡ true → ⊥
+  pub bytes-yes : (work : ℕ) (result : List ℕ) (n : ℕ) → subsumesAnswer limits first second work (length result) ≡ Yes n →
+      Bytes (written limits first second work result n)
+  pub bytes-no : (work : ℕ) (result : List ℕ) (n : ℕ) → subsumesAnswer limits first second work (length result) ≡ No n →
+      Bytes (written limits first second work result n)
+  -- "and the check, given the same inputs in the same order and the result buffer's bytes up to the reported length, takes it, whatever its work space
+  -- holds beforehand."
+  pub taken-yes : (work : ℕ) (result : List ℕ) (n room : ℕ) → subsumesAnswer limits first second work (length result) ≡ Yes n → workSize limits ≤ room →
+      verifyAnswer limits first second (written limits first second work result n) room ≡ MapTaken
+  pub taken-no : (work : ℕ) (result : List ℕ) (n room : ℕ) → subsumesAnswer limits first second work (length result) ≡ No n → workSize limits ≤ room →
+      verifyAnswer limits first second (written limits first second work result n) room ≡ RefutationTaken
+
+pub condition-3 : (limits : Limits) → Bounded limits → (first second : List ℕ) → Acceptable limits first second → Condition3 limits first second
+condition-3 limits bounded first second pair =
+    let evidence = evidenceOf limits first second in
+    let bytes = evidence-bytes limits first second bounded pair in
+    let size = evidence-size limits first second bounded pair in
+    let covers = verdict-covers limits first second bounded pair in
+    let fails = verdict-fails limits first second bounded pair in
+    record {
+      map-only-if = λ e room h. map-covers limits first second e room bounded h;
+      refutation-only-if = λ e room h. refutation-fails limits first second e room bounded h;
+      some-map = λ room enough. (
+        λ (e, b, h). map-covers limits first second e room bounded h,
+        λ c. (evidence, bytes, yes-verify limits first second bounded pair room enough (covers .0 c)),
+      );
+      some-refutation = λ room enough. (
+        λ (e, b, h). refutation-fails limits first second e room bounded h,
+        λ c. (evidence, bytes, no-verify limits first second bounded pair room enough (fails .1 c)),
+      );
+      one = λ room enough. by-test (verdictOf limits first second)
+          (λ v. inl (evidence, bytes, yes-verify limits first second bounded pair room enough v))
+          (λ v. inr (evidence, bytes, no-verify limits first second bounded pair room enough v));
+      not-both = λ d e room hall h k. refutation-fails limits first second e hall bounded k (map-covers limits first second d room bounded h);
+      length-yes = λ work result n h. omega (arith, answered-yes limits first second work result n h .length-is);
+      length-no = λ work result n h. omega (arith, answered-no limits first second work result n h .length-is);
+      map-yes = λ work result n h.
+          let a = answered-yes limits first second work (length result) n h in
+          rw (evidence-read limits first second work result true n a) (yes-form limits first second bounded pair (a .verdict-is));
+      map-no = λ work result n h k.
+          let a = answered-no limits first second work (length result) n h in
+          no-form limits first second bounded pair (a .verdict-is) (rw (evidence-read limits first second work result false n a) at k);
+      bytes-yes = λ work result n h.
+          let a = answered-yes limits first second work (length result) n h in
+          rw (evidence-read limits first second work result true n a) bytes;
+      bytes-no = λ work result n h.
+          let a = answered-no limits first second work (length result) n h in
+          rw (evidence-read limits first second work result false n a) bytes;
+      taken-yes = λ work result n room h enough.
+          let a = answered-yes limits first second work (length result) n h in
+          rw (evidence-read limits first second work result true n a) (yes-verify limits first second bounded pair room enough (a .verdict-is));
+      taken-no = λ work result n room h enough.
+          let a = answered-no limits first second work (length result) n h in
+          rw (evidence-read limits first second work result false n a) (no-verify limits first second bounded pair room enough (a .verdict-is));
+    }
+
+pub condition-3-any : (limits : Limits) → Bounded limits → (first second e : List ℕ) (room : ℕ) →
+    (verifyAnswer limits first second e room ≡ MapTaken → Covers limits second first)
+    × (verifyAnswer limits first second e room ≡ RefutationTaken → Covers limits second first → ⊥)
+condition-3-any limits bounded first second e room =
+    (map-covers limits first second e room bounded, refutation-fails limits first second e room bounded)
+
+-- at most 256 rows and 12 edges from the root; a work space of 12,294 bytes, a result buffer of 46,595
+pub paper-limits : Bounded benchLimits × (workSize benchLimits ≡ 12294) × (evidenceSize benchLimits ≡ 46595)
+paper-limits = ((omega arith, omega arith), refl, refl)

@@ -1,0 +1,11 @@
+-- The laws of the third call, by subject.
+-- what is written is evidence
+pub mod ByteLists
+pub mod Writers
+-- the call
+pub mod Answers
+pub mod Refusals
+-- the code's tests
+pub mod Decisions
+-- the conditions
+pub mod Conditions

@@ -1,0 +1,42 @@
+-- Which refusals the third call gives: 1 names the buffer, 2 to 14 one of the two pictures; there is no other.
+--   subsumes-refusal   so is every refusal of the call
+use Prim.Native.Nat.{ℕ}
+use lib.ListN.{length}
+use mathlib.Core.Bool.{Bool, false, true}
+use mathlib.Core.List.{List}
+use mathlib.Core.Path.{_≡_, refl, subst}
+use Rattle.table.specs.Pick.{pick}
+use Rattle.table.specs.declared.layout.Limits.{Limits}
+use Rattle.picture.specs.declared.answer.Refusal.{Refusal}
+use Rattle.normal.specs.Call.{shortBuffer}
+use Rattle.workspace.specs.Prepare.{prepareAnswer}
+use Rattle.workspace.specs.declared.prepare.Prepared.{Prepared}
+use Rattle.workspace.specs.declared.prepare.Prepared.the-variants as prepared
+use Rattle.evidence.proofs.Refusals.{Concerns, Known, Prepares, prepare-known}
+use Rattle.subsumption.specs.Call.{onVerdict, roomy, subsumesAnswer, verdictAnswer}
+use Rattle.subsumption.specs.Verdict.{evidenceOf, verdictOf}
+use Rattle.subsumption.specs.declared.verdict.Verdict.{Verdict}
+use Rattle.subsumption.specs.declared.verdict.Verdict.the-variants.{No, Refused, Yes}
+
+abbrev Answers : Verdict → Type 0
+Answers (Yes n) = Unit
+Answers (No n) = Unit
+Answers (Refused r) = Known r
+
+module _ (limits : Limits) (first second : List ℕ) (work result : ℕ) where
+  verdict-answers : (b : Bool) (n : ℕ) → Answers (pick b (Yes n) (No n))
+  verdict-answers true n = tt
+  verdict-answers false n = tt
+
+  pair-answers : (a : Prepared) → Prepares a → Answers (onVerdict a (verdictAnswer limits first second))
+  unfolding verdictAnswer
+  pair-answers (prepared.Tables p) h = verdict-answers (verdictOf limits first second) (length (evidenceOf limits first second))
+  pair-answers (prepared.Refused r) h = h
+
+  room-answers : (b : Bool) → Answers (pick b (onVerdict (prepareAnswer limits first second) (verdictAnswer limits first second)) (Refused shortBuffer))
+  room-answers true = pair-answers (prepareAnswer limits first second) (prepare-known limits first second)
+  room-answers false = refl
+
+  pub subsumes-refusal : (r : Refusal) → subsumesAnswer limits first second work result ≡ Refused r → Concerns (r .input) (r .number)
+  unfolding subsumesAnswer
+  subsumes-refusal r h = subst Answers h (room-answers (roomy limits work result))

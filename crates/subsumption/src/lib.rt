@@ -1,0 +1,3 @@
+// The third call: the verdict on two pictures, with evidence.
+pub mod subsumes;
+pub mod verdict;

@@ -1,0 +1,42 @@
+// The verdict on two tables, and its evidence.
+use countermodel::refute::write_refutation;
+use homomorphism::map::write_map;
+use homomorphism::search::maps;
+use normal::rows::LINKS;
+use normal::rows::fill_links;
+use picture::answer::Refusal;
+ghost use mathlib.Core.Path.{_≡_};
+ghost use Prim.Native.Nat.{ℕ};
+ghost use lib.ListN.{length};
+ghost use Rattle.table.specs.Put.{put};
+ghost use Rattle.normal.specs.Rows.{Checked};
+ghost use Rattle.subsumption.specs.Tables.{Settled, evidenceIn, verdictIn};
+
+// Yes or no, with the length of the evidence.
+pub enum Verdict {
+    Yes(usize),
+    No(usize),
+    Refused(Refusal),
+}
+
+// The verdict on two tables; the evidence is written from the first byte of out on.
+pub fn decide(
+    first: &[u8],
+    n: usize,
+    second: &[u8],
+    m: usize,
+    depth: usize,
+    out: &mut [u8],
+) -> Verdict
+    requires { ⌜ (Checked (now first) n) × ((Checked (now second) m) × (Settled (now first) (now second) depth (length (now out)))) ⌝ }
+    ensures { λ r. ⌜ (r ≡ verdictIn (now (first .entry)) (now (second .entry)) depth) × (now (out .exit) ≡ put (now (out .entry)) 0 (evidenceIn (now (first .entry)) (now (second .entry)) depth)) ⌝ }
+{
+    let mut links = [0u8; LINKS];
+    fill_links(first, n, &mut links);
+    let mut others = [0u8; LINKS];
+    fill_links(second, m, &mut others);
+    if maps(first, n, &links, second, m, &others, depth) {
+        return Verdict::Yes(write_map(first, n, &links, second, m, &others, depth, out));
+    }
+    Verdict::No(write_refutation(first, n, &links, second, m, &others, depth, out))
+}
