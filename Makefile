@@ -1,20 +1,27 @@
-# make        prove the library and write target/staticlib/libzuvaropy.a
+# make        prove the library and the verdict program, and write target/staticlib/libzuvaropy.a and
+#             target/bin/verdict
 # make test   prove everything, then run the C tests; the last line is 'N passed, M failed'
-# make demo   validate the sample pictures, print their normal tables and check the sample evidence
-# make bench  time the library beside the same calls hand-written in C
+# make demo   validate the sample pictures, print their normal tables, ask which subsumes which, check the
+#             sample evidence, and run the verdict program
+# make bench  time the library beside the same calls hand-written in C and in Rust
 # make clean  remove what the others made
 
 CC = gcc
 CFLAGS = -std=c99 -O2 -Wall -Wextra -Wpedantic -Werror
 LIBRARY = target/staticlib/libzuvaropy.a
 
-.PHONY: all library test gate demo bench clean tools
+PROGRAM = target/bin/verdict
 
-all: library
+.PHONY: all library program test gate demo bench clean tools
+
+all: library program
 
 # Always run: rt knows what has to be proved again.
 library: tools
 	@rt staticlib zuvaropy
+
+program: tools library
+	@rt check verdict
 
 # Where a recipe fails, the last line is make's own. So that it counts the failures all the same, the
 # gate leaves its status and its last line, and make's message is made of that line.
@@ -25,14 +32,17 @@ gate: tools
 	@mkdir -p build
 	@CC='$(CC)' sh tests/gate.sh; echo $$? >build/gate.status
 
-demo: library
+demo: library program
 	@mkdir -p build/examples
 	@$(CC) $(CFLAGS) -Iinclude examples/validate.c examples/input.c $(LIBRARY) -o build/examples/validate
 	@$(CC) $(CFLAGS) -Iinclude examples/normalize.c examples/input.c $(LIBRARY) -o build/examples/normalize
+	@$(CC) $(CFLAGS) -Iinclude examples/subsumes.c examples/input.c $(LIBRARY) -o build/examples/subsumes
 	@$(CC) $(CFLAGS) -Iinclude examples/verify.c examples/input.c $(LIBRARY) -o build/examples/verify
 	@build/examples/validate samples/*.pic
 	@build/examples/normalize samples/*.pic
+	@sh samples/subsumes.sh build/examples/subsumes build/examples/verify
 	@sh samples/verify.sh build/examples/verify
+	@sh samples/verdict.sh $(PROGRAM)
 
 bench: library
 	@mkdir -p build/bench
@@ -42,8 +52,10 @@ bench: library
 	@$(CC) $(CFLAGS) -Iinclude -Itests bench/verify.c bench/inputs.c bench/audit.c bench/merge.c bench/scan.c \
 	    bench/timing.c tests/picture.c tests/rows.c tests/random.c tests/evidence.c tests/witness.c \
 	    tests/normal_reference.c tests/reference.c tests/check.c $(LIBRARY) -o build/bench/verify
+	@rustc --edition 2021 -O -C panic=abort -D warnings bench/subsumes.rs -C link-arg=$(LIBRARY) -o build/bench/subsumes
 	@build/bench/validate
 	@build/bench/normalize
+	@build/bench/subsumes
 	@build/bench/verify
 
 clean:

@@ -19,9 +19,11 @@ static const char *const question_text[] = {
     [ZUVAROPY_QUESTION_MERGED] = "has the merged table at most 256 rows?",
 };
 
-static const char *const input_text[] = {
+static const char *const input_name[] = {
     [ZUVAROPY_INPUT_BUFFER] = "buffer",
-    [ZUVAROPY_INPUT_FIRST] = "first input",
+    [ZUVAROPY_INPUT_FIRST] = "first",
+    [ZUVAROPY_INPUT_SECOND] = "second",
+    [ZUVAROPY_INPUT_EVIDENCE] = "evidence",
 };
 
 int input_read(const char *name, uint8_t *bytes, size_t room, size_t *length)
@@ -45,7 +47,13 @@ int input_read(const char *name, uint8_t *bytes, size_t room, size_t *length)
 
 void input_print_refusal(const char *name, uint64_t word)
 {
-    const unsigned int question = zuvaropy_question(word), input = zuvaropy_input(word);
+    const unsigned int question = zuvaropy_question(word);
 
-    printf("%s: refused, question %u: %s (%s)\n", name, question, question_text[question], input_text[input]);
+    printf("%s: refused, question %u: %s (%s input)\n", name, question, question_text[question],
+           input_name[zuvaropy_input(word)]);
+}
+
+void input_print_refused(uint64_t word)
+{
+    printf("refused %s %u\n", input_name[zuvaropy_input(word)], zuvaropy_question(word));
 }

@@ -1,4 +1,4 @@
-/* What the examples share: reading a file, and saying why it was refused. */
+/* What the examples share: reading a file, and saying why an input was refused. */
 
 #ifndef INPUT_H
 #define INPUT_H
@@ -12,7 +12,10 @@
 /* The first `room` bytes of a file; 0, or -1 with a message if it cannot be read. */
 int input_read(const char *name, uint8_t *bytes, size_t room, size_t *length);
 
-/* A line that says which question was answered no. */
+/* A line that says which question about a file was answered no. */
 void input_print_refusal(const char *name, uint64_t word);
+
+/* A line "refused WHICH N": which input was refused, and by which question. */
+void input_print_refused(uint64_t word);
 
 #endif

@@ -12,13 +12,6 @@
 
 #include <stdio.h>
 
-static const char *const input_name[] = {
-    [ZUVAROPY_INPUT_BUFFER] = "buffer",
-    [ZUVAROPY_INPUT_FIRST] = "first",
-    [ZUVAROPY_INPUT_SECOND] = "second",
-    [ZUVAROPY_INPUT_EVIDENCE] = "evidence",
-};
-
 static void print_word(uint64_t word)
 {
     switch (zuvaropy_outcome(word)) {
@@ -29,7 +22,7 @@ static void print_word(uint64_t word)
         printf("refutation taken\n");
         break;
     default:
-        printf("refused %s %u\n", input_name[zuvaropy_input(word)], zuvaropy_question(word));
+        input_print_refused(word);
     }
 }
 

@@ -325,6 +325,50 @@ uint64_t zuvaropy_normalize(const uint8_t *picture, size_t picture_len, uint8_t 
     zuvaropy_normalize(zuvaropy_lent(picture), (picture_len), zuvaropy_lent_writable(result), (result_len))
 
 /*
+ * Say whether the second picture subsumes the first, whether every instance of
+ * the first is one of the second, and write evidence of it.
+ *
+ * Reads:   first, at most first_len bytes; second, at most second_len bytes.
+ * Writes:  work, its first ZUVAROPY_WORK_BYTES bytes: the normal table of the
+ *          first picture from byte 0, that of the second from byte
+ *          ZUVAROPY_SECOND_TABLE_AT, and zeros in the rest of each half;
+ *          result, as many bytes as the value says: the evidence. Bytes after
+ *          them keep their contents, in both. A refusal writes nothing.
+ * Returns: ZUVAROPY_OUTCOME_YES: the second picture subsumes the first, and the
+ *          evidence is a map. Value: its length in bytes,
+ *          ZUVAROPY_MAP_BYTES(rows) for a second normal table of so many rows;
+ *          ZUVAROPY_OUTCOME_NO: it does not, and the evidence is a refutation.
+ *          Value: its length in bytes, ZUVAROPY_REFUTATION_BYTES(individuals)
+ *          for one of so many individuals; or
+ *          ZUVAROPY_OUTCOME_REFUSAL, in this order:
+ *          question 1, input ZUVAROPY_INPUT_BUFFER, if work_len is below
+ *          ZUVAROPY_WORK_BYTES or result_len below ZUVAROPY_MAX_EVIDENCE_BYTES,
+ *          however short the evidence would be;
+ *          question 2 to 13, input ZUVAROPY_INPUT_FIRST, as zuvaropy_validate;
+ *          question 2 to 13, input ZUVAROPY_INPUT_SECOND, likewise;
+ *          question 14, input ZUVAROPY_INPUT_FIRST, as zuvaropy_normalize;
+ *          question 14, input ZUVAROPY_INPUT_SECOND, likewise.
+ *
+ * The map is the one with the lowest images: from row 0 on, each row is sent to
+ * the lowest row that its whole subtree can be sent to below the image of its
+ * parent, or, where that image is impossible, to it. Which refutation is
+ * written is not laid down. zuvaropy_verify takes the evidence when it is given
+ * the same pictures in the same order and as many bytes of result as the value
+ * says; its work space may be the same one.
+ *
+ * Any bytes of any length may be given as the pictures; the work space and the
+ * result buffer may hold anything beforehand. Neither may overlap any other
+ * buffer; the pictures may overlap. The call takes about 20 KB of stack. Its
+ * time grows at most as the rows of the one normal table times the rows of the
+ * other, times their depth.
+ */
+uint64_t zuvaropy_subsumes(const uint8_t *first, size_t first_len, const uint8_t *second, size_t second_len,
+                           uint8_t *work, size_t work_len, uint8_t *result, size_t result_len);
+#define zuvaropy_subsumes(first, first_len, second, second_len, work, work_len, result, result_len) \
+    zuvaropy_subsumes(zuvaropy_lent(first), (first_len), zuvaropy_lent(second), (second_len), \
+                      zuvaropy_lent_writable(work), (work_len), zuvaropy_lent_writable(result), (result_len))
+
+/*
  * Check evidence that the second picture subsumes the first, or that it does
  * not.
  *

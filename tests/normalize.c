@@ -1,5 +1,6 @@
 #include "normalize.h"
 
+#include "area.h"
 #include "check.h"
 
 #include <assert.h>
@@ -12,13 +13,6 @@ const uint8_t normalize_fills[3] = {0x00, 0xA5, 0xFF};
 static uint8_t area[MARGIN + NORMALIZE_ROOM + MARGIN];
 static uint8_t *const lent = area + MARGIN;
 
-static int is_filled(const uint8_t *from, const uint8_t *to, unsigned int fill)
-{
-    while (from < to && *from == fill)
-        from++;
-    return from == to;
-}
-
 void normalize_check(const struct picture *p, size_t room, unsigned int fill, uint64_t wanted, const uint8_t *table,
                      unsigned long at)
 {
@@ -30,8 +24,8 @@ void normalize_check(const struct picture *p, size_t room, unsigned int fill, ui
     memcpy(before, p->bytes, sizeof before);
     CHECK_WORD(zuvaropy_normalize(p->bytes, p->length, lent, room), wanted, at);
     CHECK(memcmp(before, p->bytes, sizeof before) == 0);
-    CHECK(is_filled(area, lent, fill));
-    CHECK(is_filled(lent + length, area + sizeof area, fill));
+    CHECK(area_is_filled(area, MARGIN, fill));
+    CHECK(area_is_filled(lent + length, sizeof area - MARGIN - length, fill));
     if (length > 0) {
         CHECK(memcmp(lent, table, length) == 0);
         CHECK_WORD(zuvaropy_validate(lent, length), word_rows((length - 3) / 24), at);
@@ -44,4 +38,12 @@ void normalize_check_fills(const struct picture *p, uint64_t wanted, const uint8
 
     for (i = 0; i < sizeof normalize_fills; i++)
         normalize_check(p, ZUVAROPY_MAX_PICTURE_BYTES, normalize_fills[i], wanted, table, at);
+}
+
+void normalize_check_half(const uint8_t *half, const struct picture *p)
+{
+    uint8_t wanted[ZUVAROPY_MAX_PICTURE_BYTES] = {0};
+
+    CHECK(zuvaropy_outcome(zuvaropy_normalize(p->bytes, p->length, wanted, sizeof wanted)) == ZUVAROPY_OUTCOME_YES);
+    CHECK(memcmp(half, wanted, sizeof wanted) == 0);
 }

@@ -4,6 +4,7 @@
 
 #include <stdio.h>
 #include <stdlib.h>
+#include <string.h>
 #include <sys/mman.h>
 #include <unistd.h>
 
@@ -39,4 +40,16 @@ void pages_forbid_writing(const struct pages *pages)
 uint8_t *pages_last(const struct pages *pages, size_t length)
 {
     return pages->first + pages->length - length;
+}
+
+uint8_t *pages_place(const struct pages *pages, const uint8_t *bytes, size_t length, int last)
+{
+    uint8_t *at = last ? pages_last(pages, length) : pages->first;
+
+    pages_allow_writing(pages);
+    if (bytes != NULL)
+        memcpy(at, bytes, length);
+    else
+        memset(at, PAGES_FILL, length);
+    return at;
 }

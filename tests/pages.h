@@ -22,4 +22,9 @@ void pages_forbid_writing(const struct pages *pages);
 /* Where something of this length begins that ends with the last byte. */
 uint8_t *pages_last(const struct pages *pages, size_t length);
 
+/* Puts bytes, or PAGES_FILL where there are none to put, so that they begin with
+ * the first byte or end with the last; where they begin. Writing is allowed then. */
+#define PAGES_FILL 0xA5
+uint8_t *pages_place(const struct pages *pages, const uint8_t *bytes, size_t length, int last);
+
 #endif

@@ -47,7 +47,7 @@ static void put_set(uint8_t *at, uint64_t set)
 
 void picture_label(struct picture *p, uint64_t wanted, uint64_t excluded, unsigned int impossible)
 {
-    uint8_t *value = picture_value(p, (unsigned int)(p->length / ZUVAROPY_ROW_BYTES) - 1);
+    uint8_t *value = picture_value(p, picture_rows(p) - 1);
 
     put_set(value + ZUVAROPY_WANTED_AT, wanted);
     put_set(value + ZUVAROPY_EXCLUDED_AT, excluded);
@@ -78,6 +78,16 @@ void picture_chain(struct picture *p, unsigned int edges)
         picture_row(p, row - 1, ZUVAROPY_KIND_FORALL, row % ZUVAROPY_ROLES);
 }
 
+void picture_kinds(struct picture *p, unsigned int edges, unsigned int all)
+{
+    unsigned int row;
+
+    picture_clear(p);
+    picture_row(p, 0, ZUVAROPY_KIND_ROOT, 0);
+    for (row = 1; row <= edges; row++)
+        picture_row(p, row - 1, all >> (row - 1) & 1 ? ZUVAROPY_KIND_FORALL : ZUVAROPY_KIND_EXISTS, 0);
+}
+
 void picture_mixed(struct picture *p, unsigned int rows)
 {
     unsigned int row, i;
@@ -93,6 +103,11 @@ void picture_mixed(struct picture *p, unsigned int rows)
             value[i] = (uint8_t)(row * 31 + i * 57);
     }
     picture_end(p);
+}
+
+unsigned int picture_rows(const struct picture *p)
+{
+    return (unsigned int)(p->length / ZUVAROPY_ROW_BYTES);
 }
 
 uint8_t *picture_field(struct picture *p, unsigned int row)

@@ -129,3 +129,43 @@ void random_picture(struct picture *p, const struct shape *s)
     }
     picture_end(p);
 }
+
+void random_change(struct picture *p, const struct shape *s)
+{
+    const unsigned int row = random_below(picture_rows(p)), name = random_below(s->names);
+    uint8_t *value = picture_value(p, row);
+    const unsigned int change = random_below(8);
+
+    if (change < 2)
+        memset(value + ZUVAROPY_WANTED_AT, 0, 2 * ZUVAROPY_NAME_SET_BYTES);
+    else if (change == 2)
+        value[ZUVAROPY_WANTED_AT + 7 - name / 8] ^= (uint8_t)(1 << name % 8);
+    else if (change == 3)
+        value[ZUVAROPY_EXCLUDED_AT + 7 - name / 8] ^= (uint8_t)(1 << name % 8);
+    else if (change == 4)
+        value[ZUVAROPY_IMPOSSIBLE_AT] ^= 1;
+    else if (change == 5 && row > 0)
+        value[ZUVAROPY_KIND_AT] ^= ZUVAROPY_KIND_EXISTS ^ ZUVAROPY_KIND_FORALL;
+    else if (change == 6 && row > 0)
+        value[ZUVAROPY_ROLE_AT] = (uint8_t)random_below(s->roles);
+    else if (picture_rows(p) > 1) {
+        p->length -= ZUVAROPY_ROW_BYTES + ZUVAROPY_HEAD_BYTES;
+        picture_end(p);
+    }
+}
+
+void random_pair(struct picture *first, struct picture *second, const struct shape *s)
+{
+    unsigned int changes;
+
+    random_picture(first, s);
+    if (random_below(4) == 0) {
+        random_picture(second, s);
+        return;
+    }
+    *second = *first;
+    for (changes = random_below(6); changes > 0; changes--)
+        random_change(random_below(4) == 0 ? first : second, s);
+    if (random_below(16) == 0)
+        random_damage(random_below(2) ? first : second);
+}

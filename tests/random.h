@@ -29,4 +29,12 @@ void random_picture(struct picture *p, const struct shape *s);
 /* One change to a file that is not empty. */
 void random_damage(struct picture *p);
 
+/* Two pictures: the second is the first with a few changes, or one of its own.
+ * A few are damaged. */
+void random_pair(struct picture *first, struct picture *second, const struct shape *s);
+
+/* One change to a row that leaves it a good one, but that the last row is taken
+ * away at times. */
+void random_change(struct picture *p, const struct shape *s);
+
 #endif

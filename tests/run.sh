@@ -1,18 +1,25 @@
 #!/bin/sh
-# Builds the C tests against an archive of the library and runs them.
+# Builds the C tests against an archive of the library and runs them, and tests the verdict program.
 #
-#   sh tests/run.sh ARCHIVE
+#   sh tests/run.sh ARCHIVE PROGRAM
 #
 # Prints a line for each test and last 'C tests: P passed, F failed'; exits 1 if F is not 0. F is also
 # written to build/tests/failed. A program counts as one failure if it does not build, ends without its
 # summary, made no check, or has an exit status other than 0 though none of its checks failed.
 set -u
 
-case ${1-} in
-'') echo "usage: sh tests/run.sh ARCHIVE" >&2; exit 2 ;;
-/*) archive=$1 ;;
-*) archive=$PWD/$1 ;;
-esac
+if [ $# -ne 2 ]; then
+    echo "usage: sh tests/run.sh ARCHIVE PROGRAM" >&2
+    exit 2
+fi
+absolute() {
+    case $1 in
+    /*) echo "$1" ;;
+    *) echo "$PWD/$1" ;;
+    esac
+}
+archive=$(absolute "$1")
+verdict=$(absolute "$2")
 cd "$(dirname "$0")/.." || exit 2
 
 warnings='-Wall -Wextra -Wpedantic -Werror'
@@ -43,16 +50,23 @@ fail() {
     echo "$1: $2"
 }
 
-# program NAME COMPILER..: builds a test program, runs it and adds what its summary says.
+# program NAME COMPILER..: builds a test program and counts it.
 program() {
     name=$1
     shift
-    if ! "$@" "$archive" -o "$out/$name"; then
+    if "$@" "$archive" -o "$out/$name"; then
+        count "$name" "$out/$name"
+    else
         fail "$name" "does not build"
-        return
     fi
+}
+
+# count NAME COMMAND..: runs it and adds what its summary, the last line, says.
+count() {
+    name=$1
+    shift
     status=0
-    "$out/$name" >"$out/$name.log" || status=$?
+    "$@" >"$out/$name.log" || status=$?
     cat "$out/$name.log"
     counts=$(sed -n '$s/^.*: \([0-9][0-9]*\) passed, \([0-9][0-9]*\) failed$/\1 \2/p' "$out/$name.log")
     case $status:$counts in
@@ -66,14 +80,23 @@ program() {
 }
 
 # What the tests share is built once. Without a part of it no test builds, and each says so.
-for source in check picture rows random pages reference normal_reference normalize evidence verify_reference witness \
-    verify second_unit; do
+for source in check area picture rows random pages reference normal_reference normalize evidence verify_reference \
+    witness verify subsumes second_unit; do
     $c -c "tests/$source.c" -o "$out/$source.o"
 done
 for source in tests/test_*.c; do
     name=$(basename "$source" .c)
     program "$name" $c "$source" "$out"/*.o
 done
+# rust SOURCE ARCHIVE -o PROGRAM: the compiler's own way to say it.
+rust() {
+    rustc --edition 2021 -O -C panic=abort -D warnings "$1" -C link-arg="$2" "$3" "$4"
+}
+if command -v rustc >/dev/null; then
+    program test_rust_random rust tests/rust/random.rs
+else
+    echo "random pairs against the Rust implementation: not tested, no rustc"
+fi
 if command -v "$cxx" >/dev/null; then
     program test_header_cxx "$cxx" -x c++ -std=c++11 $warnings -Iinclude tests/test_header.c tests/check.c \
         tests/second_unit.c -x none
@@ -99,10 +122,34 @@ example() {
         diff "samples/$example.stdout" "$out/$example.log"
 }
 
+# The files that the verdict programs are run on are samples.
+data() {
+    while read -r program first second; do
+        cmp "samples/$first.pic" "crates/$program/data/first.pic" &&
+            cmp "samples/$second.pic" "crates/$program/data/second.pic" || return
+    done <<END
+verdict both each
+verdict_no each both
+verdict_refused_first cut deep
+verdict_refused_second spread deep
+END
+}
+verdict_samples() {
+    sh samples/verdict.sh "$verdict" >"$out/verdict_samples.log" && diff samples/verdict.stdout "$out/verdict_samples.log"
+}
+
 # readme N PRINTED: the README's Nth program builds as it stands there, and prints this.
 readme() {
     awk -v n="$1" '/^```c$/ { at++; next } /^```$/ { if (at == n) exit } at == n' README.md >"$out/readme$1.c"
     $c "$out/readme$1.c" "$archive" -o "$out/readme$1" && printed=$("$out/readme$1") && [ "$printed" = "$2" ]
+}
+
+# The README shows what make demo prints.
+demo() {
+    awk '/^`make demo` ends with$/ { at = 1; next } at && /^```$/ { if (at++ == 2) exit; next } at == 2' README.md \
+        >"$out/demo.log" &&
+        (cd samples && cat validate.stdout normalize.stdout subsumes.stdout verify.stdout verdict.stdout) |
+        diff - "$out/demo.log"
 }
 
 if command -v nm >/dev/null; then
@@ -114,9 +161,18 @@ one samples samples
 one 'example validate' example validate "$out/validate" samples/*.pic
 one 'example normalize' example normalize "$out/normalize" samples/*.pic
 one 'example verify' example verify sh samples/verify.sh "$out/verify"
+one 'example subsumes' example subsumes sh samples/subsumes.sh "$out/subsumes" "$out/verify"
 one 'readme, validate' readme 1 'a picture of 2 rows'
-one 'readme, verify' readme 2 'map taken
-refutation taken'
+one 'readme, subsumes' readme 2 'yes, with a map of 12 bytes, which is taken
+  row 0 goes to row 0
+  row 1 goes to row 1
+  row 2 goes to row 1
+no, with a refutation of 45 bytes, which is taken'
+one 'readme, demo' demo
+
+count verdict sh tests/verdict.sh "$verdict"
+one 'verdict, samples' verdict_samples
+one 'verdict, data' data
 
 echo "$failed" >"$out/failed"
 echo "C tests: $passed passed, $failed failed"

@@ -190,6 +190,42 @@ static void test_normalize(void)
 }
 
 static uint8_t work[ZUVAROPY_WORK_BYTES];
+static uint8_t evidence[ZUVAROPY_MAX_EVIDENCE_BYTES];
+
+static void test_subsumes(void)
+{
+    uint64_t (*function)(const uint8_t *, size_t, const uint8_t *, size_t, uint8_t *, size_t, uint8_t *, size_t) =
+        zuvaropy_subsumes;
+    static const uint8_t map[ZUVAROPY_MAP_BYTES(1)] = {ZUVAROPY_TAG_MAP, 0, 2, 0, 0, ZUVAROPY_TAG_END, 0, 0};
+    const size_t length = sizeof bytes, room = sizeof evidence;
+    const uint64_t yes = (uint64_t)1 << 56 | ZUVAROPY_MAP_BYTES(1);
+    const uint64_t no_buffer = (uint64_t)1 << 48;
+    const uint64_t no_first = (uint64_t)2 << 48 | (uint64_t)1 << 40, no_second = (uint64_t)2 << 48 | (uint64_t)2 << 40;
+    const uint8_t *next = bytes, *next_second = bytes;
+    uint8_t *next_work = work, *next_result = evidence;
+
+    make_picture();
+    CHECK_WORD(zuvaropy_subsumes(bytes, length, bytes, length, work, sizeof work, evidence, room), yes, 0);
+    CHECK(memcmp(work, bytes, length) == 0);
+    CHECK(memcmp(work + ZUVAROPY_SECOND_TABLE_AT, bytes, length) == 0);
+    CHECK(memcmp(evidence, map, sizeof map) == 0);
+    CHECK_WORD((zuvaropy_subsumes)(bytes, length, bytes, length, work, sizeof work, evidence, room), yes, 0);
+    CHECK_WORD(function(bytes, length, bytes, length, work, sizeof work, evidence, room), yes, 0);
+    CHECK_WORD(second_unit_subsumes(bytes, length, bytes, length, work, sizeof work, evidence, room), yes, 0);
+
+    CHECK_WORD(zuvaropy_subsumes(bytes, length, bytes, length, NULL, 0, evidence, room), no_buffer, 0);
+    CHECK_WORD(zuvaropy_subsumes(bytes, length, bytes, length, work, sizeof work, NULL, 0), no_buffer, 0);
+    CHECK_WORD(zuvaropy_subsumes(NULL, 0, bytes, length, work, sizeof work, evidence, room), no_first, 0);
+    CHECK_WORD(zuvaropy_subsumes(bytes, length, NULL, 0, work, sizeof work, evidence, room), no_second, 0);
+    CHECK_WORD(zuvaropy_subsumes(NULL, 0, NULL, 0, NULL, 0, NULL, 0), no_buffer, 0);
+
+    /* The macro evaluates its arguments once. */
+    zuvaropy_subsumes(next++, 0, next_second++, 0, next_work++, 0, next_result++, 0);
+    CHECK(next == bytes + 1);
+    CHECK(next_second == bytes + 1);
+    CHECK(next_work == work + 1);
+    CHECK(next_result == evidence + 1);
+}
 
 static void test_verify(void)
 {
@@ -232,6 +268,7 @@ int main(void)
     test_lent();
     test_validate();
     test_normalize();
+    test_subsumes();
     test_verify();
 #ifdef __cplusplus
     return check_summary("header as C++");

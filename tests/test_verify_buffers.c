@@ -47,15 +47,6 @@ static void test_short_work(void)
     }
 }
 
-/* Half of a work space: the normal table as zuvaropy_normalize writes it, and zeros. */
-static void check_half(const uint8_t *half, const struct picture *p)
-{
-    uint8_t wanted[ZUVAROPY_MAX_PICTURE_BYTES] = {0};
-
-    CHECK(zuvaropy_outcome(zuvaropy_normalize(p->bytes, p->length, wanted, sizeof wanted)) == ZUVAROPY_OUTCOME_YES);
-    CHECK(memcmp(half, wanted, sizeof wanted) == 0);
-}
-
 static void check_halves(uint64_t wanted)
 {
     static uint8_t work[WORK];
@@ -64,8 +55,8 @@ static void check_halves(uint64_t wanted)
     CHECK_WORD(zuvaropy_verify(in.first.bytes, in.first.length, in.second.bytes, in.second.length, in.evidence.bytes,
                                in.evidence.length, work, sizeof work),
                wanted, in.first.length);
-    check_half(work, &in.first);
-    check_half(work + 6147, &in.second);
+    normalize_check_half(work, &in.first);
+    normalize_check_half(work + 6147, &in.second);
 }
 
 /* Both halves are written whatever becomes of the evidence, and whatever the tables' lengths. */
@@ -101,8 +92,8 @@ static void test_shared(void)
     CHECK_WORD(zuvaropy_verify(file, in.first.length, file, in.first.length, in.evidence.bytes, in.evidence.length,
                                work, sizeof work),
                word_map_taken(), 0);
-    check_half(work, &in.first);
-    check_half(work + 6147, &in.first);
+    normalize_check_half(work, &in.first);
+    normalize_check_half(work + 6147, &in.first);
     CHECK_WORD(zuvaropy_verify(file, in.first.length, file, in.first.length, file, in.first.length, work, sizeof work),
                word_evidence(16), 1);
     CHECK_WORD(zuvaropy_verify(file, in.first.length, file + ZUVAROPY_ROW_BYTES, in.first.length - ZUVAROPY_ROW_BYTES,

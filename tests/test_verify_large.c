@@ -205,14 +205,9 @@ static void test_maps(void)
  * 255 successors has to fail at the end of a chain of value restrictions. */
 static void test_witness(void)
 {
-    unsigned int row;
-
     picture_fan(&in.first, ROOM_ROWS);
     picture_end(&in.first);
-    picture_clear(&in.second);
-    picture_row(&in.second, 0, ZUVAROPY_KIND_ROOT, 0);
-    for (row = 1; row <= ZUVAROPY_MAX_DEPTH; row++)
-        picture_row(&in.second, row - 1, row == 1 ? ZUVAROPY_KIND_EXISTS : ZUVAROPY_KIND_FORALL, 0);
+    picture_kinds(&in.second, ZUVAROPY_MAX_DEPTH, ~1u);
     picture_label(&in.second, NAME(5), 0, 0);
     picture_end(&in.second);
     CHECK(!witness_make(&in));

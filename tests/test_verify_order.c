@@ -35,21 +35,10 @@ static void test_work_first(void)
             }
 }
 
-/* 2 to 13 of the first, 2 to 13 of the second, 14 of the first, 14 of the second, 16. */
-static uint64_t wanted_word(unsigned int first, unsigned int second)
-{
-    if (first != 0 && first != ZUVAROPY_QUESTION_MERGED)
-        return word_refusal(first);
-    if (second != 0 && second != ZUVAROPY_QUESTION_MERGED)
-        return word_second(second);
-    if (first != 0)
-        return word_refusal(first);
-    return second != 0 ? word_second(second) : word_evidence(16);
-}
-
 static void test_pictures(void)
 {
     unsigned int first, second;
+    uint64_t refusal;
 
     make_bad_evidence();
     for (first = 0; first <= ZUVAROPY_QUESTION_MERGED; first++)
@@ -57,7 +46,8 @@ static void test_pictures(void)
             if (first != ZUVAROPY_QUESTION_BUFFER && second != ZUVAROPY_QUESTION_BUFFER) {
                 picture_refused(&in.first, first);
                 picture_refused(&in.second, second);
-                verify_check(&in, wanted_word(first, second), 16 * first + second);
+                refusal = word_of_pictures(first, second);
+                verify_check(&in, refusal != 0 ? refusal : word_evidence(16), 16 * first + second);
             }
 }
 

@@ -16,26 +16,14 @@
 static struct inputs in;
 static struct pages first, second, evidence, output;
 
-static uint8_t *place(const struct pages *pages, const uint8_t *bytes, size_t length, int last)
-{
-    uint8_t *at = last ? pages_last(pages, length) : pages->first;
-
-    pages_allow_writing(pages);
-    if (bytes != NULL)
-        memcpy(at, bytes, length);
-    else
-        memset(at, 0xA5, length);
-    return at;
-}
-
 /* The inputs cannot be written at all, and the work space not where a refusal
  * leaves it alone. `last`: a bit for each buffer that ends with its page. */
 static void check_pages(unsigned int last, size_t room, const uint8_t *wanted_work, uint64_t wanted)
 {
-    const uint8_t *first_at = place(&first, in.first.bytes, in.first.length, last & 1);
-    const uint8_t *second_at = place(&second, in.second.bytes, in.second.length, last & 2);
-    const uint8_t *evidence_at = place(&evidence, in.evidence.bytes, in.evidence.length, last & 4);
-    uint8_t *work = place(&output, NULL, room, last & 8);
+    const uint8_t *first_at = pages_place(&first, in.first.bytes, in.first.length, last & 1);
+    const uint8_t *second_at = pages_place(&second, in.second.bytes, in.second.length, last & 2);
+    const uint8_t *evidence_at = pages_place(&evidence, in.evidence.bytes, in.evidence.length, last & 4);
+    uint8_t *work = pages_place(&output, NULL, room, last & 8);
 
     pages_forbid_writing(&first);
     pages_forbid_writing(&second);
@@ -54,7 +42,7 @@ static void check_bounds(size_t room)
     unsigned int last;
     uint64_t wanted;
 
-    memset(wanted_work, 0xA5, sizeof wanted_work);
+    memset(wanted_work, PAGES_FILL, sizeof wanted_work);
     wanted = reference_verify(in.first.bytes, in.first.length, in.second.bytes, in.second.length, in.evidence.bytes,
                               in.evidence.length, wanted_work, room);
     for (last = 0; last < 16; last++)

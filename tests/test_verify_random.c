@@ -37,61 +37,12 @@ static void check_inputs(unsigned long at)
         met.refutation++;
 }
 
-static unsigned int rows_of(const struct picture *p)
-{
-    return (unsigned int)(p->length / ZUVAROPY_ROW_BYTES);
-}
-
-/* Pairs of pictures */
-
-/* One change to a row that leaves it a good one, but that the last row is taken away at times. */
-static void change_row(struct picture *p, const struct shape *s)
-{
-    const unsigned int row = random_below(rows_of(p)), name = random_below(s->names);
-    uint8_t *value = picture_value(p, row);
-    const unsigned int change = random_below(8);
-
-    if (change < 2)
-        memset(value + ZUVAROPY_WANTED_AT, 0, 2 * ZUVAROPY_NAME_SET_BYTES);
-    else if (change == 2)
-        value[ZUVAROPY_WANTED_AT + 7 - name / 8] ^= (uint8_t)(1 << name % 8);
-    else if (change == 3)
-        value[ZUVAROPY_EXCLUDED_AT + 7 - name / 8] ^= (uint8_t)(1 << name % 8);
-    else if (change == 4)
-        value[ZUVAROPY_IMPOSSIBLE_AT] ^= 1;
-    else if (change == 5 && row > 0)
-        value[ZUVAROPY_KIND_AT] ^= ZUVAROPY_KIND_EXISTS ^ ZUVAROPY_KIND_FORALL;
-    else if (change == 6 && row > 0)
-        value[ZUVAROPY_ROLE_AT] = (uint8_t)random_below(s->roles);
-    else if (rows_of(p) > 1) {
-        p->length -= ZUVAROPY_ROW_BYTES + ZUVAROPY_HEAD_BYTES;
-        picture_end(p);
-    }
-}
-
-/* The second is the first with a few changes, or a picture of its own. */
-static void make_pair(const struct shape *s)
-{
-    unsigned int changes;
-
-    random_picture(&in.first, s);
-    if (random_below(4) == 0) {
-        random_picture(&in.second, s);
-        return;
-    }
-    in.second = in.first;
-    for (changes = random_below(6); changes > 0; changes--)
-        change_row(random_below(4) == 0 ? &in.first : &in.second, s);
-    if (random_below(16) == 0)
-        random_damage(random_below(2) ? &in.first : &in.second);
-}
-
 /* Evidence at random */
 
 static void make_random_map(unsigned int rows)
 {
     unsigned int images[ZUVAROPY_MAX_ROWS];
-    const unsigned int limit = 1 + random_below(rows_of(&in.first));
+    const unsigned int limit = 1 + random_below(picture_rows(&in.first));
     unsigned int row;
 
     for (row = 0; row < rows; row++)
@@ -121,7 +72,7 @@ static void change_image(struct evidence *e)
     uint8_t *image = evidence_image(e, random_below(rows));
 
     if (random_below(2))
-        evidence_put(image, random_below(1 + rows_of(&in.first)));
+        evidence_put(image, random_below(1 + picture_rows(&in.first)));
     else
         memcpy(image, evidence_image(e, random_below(rows)), ZUVAROPY_IMAGE_BYTES);
 }
@@ -208,7 +159,7 @@ static void check_pair(const struct shape *s, unsigned long at)
         damage_evidence(s);
         check_inputs(at);
     }
-    make_random_map(1 + random_below(rows_of(&in.second)));
+    make_random_map(1 + random_below(picture_rows(&in.second)));
     check_inputs(at);
     make_random_refutation(s);
     check_inputs(at);
@@ -224,7 +175,7 @@ int main(void)
 
         if (i % 2 == 0) /* few value restrictions: large pictures have tables too */
             shape.all = random_below(2);
-        make_pair(&shape);
+        random_pair(&in.first, &in.second, &shape);
         check_pair(&shape, i);
     }
 

@@ -1,63 +1,48 @@
 #include "verify.h"
 
+#include "area.h"
 #include "check.h"
 #include "normalize.h"
-#include "random.h"
 #include "rows.h"
 #include "verify_reference.h"
 
-#include <assert.h>
 #include <string.h>
 
-#define MARGIN 64
 #define R 8
 #define S 9
 
-static uint8_t area[MARGIN + VERIFY_ROOM + MARGIN];
-static uint8_t wanted_area[sizeof area];
+static struct area work;
 
-/* Both areas must hold the same beforehand. */
-static uint64_t verify_area(const struct inputs *in, size_t room, unsigned long at)
+static uint64_t verify_area(const struct inputs *in, unsigned long at)
 {
     static struct inputs before;
     uint64_t word, wanted;
 
-    assert(room <= VERIFY_ROOM);
     memcpy(before.first.bytes, in->first.bytes, in->first.length);
     memcpy(before.second.bytes, in->second.bytes, in->second.length);
     memcpy(before.evidence.bytes, in->evidence.bytes, in->evidence.length);
     word = zuvaropy_verify(in->first.bytes, in->first.length, in->second.bytes, in->second.length, in->evidence.bytes,
-                           in->evidence.length, area + MARGIN, room);
+                           in->evidence.length, area_lent(&work), work.room);
     CHECK(memcmp(before.first.bytes, in->first.bytes, in->first.length) == 0);
     CHECK(memcmp(before.second.bytes, in->second.bytes, in->second.length) == 0);
     CHECK(memcmp(before.evidence.bytes, in->evidence.bytes, in->evidence.length) == 0);
     wanted = reference_verify(in->first.bytes, in->first.length, in->second.bytes, in->second.length,
-                              in->evidence.bytes, in->evidence.length, wanted_area + MARGIN, room);
+                              in->evidence.bytes, in->evidence.length, area_wanted(&work), work.room);
     CHECK_WORD(word, wanted, at);
-    CHECK(memcmp(area, wanted_area, sizeof area) == 0);
+    CHECK(area_is_as_wanted(&work));
     return word;
 }
 
 uint64_t verify_room(const struct inputs *in, size_t room, unsigned int fill, unsigned long at)
 {
-    memset(area, (int)fill, sizeof area);
-    memset(wanted_area, (int)fill, sizeof wanted_area);
-    return verify_area(in, room, at);
+    area_fill(&work, room, fill);
+    return verify_area(in, at);
 }
 
 uint64_t verify_any(const struct inputs *in, unsigned long at)
 {
-    uint64_t number;
-    size_t i;
-
-    /* At times what the call before has left. */
-    if (random_below(4) != 0)
-        for (i = 0; i + sizeof number <= sizeof area; i += sizeof number / 2) {
-            number = random_next();
-            memcpy(area + i, &number, sizeof number);
-        }
-    memcpy(wanted_area, area, sizeof area);
-    return verify_area(in, ZUVAROPY_WORK_BYTES, at);
+    area_fill_any(&work, ZUVAROPY_WORK_BYTES);
+    return verify_area(in, at);
 }
 
 void verify_check(const struct inputs *in, uint64_t wanted, unsigned long at)
@@ -90,12 +75,10 @@ uint64_t word_evidence(unsigned int question)
 
 uint64_t word_number(unsigned int n)
 {
-    const unsigned int pictures = 2 * (ZUVAROPY_QUESTION_MERGED - 1);
-
-    if (n < pictures)
+    if (n < PICTURE_WORDS)
         return n % 2 == 0 ? word_refusal(2 + n / 2) : word_second(2 + n / 2);
     if (n < WORDS - 2)
-        return word_evidence(ZUVAROPY_QUESTION_FORM + n - pictures);
+        return word_evidence(ZUVAROPY_QUESTION_FORM + n - PICTURE_WORDS);
     return n == WORDS - 1 ? word_map_taken() : word_refutation_taken();
 }
 
@@ -134,6 +117,17 @@ void verify_make(struct inputs *in, uint64_t word)
         picture_refused(&in->first, question);
     if (input == ZUVAROPY_INPUT_SECOND)
         picture_refused(&in->second, question);
+}
+
+uint64_t word_of_pictures(unsigned int first, unsigned int second)
+{
+    if (first != 0 && first != ZUVAROPY_QUESTION_MERGED)
+        return word_refusal(first);
+    if (second != 0 && second != ZUVAROPY_QUESTION_MERGED)
+        return word_second(second);
+    if (first != 0)
+        return word_refusal(first);
+    return second != 0 ? word_second(second) : 0;
 }
 
 int word_writes(uint64_t word)

@@ -30,9 +30,16 @@ uint64_t word_second(unsigned int question);
 uint64_t word_evidence(unsigned int question);
 
 /* Each word but that of a short work space, by a number below WORDS: 2 to 14 of
- * both pictures, 16 to 23, and evidence that was taken. */
-#define WORDS (13 + 13 + 8 + 2)
+ * both pictures, which are PICTURE_WORDS, 16 to 23, and evidence that was taken. */
+#define PICTURE_WORDS (13 + 13)
+#define WORDS (PICTURE_WORDS + 8 + 2)
 uint64_t word_number(unsigned int n);
+
+/* The refusal of two pictures of which these questions refuse the first and the
+ * second: 2 to 13 of the first, 2 to 13 of the second, 14 of the first, 14 of
+ * the second. 0 for a picture that none refuses, and for the word if there is no
+ * refusal. */
+uint64_t word_of_pictures(unsigned int first, unsigned int second);
 
 /* Is the work space written where this is the word? */
 int word_writes(uint64_t word);

@@ -1,0 +1,4 @@
+// The verdict program, where neither file is there.
+fn main() {
+    verdict_tool::run();
+}

@@ -1,0 +1,37 @@
+// The verdict program: reads two pictures from the current folder, and prints whether the second covers the first. It is a library, so that programs
+// with files of their own can run it.
+mod load;
+mod tell;
+
+use crate::load::PICTURE;
+use crate::load::load;
+use crate::tell::tell;
+use countermodel::layout::INDIVIDUAL_SIZE;
+use countermodel::layout::MAX_INDIVIDUALS;
+use subsumption::subsumes::subsumes;
+use table::layout::END_SIZE;
+use table::layout::Limits;
+use table::layout::MAX_ROWS;
+use table::layout::ROW_SIZE;
+
+// The length laid down for a work space: two tables.
+const WORK: usize = 2 * (ROW_SIZE * MAX_ROWS + END_SIZE);
+
+// That for a result buffer: the longest refutation, which is longer than any map.
+const RESULT: usize = INDIVIDUAL_SIZE * MAX_INDIVIDUALS + END_SIZE;
+
+// The verdict on two pictures.
+fn decide(first: &[u8], second: &[u8]) {
+    let mut work = [0u8; WORK];
+    let mut result = [0u8; RESULT];
+    let verdict = subsumes(first, second, Limits::bench(), &mut work, &mut result);
+    tell(verdict, &result);
+}
+
+pub fn run() {
+    let mut first = [0u8; PICTURE];
+    let n = load(b"first.pic", &mut first);
+    let mut second = [0u8; PICTURE];
+    let m = load(b"second.pic", &mut second);
+    decide(&first[..n], &second[..m]);
+}

@@ -1,0 +1,144 @@
+//! The calls of the library once more, sharing no code with it: what the library is compared with, and timed against.
+//!
+//! | Call        | Answer                                                     |
+//! |-------------|------------------------------------------------------------|
+//! | `validate`  | rows of a picture                                          |
+//! | `normalize` | length of its normal table                                 |
+//! | `subsumes`  | verdict and length of its evidence                         |
+//! | `verify`    | which evidence was taken                                   |
+//!
+//! Pictures are read once, into rows linked by number. Nothing is allocated: all is in the buffers lent, or on the
+//! stack.
+
+pub mod countermodel;
+pub mod evidence;
+pub mod field;
+pub mod homomorphism;
+pub mod normal;
+pub mod table;
+
+use evidence::Taken;
+use homomorphism::Search;
+use table::{Table, HEAD_BYTES, MAX_BYTES, MAX_DEPTH, MAX_ROWS};
+
+pub const ROLES: u8 = 32;
+
+pub const TAG_MAP: u8 = 0x41;
+pub const TAG_INDIVIDUAL: u8 = 0x42;
+pub const INDIVIDUAL_VALUE_BYTES: usize = 11;
+pub const INDIVIDUAL_BYTES: usize = HEAD_BYTES + INDIVIDUAL_VALUE_BYTES;
+pub const MAX_INDIVIDUALS: usize = MAX_ROWS * (MAX_DEPTH as usize + 1);
+pub const MAX_EVIDENCE_BYTES: usize = MAX_INDIVIDUALS * INDIVIDUAL_BYTES + HEAD_BYTES;
+pub const WORK_BYTES: usize = 2 * MAX_BYTES;
+
+pub const YES: u64 = 1;
+pub const NO: u64 = 2;
+
+/// What a refusal concerns.
+#[derive(Clone, Copy)]
+pub enum Input {
+    Buffer = 0,
+    First = 1,
+    Second = 2,
+    Evidence = 3,
+}
+
+pub fn refusal(input: Input, question: u8) -> u64 {
+    u64::from(question) << 48 | (input as u64) << 40
+}
+
+pub fn answer(outcome: u64, value: usize) -> u64 {
+    outcome << 56 | value as u64
+}
+
+pub fn outcome(word: u64) -> u64 {
+    word >> 56
+}
+
+pub fn question(word: u64) -> u8 {
+    (word >> 48) as u8
+}
+
+pub fn value(word: u64) -> usize {
+    word as u32 as usize
+}
+
+pub fn validate(picture: &[u8]) -> u64 {
+    let mut table = Table::EMPTY;
+    match table.read(picture) {
+        Ok(()) => answer(YES, table.count),
+        Err(question) => refusal(Input::First, question),
+    }
+}
+
+pub fn normalize(picture: &[u8], result: &mut [u8]) -> u64 {
+    if result.len() < MAX_BYTES {
+        return refusal(Input::Buffer, 1);
+    }
+    let mut table = Table::EMPTY;
+    let mut normal = Table::EMPTY;
+    if let Err(question) = table.read(picture) {
+        return refusal(Input::First, question);
+    }
+    match normal::normalize(&table, &mut normal) {
+        Ok(()) => answer(YES, normal.write(result)),
+        Err(normal::TooLarge) => refusal(Input::First, 14),
+    }
+}
+
+/// The verdict with evidence: does the second picture subsume the first?
+pub fn subsumes(first: &[u8], second: &[u8], work: &mut [u8], result: &mut [u8]) -> u64 {
+    if work.len() < WORK_BYTES || result.len() < MAX_EVIDENCE_BYTES {
+        return refusal(Input::Buffer, 1);
+    }
+    let mut first_normal = Table::EMPTY;
+    let mut second_normal = Table::EMPTY;
+    if let Err(refusal) = prepare(first, second, &mut first_normal, &mut second_normal, work) {
+        return refusal;
+    }
+    let mut search = Search::new(&first_normal, &second_normal);
+    if search.run() {
+        answer(YES, search.write_map(result))
+    } else {
+        answer(NO, countermodel::write(&first_normal, &second_normal, &search, result))
+    }
+}
+
+pub fn verify(first: &[u8], second: &[u8], evidence: &[u8], work: &mut [u8]) -> u64 {
+    if work.len() < WORK_BYTES {
+        return refusal(Input::Buffer, 1);
+    }
+    let mut first_normal = Table::EMPTY;
+    let mut second_normal = Table::EMPTY;
+    if let Err(refusal) = prepare(first, second, &mut first_normal, &mut second_normal, work) {
+        return refusal;
+    }
+    match evidence::check(&first_normal, &second_normal, evidence) {
+        Ok(Taken::Map) => answer(YES, 0),
+        Ok(Taken::Refutation) => answer(NO, 0),
+        Err(question) => refusal(Input::Evidence, question),
+    }
+}
+
+/// Reads two pictures and leaves their normal tables, in the work space too; or gives the word of the refusal.
+/// Nothing is written before both have a normal table.
+fn prepare(
+    first: &[u8],
+    second: &[u8],
+    first_normal: &mut Table,
+    second_normal: &mut Table,
+    work: &mut [u8],
+) -> Result<(), u64> {
+    let mut first_table = Table::EMPTY;
+    let mut second_table = Table::EMPTY;
+    first_table.read(first).map_err(|question| refusal(Input::First, question))?;
+    second_table.read(second).map_err(|question| refusal(Input::Second, question))?;
+    normal::normalize(&first_table, first_normal).map_err(|_| refusal(Input::First, 14))?;
+    normal::normalize(&second_table, second_normal).map_err(|_| refusal(Input::Second, 14))?;
+    let (first_half, second_half) = work[..WORK_BYTES].split_at_mut(MAX_BYTES);
+    for (half, normal) in [(first_half, first_normal), (second_half, second_normal)] {
+        let length = normal.write(half);
+        half[length..].fill(0);
+    }
+    Ok(())
+}

@@ -1,0 +1,141 @@
+#!/bin/sh
+# Runs the verdict program on pairs of files, each in a folder of its own.
+#
+#   sh tests/verdict.sh PROGRAM
+#
+# The last line is 'verdict program: P passed, F failed'; exits 1 if F is not 0.
+set -u
+
+case ${1-} in
+'') echo "usage: sh tests/verdict.sh PROGRAM" >&2; exit 2 ;;
+/*) program=$1 ;;
+*) program=$PWD/$1 ;;
+esac
+cd "$(dirname "$0")/../samples" || exit 2
+
+passed=0
+failed=0
+room=$(mktemp -d) || exit 2
+trap 'rm -rf "$room"' EXIT
+mkdir "$room/files"
+
+# run FIRST SECOND: what the program prints, in $room/printed; false unless it ends well, says nothing else and leaves
+# its folder alone. '-' is no file.
+run() {
+    rm -rf "$room/folder" && mkdir "$room/folder" || return
+    [ "$1" = - ] || cp "$1" "$room/folder/first.pic" || return
+    [ "$2" = - ] || cp "$2" "$room/folder/second.pic" || return
+    before=$(ls -l "$room/folder")
+    (cd "$room/folder" && "$program") >"$room/printed" 2>"$room/said" </dev/null &&
+        [ ! -s "$room/said" ] && [ "$(ls -l "$room/folder")" = "$before" ]
+}
+
+# expect FIRST SECOND PRINTED: the lines that it prints, and no other.
+expect() {
+    printf '%s\n' "$3" >"$room/expected"
+    if run "$1" "$2" && cmp -s "$room/printed" "$room/expected"; then
+        passed=$((passed + 1))
+    else
+        failed=$((failed + 1))
+        echo "tests/verdict.sh: $1 $2: printed '$(cat "$room/printed")', not '$3'"
+    fi
+}
+
+# refused FILE NUMBER: as the first picture, and as the second.
+refused() {
+    expect "$1" top.pic "refused first $2"
+    expect top.pic "$1" "refused second $2"
+}
+
+# rows COUNT MORE: a picture of a root and successors, so many rows in all, and so many bytes after it.
+head -c 24 both.pic >"$room/files/root"
+tail -c 27 both.pic | head -c 24 >"$room/files/row"
+tail -c 3 both.pic >"$room/files/end"
+rows() {
+    count=$1
+    more=$2
+    set -- "$room/files/root"
+    while [ $# -lt "$count" ]; do
+        set -- "$@" "$room/files/row"
+    done
+    cat "$@" "$room/files/end"
+    head -c "$more" /dev/zero
+}
+
+# The map with the lowest images.
+expect both.pic each.pic 'verdict yes
+0 0
+1 1
+2 1'
+expect family.pic top.pic 'verdict yes
+0 0'
+expect family.pic family.pic 'verdict yes
+0 0
+1 1
+2 2
+3 3
+4 4'
+expect none.pic each.pic 'verdict yes
+0 0
+1 0
+2 0'
+expect none.pic none.pic 'verdict yes
+0 0'
+
+expect each.pic both.pic 'verdict no'
+expect top.pic family.pic 'verdict no'
+expect family.pic none.pic 'verdict no'
+expect both.pic family.pic 'verdict no'
+
+# Each picture is read before 14 is asked of either.
+refused cut.pic 6
+refused deep.pic 12
+refused spread.pic 14
+expect cut.pic deep.pic 'refused first 6'
+expect deep.pic cut.pic 'refused first 12'
+expect spread.pic deep.pic 'refused second 12'
+expect deep.pic spread.pic 'refused first 12'
+expect spread.pic spread.pic 'refused first 14'
+
+# A file that is not there is empty.
+: >"$room/files/empty"
+expect - - 'refused first 2'
+expect - top.pic 'refused first 2'
+expect top.pic - 'refused second 2'
+expect - cut.pic 'refused first 2'
+expect cut.pic - 'refused first 6'
+expect spread.pic - 'refused second 2'
+refused "$room/files/empty" 2
+
+# As many rows as allowed: of rows that are alike the lowest is taken.
+most() {
+    echo 'verdict yes'
+    echo '0 0'
+    row=1
+    while [ "$row" -lt 256 ]; do
+        echo "$row 1"
+        row=$((row + 1))
+    done
+}
+rows 256 0 >"$room/files/most"
+expect "$room/files/most" "$room/files/most" "$(most)"
+expect both.pic "$room/files/most" "$(most)"
+
+# A longer file is read up to byte 6,148, and answered as what was read.
+# long NUMBER COUNT MORE: so many rows, and bytes after them.
+long() {
+    rows "$2" "$3" >"$room/files/long"
+    head -c 6148 "$room/files/long" >"$room/files/read"
+    refused "$room/files/long" "$1"
+    refused "$room/files/read" "$1"
+}
+long 8 256 1
+long 8 256 2
+long 8 256 24
+long 8 256 1000000
+long 5 257 0
+long 5 257 1
+long 5 300 0
+
+echo "verdict program: $passed passed, $failed failed"
+[ "$failed" -eq 0 ]
