@@ -3,39 +3,50 @@
 --   empty-tree                 its tree is one node without names and without a mark
 --   empty-rows, empty-label    its normal table is one such row
 --   empty-map                  so the map of one row is one to any normal table
---   empty-subsumes             and the check takes it
-use Prim.Native.Nat.{ℕ, _<_, _≤_}
-use native.Mathlib.Omega.{arith}
+--   empty-evidence, empty-writes   it is the one that is written,
+--   empty-taken                and the check takes it
+--   empty-covers               what fits a picture fits the empty row
+--   empty-subsumes             all of these
+use Prim.Native.Nat.{_<_, _≤_, ℕ}
 use lib.Dec.{T}
+use lib.ListN.{length, replicate}
 use mathlib.Core.Bool.{true}
-use lib.ListN.{replicate}
 use mathlib.Core.List.{List, [], _++_, _∷_}
-use mathlib.Core.Path.{_≡_, refl, subst, sym}
-use Rattle.table.specs.Bounds.{benchLimits, maxRows}
-use Rattle.table.specs.Fields.{endBytes, endsAt, rowOf}
-use Rattle.table.specs.Number.{be, beBytes}
+use mathlib.Core.Path.{_∙_, _≡_, ap, refl, subst, sym}
+use native.Mathlib.Omega.{arith}
+use Rattle.ale.proofs.Concepts.{subsumed-concepts}
 use Rattle.ale.proofs.Structures.{satisfies-emptyLabel}
 use Rattle.ale.proofs.Tests.{or-right}
 use Rattle.ale.specs.Homomorphism.{labelWithin}
-use Rattle.ale.specs.Interpretation.{structureOf}
+use Rattle.ale.specs.Interpretation.{Subsumed, structureOf}
 use Rattle.ale.specs.PictureSignature.{pictureSignature}
 use Rattle.ale.specs.RowMap.{IsHomomorphism, bottomAt, labelAgrees}
 use Rattle.ale.specs.Structure.{Fits}
 use Rattle.ale.specs.Table.{Table}
 use Rattle.ale.specs.Tree.{Label, top}
+use Rattle.evidence.proofs.NormalTables.{normal-some}
+use Rattle.evidence.specs.Form.{mapForm}
+use Rattle.homomorphism.specs.Layout.{imageOf}
+use Rattle.homomorphism.specs.Map.{lowestMap, mapFile}
+use Rattle.meaning.specs.Meaning.{pictureTable, pictureTree}
+use Rattle.meaning.specs.NormalTable.{mergedCount, mergedTree, normalFile, normalTreeOf}
 use Rattle.picture.specs.Depth.{depth, depthIn}
 use Rattle.picture.specs.Questions.{endField, fieldAt, kindOk, lengthFor, parentOk, roleOk, rowField, tagOk, valueField}
 use Rattle.picture.specs.Read.{readingOf, scanFrom}
 use Rattle.picture.specs.View.{Readable, rowCount, viewOf}
-use Rattle.meaning.specs.Meaning.{pictureTable, pictureTree}
-use Rattle.meaning.specs.NormalTable.{mergedCount, mergedTree, normalFile, normalTreeOf}
-use Rattle.workspace.specs.Prepare.{Acceptable}
-use Rattle.evidence.proofs.NormalTables.{normal-some}
-use Rattle.homomorphism.specs.Layout.{imageOf}
-use Rattle.evidence.specs.Form.{mapForm}
-use Rattle.zuvaropy.specs.Calls.{verifyWord}
-use Rattle.zuvaropy.specs.Starred.{Holds, empty, k1, room, toRoot}
-use Rattle.zuvaropy.specs.Word.{outcomeYes, valueWord}
+use Rattle.subsumption.proofs.Answers.{acceptable-result, yes-subsumes}
+use Rattle.subsumption.proofs.Conditions.{Covers}
+use Rattle.subsumption.proofs.Writers.{verdict-covers}
+use Rattle.subsumption.specs.Verdict.{evidenceOf, evidenceSize, mapOf, verdictOf}
+use Rattle.table.specs.Bounds.{benchLimits, maxRows}
+use Rattle.table.specs.Fields.{endBytes, endsAt, rowOf}
+use Rattle.table.specs.Number.{be, beBytes}
+use Rattle.table.specs.Put.{put}
+use Rattle.workspace.specs.Prepare.{Acceptable, workSize}
+use Rattle.zuvaropy.specs.Calls.{subsumesBuffer, subsumesWord, verifyWord}
+use Rattle.zuvaropy.specs.Starred.{Holds, Writes, empty, evidenceRoom, k1, room, toRoot}
+use Rattle.zuvaropy.specs.Word.{outcomeYes, valueWord, verdictWord}
+use Rattle.zuvaropy.proofs.PairWords.{bench}
 use Rattle.zuvaropy.proofs.VerifyWords.{map-verify}
 
 abbrev q : Table pictureSignature
@@ -93,10 +104,37 @@ module _ (first : List ℕ) (few : mergedCount benchLimits first ≤ maxRows) wh
         edges = λ i l z. absurd (z (sym (only i l)));
       }
 
+  -- what is written where the verdict is yes
+  empty-evidence : verdictOf benchLimits first empty ≡ true → evidenceOf benchLimits first empty ≡ toRoot
+  unfolding be beBytes rowOf endBytes rowCount viewOf mergedTree normalTreeOf normalFile evidenceOf mapOf lowestMap mapFile
+  empty-evidence yes-is = rw yes-is
+
+  -- and so it is, as the empty row covers the picture
+  module _ (readable : Readable benchLimits first) (covers : Covers benchLimits empty first) where
+    abbrev pair : Acceptable benchLimits first empty
+    pair = record { first-readable = readable; second-readable = empty-readable; first-few = few; second-few = empty-few }
+
+    empty-writes : Writes first empty outcomeYes toRoot
+    unfolding subsumesWord subsumesBuffer
+    empty-writes =
+        let enough : workSize benchLimits ≤ room = omega arith in
+        let long : evidenceSize benchLimits ≤ evidenceRoom = omega arith in
+        let decided = verdict-covers benchLimits first empty bench pair .0 covers in (
+          ap verdictWord (yes-subsumes benchLimits first empty room evidenceRoom enough long pair decided)
+              ∙ ap (λ (e : List ℕ). valueWord outcomeYes (length e)) (empty-evidence decided),
+          λ result h. acceptable-result benchLimits first empty room result enough h pair ∙ ap (λ (e : List ℕ). put result 0 e) (empty-evidence decided),
+        )
+
+    empty-taken : verifyWord first empty toRoot room ≡ valueWord outcomeYes 0
+    empty-taken = map-verify first empty toRoot room (omega arith) pair (record { form = empty-form; maps = empty-map })
+
+-- whatever fits a picture fits the empty row
+empty-covers : (first : List ℕ) → Subsumed pictureSignature (pictureTree benchLimits first) (pictureTree benchLimits empty)
+empty-covers first I x l f =
+    subst (λ t. Fits pictureSignature (structureOf pictureSignature I) t x) (sym empty-tree)
+    (satisfies-emptyLabel pictureSignature (structureOf pictureSignature I) x, tt)
+
 pub empty-subsumes : Holds k1
 empty-subsumes first readable =
-    let few-taken : mergedCount benchLimits first ≤ maxRows → verifyWord first empty toRoot room ≡ valueWord outcomeYes 0 =
-    λ few.
-    let pair : Acceptable benchLimits first empty = record { first-readable = readable; second-readable = empty-readable; first-few = few; second-few = empty-few } in
-    map-verify first empty toRoot room (omega arith) pair (record { form = empty-form; maps = empty-map first few }) in
-    (λ I x l f. subst (λ t. Fits pictureSignature (structureOf pictureSignature I) t x) (sym empty-tree) (satisfies-emptyLabel pictureSignature (structureOf pictureSignature I) x, tt), few-taken)
+    let covers = subsumed-concepts pictureSignature (pictureTree benchLimits first) (pictureTree benchLimits empty) .0 (empty-covers first) in
+    (empty-covers first, λ few. (empty-writes first few readable covers, empty-taken first few readable covers))

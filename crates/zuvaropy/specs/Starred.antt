@@ -8,10 +8,12 @@
 --   mapFile, individual         a map by its images; an individual by its parent, its role and the names that hold
 --   refutation                  individuals, and the end field
 --   lent                        a result buffer of the length laid down, each byte 255
---   room                        a work space of the length laid down
+--   room, evidenceRoom          a work space and a result buffer of the lengths laid down
 --   Case                        normal: a picture and its normal table
---                               subsumes: the second covers the first, with a map that the check takes; subsumesNot: it does not, with a refutation
---                               subsumesAll: a picture that covers every picture, with one map that the check takes for each that passes 14
+--                               subsumes: the second covers the first, with our map; subsumesNot: it does not, with our refutation (01 leaves which
+--                               one it is to the program)
+--                               subsumesAll: a picture that covers every picture, with one map that is ours for each that passes 14
+--   Writes                      the verdict, the evidence's length, and the evidence in any result buffer that is long enough
 --   Holds, AllHold              what a claim says of the calls; that each of a list holds
 --   starred                     the cases
 use Prim.Native.Nat.{ℕ, _*_, _+_, _^_, _≤_}
@@ -22,6 +24,7 @@ use Rattle.table.specs.Bounds.{benchLimits, maxRows, pictureSize}
 use Rattle.table.specs.Fields.{endBytes, rowOf}
 use Rattle.table.specs.Layout.{kindExists, kindForAll, kindRoot, nameBytes, numberSize}
 use Rattle.table.specs.Number.{beBytes}
+use Rattle.table.specs.Put.{put}
 use Rattle.ale.specs.Interpretation.{Subsumed}
 use Rattle.ale.specs.PictureSignature.{pictureSignature}
 use Rattle.meaning.specs.Meaning.{pictureTree}
@@ -30,7 +33,8 @@ use Rattle.picture.specs.View.{Readable}
 use Rattle.meaning.specs.NormalTable.{mergedCount}
 use Rattle.workspace.specs.Prepare.{workSize}
 use Rattle.homomorphism.specs.Layout.{mapTag}
-use Rattle.zuvaropy.specs.Calls.{normalizeBuffer, normalizeWord, verifyWord}
+use Rattle.subsumption.specs.Verdict.{evidenceSize}
+use Rattle.zuvaropy.specs.Calls.{normalizeBuffer, normalizeWord, subsumesBuffer, subsumesWord, verifyWord}
 use Rattle.zuvaropy.specs.Word.{outcomeNo, outcomeYes, valueWord}
 
 -- ---- pictures by rows
@@ -97,23 +101,33 @@ pub data Case : Type 0 where
 abbrev pub room : ℕ
 room = workSize benchLimits
 
+abbrev pub evidenceRoom : ℕ
+evidenceRoom = evidenceSize benchLimits
+
+abbrev pub Writes : List ℕ → List ℕ → ℕ → List ℕ → Type 0
+Writes first second outcome evidence =
+    (subsumesWord first second room evidenceRoom ≡ valueWord outcome (length evidence))
+    × ((result : List ℕ) → evidenceRoom ≤ length result → subsumesBuffer first second room result ≡ put result 0 evidence)
+
 -- normal: the word has the table's length; the buffer holds the table, and past it what was lent
--- subsumes, subsumesNot: the word says that the map, or the refutation, is taken, and it is so by the meaning of the two pictures
--- subsumesAll: so of every readable picture; where its merged table has too many rows, the check refuses it by 14
+-- subsumes, subsumesNot: the verdict is yes, or no, with this evidence, which the check takes, and it is so by the meaning of the two pictures
+-- subsumesAll: so of every readable picture; where its merged table has too many rows, both calls refuse it by 14
 abbrev pub Holds : Case → Type 0
 Holds (normal first table) =
     (normalizeWord first (length lent) ≡ valueWord outcomeYes (length table))
     × (normalizeBuffer first lent ≡ table ++ drop (length table) lent)
 Holds (subsumes first second map) =
-    (verifyWord first second map room ≡ valueWord outcomeYes 0)
+    Writes first second outcomeYes map
+    × (verifyWord first second map room ≡ valueWord outcomeYes 0)
     × Subsumed pictureSignature (pictureTree benchLimits first) (pictureTree benchLimits second)
 Holds (subsumesNot first second refuting) =
-    (verifyWord first second refuting room ≡ valueWord outcomeNo 0)
+    Writes first second outcomeNo refuting
+    × (verifyWord first second refuting room ≡ valueWord outcomeNo 0)
     × (Subsumed pictureSignature (pictureTree benchLimits first) (pictureTree benchLimits second) → ⊥)
 Holds (subsumesAll second map) =
     (first : List ℕ) → Readable benchLimits first →
     Subsumed pictureSignature (pictureTree benchLimits first) (pictureTree benchLimits second)
-    × (mergedCount benchLimits first ≤ maxRows → verifyWord first second map room ≡ valueWord outcomeYes 0)
+    × (mergedCount benchLimits first ≤ maxRows → Writes first second outcomeYes map × (verifyWord first second map room ≡ valueWord outcomeYes 0))
 
 abbrev pub AllHold : List Case → Type 0
 AllHold [] = Unit {0}
