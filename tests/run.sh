@@ -138,10 +138,13 @@ verdict_samples() {
     sh samples/verdict.sh "$verdict" >"$out/verdict_samples.log" && diff samples/verdict.stdout "$out/verdict_samples.log"
 }
 
-# readme N PRINTED: the README's Nth program builds as it stands there, and prints this.
+# readme N PRINTED ARGUMENT..: the README's Nth program builds as it stands there, and prints this.
 readme() {
     awk -v n="$1" '/^```c$/ { at++; next } /^```$/ { if (at == n) exit } at == n' README.md >"$out/readme$1.c"
-    $c "$out/readme$1.c" "$archive" -o "$out/readme$1" && printed=$("$out/readme$1") && [ "$printed" = "$2" ]
+    program=$out/readme$1
+    expected=$2
+    shift 2
+    $c "$program.c" "$archive" -o "$program" && printed=$("$program" "$@") && [ "$printed" = "$expected" ]
 }
 
 # The README shows what make demo prints.
@@ -163,11 +166,13 @@ one 'example normalize' example normalize "$out/normalize" samples/*.pic
 one 'example verify' example verify sh samples/verify.sh "$out/verify"
 one 'example subsumes' example subsumes sh samples/subsumes.sh "$out/subsumes" "$out/verify"
 one 'readme, validate' readme 1 'a picture of 2 rows'
-one 'readme, subsumes' readme 2 'yes, with a map of 12 bytes, which is taken
+one 'readme, yes' readme 2 'yes, with a map of 12 bytes
   row 0 goes to row 0
   row 1 goes to row 1
   row 2 goes to row 1
-no, with a refutation of 45 bytes, which is taken'
+checked: taken' samples/both.pic samples/each.pic
+one 'readme, no' readme 2 'no, with a refutation of 45 bytes
+checked: taken' samples/each.pic samples/both.pic
 one 'readme, demo' demo
 
 count verdict sh tests/verdict.sh "$verdict"
