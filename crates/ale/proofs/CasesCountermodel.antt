@@ -7,7 +7,7 @@ use Rattle.table.specs.Layout.{nameCount}
 use Rattle.ale.specs.Countermodel.{countermodel, individual, maxIndividuals}
 use Rattle.ale.specs.ModelCheck.{fitsTest}
 use Rattle.ale.specs.PictureSignature.{NameSet}
-use Rattle.ale.specs.Tree.{Tree, cons, exists, forAll, nil, node}
+use Rattle.ale.specs.Tree.{Tree, bottomLabel, cons, exists, forAll, nil, node}
 use Rattle.ale.proofs.CasesTree.{Sig, double, excludes, five, leaf, names, none, single, three, threeFive}
 
 abbrev everything : NameSet
@@ -45,6 +45,11 @@ counter-some = refl
 counter-all : countermodel Sig (single forAll (leaf five)) (single forAll (leaf three)) ≡
     individual Sig none (cons exists 8 (individual Sig three nil) nil)
 counter-all = refl
+
+-- nothing fits ⊥, whatever hangs from it: the canonical model will do
+counter-bottom : countermodel Sig (node (bottomLabel Sig) (cons exists 8 (node (excludes three) nil) nil)) (single exists (leaf none)) ≡
+    individual Sig none (cons exists 8 (individual Sig none nil) nil)
+counter-bottom = refl
 
 -- the bound on the countermodel's individuals, at the limits of paper 01
 counter-limit : maxIndividuals maxDepth maxRows ≡ 3328

@@ -4,6 +4,7 @@
 --   countermodel-known        so the table of the countermodel of two pictures has known roles
 use Prim.Native.Nat.{_<_, ℕ}
 use lib.Dec.{eqb}
+use mathlib.Core.Bool.{_&&_, not}
 use Rattle.table.specs.Pick.{pick}
 use Rattle.ale.specs.Countermodel.{canonical, canonicalAll, countermodel, falsify, falsifyAll, individual, realize}
 use Rattle.ale.specs.Encoding.{encoded}
@@ -52,7 +53,8 @@ module _ (S : Signature) where
         let changed = individual S (m .wanted) (falsifyAll S f g) in
         let widened = individual S (S .complement (m .excluded)) (canonicalAll S g) in
         let excluded = S .subset (l .excluded) (m .excluded) in
-        chosen (λ t. RolesKnown S t) (S .subset (l .wanted) (m .wanted)) (pick excluded changed widened) (individual S (m .wanted) (canonicalAll S g))
+        chosen (λ t. RolesKnown S t) (S .subset (l .wanted) (m .wanted) && not (l .bottom)) (pick excluded changed widened)
+        (individual S (m .wanted) (canonicalAll S g))
         (λ _. chosen (λ t. RolesKnown S t) excluded changed widened (λ _. falsifyAll-rolesKnown f g a b) (λ _. plain)) (λ _. plain)
 
     falsifyAll-rolesKnown : (f g : Forest S) → RolesKnownAll S f → RolesKnownAll S g → RolesKnownAll S (falsifyAll S f g)

@@ -3,7 +3,7 @@
 -- which is less high than d. For an all-edge to e, one such countermodel is added to the canonical model, so v is counted once more than for e.
 use Prim.Native.Nat.{_*_, _+_, _≤_, max, suc, ℕ}
 use lib.Dec.{eqb}
-use mathlib.Core.Bool.{Bool, false, true}
+use mathlib.Core.Bool.{Bool, _&&_, false, not, true}
 use native.Mathlib.Nat.{le-max-left, le-max-right, mul-le-mul-left, mul-le-mul-right}
 use native.Mathlib.Omega.{arith}
 use Rattle.table.specs.Pick.{pick}
@@ -61,7 +61,7 @@ module _ (S : Signature) where
   mutual
     pub countermodel-size : (d v : Tree S) → size S (countermodel S d v) ≤ suc (height S d) * size S v
     countermodel-size (node l f) (node m g) =
-        node-size (S .subset (l .wanted) (m .wanted)) (S .subset (l .excluded) (m .excluded)) (m .wanted) (S .complement (m .excluded))
+        node-size (S .subset (l .wanted) (m .wanted) && not (l .bottom)) (S .subset (l .excluded) (m .excluded)) (m .wanted) (S .complement (m .excluded))
         (falsifyAll S f g) (canonicalAll S g) (suc (heights S f) * suc (sizes S g)) (falsifyAll-sizes f g) (omega (arith, canonical-sizes g))
 
     falsifyAll-sizes : (f g : Forest S) → suc (sizes S (falsifyAll S f g)) ≤ suc (heights S f) * suc (sizes S g)

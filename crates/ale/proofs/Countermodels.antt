@@ -1,7 +1,8 @@
 -- The countermodel refutes: if a reduced tree d does not map to a saturated tree v, the root of `countermodel d v` fits v and not d.
--- By induction on d. If v's label does not carry d's, the canonical successors fit v's edges, and the root's names fit v's label and not d's. Else
--- an edge of d to some e has no image. For a some-edge, each some-successor of v whose role serves becomes its countermodel with e; for an all-edge,
--- one successor is added, the countermodel of v's value restriction with e. As v is saturated, each fits the value restrictions that bind it.
+-- By induction on d. If v's label does not carry d's, the canonical successors fit v's edges, and the root's names fit v's label and not d's (nothing
+-- fits it if d is ⊥). Else an edge of d to some e has no image. For a some-edge, each some-successor of v whose role serves becomes its countermodel with
+-- e; for an all-edge, one successor is added, the countermodel of v's value restriction with e. As v is saturated, each fits the value restrictions that
+-- bind it.
 --   fits-canonical          003, Lemma 37: the canonical model of a saturated tree that is not ⊥ fits it
 --   fits-each-canonical     the same for each some-successor
 --   Refutes                 an individual fits v and not d
@@ -221,26 +222,28 @@ module _ (S : Signature) where
     abbrev Missing : S .Names → S .Names → Type 0
     Missing s t = (n : ℕ) × T (S .has s n) × T (not (S .has t n))
 
+    -- the canonical model refutes d if it does not satisfy d's label
+    node-canonical : (Satisfies S (treeStructure S) l (individual S (m .wanted) (canonicalAll S g)) → ⊥) →
+        Refutes (node m g) (node l f) (individual S (m .wanted) (canonicalAll S g))
+    node-canonical fails = ((satisfies-wanted m g (canonicalAll S g) t u, fits (m .wanted)), λ fit. fails (fit .0))
+
     node-refutes : T (not (labelWithin S l m && mapsAllTo S f g)) →
-        Refutes (node m g) (node l f) (nodeModel (S .subset (l .wanted) (m .wanted)) (S .subset (l .excluded) (m .excluded)))
+        Refutes (node m g) (node l f) (nodeModel (S .subset (l .wanted) (m .wanted) && not (l .bottom)) (S .subset (l .excluded) (m .excluded)))
     node-refutes =
-        go (S .subset (l .wanted) (m .wanted)) (S .subset (l .excluded) (m .excluded))
-        (subset-fails S (l .wanted) (m .wanted)) (subset-fails S (l .excluded) (m .excluded))
+        go (S .subset (l .wanted) (m .wanted)) (S .subset (l .excluded) (m .excluded)) (not (l .bottom))
+        (subset-fails S (l .wanted) (m .wanted)) (subset-fails S (l .excluded) (m .excluded)) (λ b p. clash (not (l .bottom)) (p .possible) b)
       where
-        go : (a b : Bool) → (T (not a) → Missing (l .wanted) (m .wanted)) → (T (not b) → Missing (l .excluded) (m .excluded)) →
-            T (not ((a && (b && not (l .bottom))) && mapsAllTo S f g)) → Refutes (node m g) (node l f) (nodeModel a b)
-        go true true p q x = (
-          (satisfies-wanted m g cs t u, fs .0 (m .wanted)),
-          λ fit. ⊎-elim (clash (not (l .bottom)) (fit .0 .possible)) (λ n. fs .1 n (m .wanted) (fit .1)) (and-fails (not (l .bottom)) (mapsAllTo S f g) x),
-        )
-        go true false p q x =
+        go : (a b c : Bool) → (T (not a) → Missing (l .wanted) (m .wanted)) → (T (not b) → Missing (l .excluded) (m .excluded)) →
+            (T (not c) → Satisfies S (treeStructure S) l (individual S (m .wanted) (canonicalAll S g)) → ⊥) →
+            T (not ((a && (b && c)) && mapsAllTo S f g)) → Refutes (node m g) (node l f) (nodeModel (a && c) b)
+        go true true true p q r x = ((satisfies-wanted m g cs t u, fs .0 (m .wanted)), λ fit. fs .1 x (m .wanted) (fit .1))
+        go true false true p q r x =
             let (n, i, o) = q tt in (
               (satisfies-complement m g (canonicalAll S g) t u, fits (S .complement (m .excluded))),
               λ fit. fit .0 .free n i (complement-in S (m .excluded) (l .excluded) n i o),
             )
-        go false b p q x =
-            let (n, i, o) = p tt in
-            ((satisfies-wanted m g (canonicalAll S g) t u, fits (m .wanted)), λ fit. clash (S .has (m .wanted) n) (fit .0 .held n i) o)
+        go true b false p q r x = node-canonical (r tt)
+        go false b c p q r x = let (n, i, o) = p tt in node-canonical (λ y. clash (S .has (m .wanted) n) (y .held n i) o)
 
   -- the edges of a node: the first has no image and is falsified, or a later one
   falsifyAll-step : (k : Kind) (r : ℕ) (d : Tree S) (f g : Forest S) (b : Bool) (cs js : Forest S) →

@@ -11,7 +11,7 @@
 --   numbered               a tree of individuals, numbered depth first
 use Prim.Native.Nat.{_*_, _<_, suc, ℕ}
 use lib.Dec.{T}
-use mathlib.Core.Bool.{Bool, _&&_, false, true}
+use mathlib.Core.Bool.{Bool, _&&_, false, not, true}
 use native.Mathlib.Omega.{arith}
 use Rattle.table.specs.Pick.{pick}
 use Rattle.ale.specs.Encoding.{encoded}
@@ -44,17 +44,17 @@ module _ (S : Signature) where
   falsify exists r h g = realize (λ r′ c. pick (S .subrole r′ r) (h c) (canonical c)) g
   falsify forAll r h g = cons exists r (h (valueOf S r g)) (canonicalAll g)
 
-  -- a wanted name that v does not want fails in the canonical model; an excluded name that v does not exclude may hold
+  -- nothing fits ⊥, and a wanted name that v does not want fails in the canonical model; an excluded name that v does not exclude may hold
   abbrev mutual
     pub countermodel : Tree S → Tree S → Tree S
     countermodel (node l f) (node m g) =
-        pick (S .subset (l .wanted) (m .wanted))
+        pick (S .subset (l .wanted) (m .wanted) && not (l .bottom))
         (pick (S .subset (l .excluded) (m .excluded))
         (individual (m .wanted) (falsifyAll f g))
         (individual (S .complement (m .excluded)) (canonicalAll g)))
         (individual (m .wanted) (canonicalAll g))
 
-    -- the first edge that does not map is the one not fitted; where every edge maps, d is ⊥ and nothing need be changed
+    -- the first edge that does not map is the one not fitted; where d's label is carried and d does not map, there is one
     pub falsifyAll : Forest S → Forest S → Forest S
     falsifyAll nil g = canonicalAll g
     falsifyAll (cons k r d f) g =

@@ -9,5 +9,6 @@ pub mod Writings
 pub mod Walks
 pub mod Canonicals
 pub mod Refutings
+pub mod Misses
 pub mod RefutingTurns
 pub mod Refutables

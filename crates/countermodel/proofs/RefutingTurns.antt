@@ -39,7 +39,7 @@ use Rattle.table.specs.Number.{beBytes}
 use Rattle.table.specs.Pick.{pick}
 use Rattle.table.specs.Put.{put}
 use Rattle.countermodel.specs.Layout.{individualPlace, individualSize, mostIndividuals}
-use Rattle.countermodel.specs.Refuting.{againstTop, againstTree, canonicalBelow, falsifiedBelow, firstValue, reachedAll, reachedTree, realizedBelow, realizedRows, valueRow}
+use Rattle.countermodel.specs.Refuting.{againstTop, againstTree, canonicalBelow, falsifiedBelow, firstValue, reachedAll, reachedTree, realizedBelow, realizedRows, valueRow, wantedWithin}
 use Rattle.countermodel.specs.Writing.{RefutationRoom, Room, Written, individualBytes, individualsOf, refutationFile}
 use Rattle.countermodel.proofs.Models.{chain-less}
 use Rattle.countermodel.proofs.Refutings.{against-below, against-holds, against-lacks, realized-split, top-below, top-holds, top-lacks, topBelow}
@@ -94,12 +94,12 @@ leaf-written out k parent role x mid f first ends =
     first .written (k + 1) mid (forest-written mid (k + 1) k f nil ends (k + 1) mid (written-none mid (k + 1)))
 
 module _ (s t : List ℕ) (d w u : ℕ) (out : List ℕ) (k parent role : ℕ) (room : Room out k (reachedTree (againstTree s t d w u) parent role k)) (mid : List ℕ)
-    (has wants : ℕ) (has-is : Read has (wantedOf s u)) (wants-is : Read wants (wantedOf t w)) (r : Bool) (is : r ≡ subset wants has) where
+    (has : ℕ) (has-is : Read has (wantedOf s u)) (r : Bool) (is : r ≡ wantedWithin t w has) where
   pub begun-lacks : r ≡ false → mid ≡ put out (individualPlace k 0) (individualBytes parent role has) →
       Begun out k parent role (againstTree s t d w u) mid (canonicalBelow s d u)
   begun-lacks h here =
       begun out k parent role (againstTree s t d w u) (setAt (wantedOf s u)) (canonicalBelow s d u)
-      (against-lacks s t d w u has wants has-is wants-is r is h) room has (low-same has (wantedOf s u) has-is) mid here
+      (against-lacks s t d w u has has-is r is h) room has (low-same has (wantedOf s u) has-is) mid here
 
   module _ (h : r ≡ true) (lacks excludes : ℕ) (lacks-is : Read lacks (excludedOf s u)) (excludes-is : Read excludes (excludedOf t w)) (q : Bool)
       (at : q ≡ subset excludes lacks) where
@@ -107,34 +107,34 @@ module _ (s t : List ℕ) (d w u : ℕ) (out : List ℕ) (k parent role : ℕ) (
         Begun out k parent role (againstTree s t d w u) mid (canonicalBelow s d u)
     begun-holds g set set-is here =
         begun out k parent role (againstTree s t d w u) (pictureSignature .complement (setAt (excludedOf s u))) (canonicalBelow s d u)
-        (against-holds s t d w u has wants has-is wants-is r is h lacks excludes lacks-is excludes-is q at g) room set
+        (against-holds s t d w u has has-is r is h lacks excludes lacks-is excludes-is q at g) room set
         (ap complement (low-same lacks (excludedOf s u) lacks-is) ∙ sym set-is) mid here
 
     pub begun-below : q ≡ true → mid ≡ put out (individualPlace k 0) (individualBytes parent role has) →
         Begun out k parent role (againstTree s t d w u) mid (falsifiedBelow s t d w u)
     begun-below g here =
         begun out k parent role (againstTree s t d w u) (setAt (wantedOf s u)) (falsifiedBelow s t d w u)
-        (against-below s t d w u has wants has-is wants-is r is h lacks excludes lacks-is excludes-is q at g) room has (low-same has (wantedOf s u) has-is) mid here
+        (against-below s t d w u has has-is r is h lacks excludes lacks-is excludes-is q at g) room has (low-same has (wantedOf s u) has-is) mid here
 
 module _ (t : List ℕ) (d w : ℕ) (out : List ℕ) (k parent role : ℕ) (room : Room out k (reachedTree (againstTop t d w) parent role k)) (mid : List ℕ)
-    (empty : ℕ) (empty-is : empty ≡ none) (wants : ℕ) (wants-is : Read wants (wantedOf t w)) (r : Bool) (is : r ≡ eqb wants none) where
+    (empty : ℕ) (empty-is : empty ≡ none) (r : Bool) (is : r ≡ wantedWithin t w empty) where
   pub begun-top-lacks : r ≡ false → mid ≡ put out (individualPlace k 0) (individualBytes parent role empty) →
       Begun out k parent role (againstTop t d w) mid nil
   begun-top-lacks h here =
-      begun out k parent role (againstTop t d w) (pictureSignature .none) nil (top-lacks t d w wants wants-is r is h) room empty (sym empty-is) mid here
+      begun out k parent role (againstTop t d w) (pictureSignature .none) nil (top-lacks t d w empty empty-is r is h) room empty (sym empty-is) mid here
 
   module _ (h : r ≡ true) (excludes : ℕ) (excludes-is : Read excludes (excludedOf t w)) (q : Bool) (at : q ≡ eqb excludes none) where
     pub begun-top-holds : q ≡ false → (set : ℕ) → set ≡ complement empty → mid ≡ put out (individualPlace k 0) (individualBytes parent role set) →
         Begun out k parent role (againstTop t d w) mid nil
     begun-top-holds g set set-is here =
         begun out k parent role (againstTop t d w) (pictureSignature .complement (pictureSignature .none)) nil
-        (top-holds t d w wants wants-is r is h excludes excludes-is q at g) room set (sym (set-is ∙ ap complement empty-is)) mid here
+        (top-holds t d w empty empty-is r is h excludes excludes-is q at g) room set (sym (set-is ∙ ap complement empty-is)) mid here
 
     pub begun-top : q ≡ true → mid ≡ put out (individualPlace k 0) (individualBytes parent role empty) →
         Begun out k parent role (againstTop t d w) mid (topBelow t d w)
     begun-top g here =
         begun out k parent role (againstTop t d w) (pictureSignature .none) (topBelow t d w)
-        (top-below t d w wants wants-is r is h excludes excludes-is q at g) room empty (sym empty-is) mid here
+        (top-below t d w empty empty-is r is h excludes excludes-is q at g) room empty (sym empty-is) mid here
 
 -- ---- a successor, and then the others
 

@@ -1,7 +1,8 @@
 -- The countermodel of two tables, row by row: each part of the refutation is what its definition gives at what the code has read of the rows.
---   against-lacks, against-holds     row w is not fitted at a wanted name, at an excluded one
---   against-below                    or further down
---   falsified-zero                   at depth 0 nothing hangs from row u
+--   within-marked, within-names      no set has what a marked row wants; of another the names decide
+--   against-lacks, against-holds     row w is not fitted as it is marked or at a wanted name, at an excluded name
+--   against-below, against-carried   or further down, where its label is carried
+--   falsified-zero                   at depth 0 nothing hangs from row u, as in the canonical model
 --   falsified-none                   where every edge is served, what hangs from it is as in the canonical model
 --   falsified-value                  the first edge that is not served, an all-edge: one individual more
 --   falsified-realized               a some-edge: each some-successor by its role is against it
@@ -18,7 +19,7 @@ use Prim.Native.Nat.{_%_, _<_, _^_, suc, ℕ}
 use borrow.Author.Tests.{eq-eqb, ne-eqb}
 use lib.Dec.{T, eqb}
 use lib.ListN.{getD}
-use mathlib.Core.Bool.{Bool, false, true}
+use mathlib.Core.Bool.{Bool, and-false, and-true, false, not, true}
 use mathlib.Core.List.{List, [], _∷_}
 use mathlib.Core.Logic.{⊎-elim}
 use mathlib.Core.Path.{_∙_, _≡_, ap, ap₂, refl, sym}
@@ -33,17 +34,17 @@ use Rattle.ale.specs.Rows.{member}
 use Rattle.ale.specs.Table.{successorOf, successorRows, successors}
 use Rattle.ale.specs.Tree.{Forest, Kind, Tree, cons, exists, forAll, nil, successorsOf, top}
 use Rattle.homomorphism.proofs.Labels.{Read, low-same}
-use Rattle.homomorphism.specs.Search.{LinkedTable, edgeServed, firstFailing, forestAt, treeAt, unservedRow}
+use Rattle.homomorphism.specs.Search.{LinkedTable, edgeServed, firstFailing, forestAt, labelCarried, treeAt, unservedRow}
 use Rattle.meaning.specs.Meaning.{kindAt, pictureTable, setAt}
 use Rattle.picture.specs.View.{viewOf}
-use Rattle.table.proofs.Bools.{by-test}
+use Rattle.table.proofs.Bools.{both, by-test}
 use Rattle.table.proofs.NameSets.{subset-none}
 use Rattle.table.specs.Bounds.{maxRows}
-use Rattle.table.specs.Fields.{excludedOf, kindOf, parentOf, roleOf, wantedOf}
+use Rattle.table.specs.Fields.{excludedOf, impossibleOf, kindOf, parentOf, roleOf, wantedOf}
 use Rattle.table.specs.Layout.{kindExists, kindForAll, nameCount}
 use Rattle.table.specs.NameSet.{none, subset}
 use Rattle.table.specs.Pick.{pick}
-use Rattle.countermodel.specs.Refuting.{againstTop, againstTree, againstValue, canonicalBelow, canonicalTree, falsifiedBelow, firstValue, realizedBelow, realizedRows, valueRow}
+use Rattle.countermodel.specs.Refuting.{againstTop, againstTree, againstValue, canonicalBelow, canonicalTree, falsifiedBelow, firstValue, realizedBelow, realizedRows, valueRow, wantedWithin}
 use Rattle.countermodel.proofs.Walks.{Split, successors-ahead}
 
 -- ---- the rows that hang from a row
@@ -62,40 +63,55 @@ subset-read a b x y r p q is = is ∙ sym (ap₂ subset (low-same a x p) (low-sa
 none-read : (a x : ℕ) (r : Bool) → Read a x → r ≡ eqb a none → r ≡ subset (x % 2 ^ nameCount) none
 none-read a x r p is = is ∙ sym (subset-none a) ∙ sym (ap (λ n. subset n none) (low-same a x p))
 
+-- ---- what row w wants
+
+module _ (t : List ℕ) (w set mark : ℕ) (is : mark ≡ impossibleOf t w) where
+  pub within-marked : mark ≡ 1 → wantedWithin t w set ≡ false
+  unfolding wantedWithin
+  within-marked marked = rw (sym is, eq-eqb mark 1 marked) (and-false (subset (wantedOf t w % 2 ^ nameCount) set))
+
+  pub within-names : (mark ≡ 1 → ⊥) → (wants : ℕ) → Read wants (wantedOf t w) → wantedWithin t w set ≡ subset wants set
+  unfolding wantedWithin
+  within-names other wants wants-is =
+      rw (sym is, ne-eqb mark 1 other, low-same wants (wantedOf t w) wants-is) (and-true (subset wants set))
+
 -- ---- row u's individual, against row w
 
 module _ (s t : List ℕ) (d w u : ℕ) where
   against-names : againstTree s t d w u
-      ≡ pick (subset (wantedOf t w % 2 ^ nameCount) (wantedOf s u % 2 ^ nameCount))
+      ≡ pick (wantedWithin t w (wantedOf s u % 2 ^ nameCount))
       (pick (subset (excludedOf t w % 2 ^ nameCount) (excludedOf s u % 2 ^ nameCount))
       (individual pictureSignature (setAt (wantedOf s u)) (falsifiedBelow s t d w u))
       (individual pictureSignature (pictureSignature .complement (setAt (excludedOf s u))) (canonicalBelow s d u)))
       (individual pictureSignature (setAt (wantedOf s u)) (canonicalBelow s d u))
-  unfolding againstTree canonicalBelow falsifiedBelow viewOf
+  unfolding againstTree canonicalBelow falsifiedBelow viewOf wantedWithin
   against-names =
       ap₂ (countermodel pictureSignature) (treeOf-node pictureSignature (pictureTable t) d w) (treeOf-node pictureSignature (pictureTable s) d u)
 
-  module _ (has wants : ℕ) (has-is : Read has (wantedOf s u)) (wants-is : Read wants (wantedOf t w)) (r : Bool) (is : r ≡ subset wants has) where
-    pub against-lacks : r ≡ false → againstTree s t d w u ≡ individual pictureSignature (setAt (wantedOf s u)) (canonicalBelow s d u)
-    against-lacks h = against-names ∙ rw (sym (subset-read wants has (wantedOf t w) (wantedOf s u) r wants-is has-is is) ∙ h)
+  module _ (has : ℕ) (has-is : Read has (wantedOf s u)) (r : Bool) (is : r ≡ wantedWithin t w has) where
+    within-is : wantedWithin t w (wantedOf s u % 2 ^ nameCount) ≡ r
+    within-is = ap (wantedWithin t w) (low-same has (wantedOf s u) has-is) ∙ sym is
 
-    module _ (h : r ≡ true) (lacks excludes : ℕ) (lacks-is : Read lacks (excludedOf s u)) (excludes-is : Read excludes (excludedOf t w)) (q : Bool) (at : q ≡ subset excludes lacks) where
+    pub against-lacks : r ≡ false → againstTree s t d w u ≡ individual pictureSignature (setAt (wantedOf s u)) (canonicalBelow s d u)
+    against-lacks h = against-names ∙ rw (within-is ∙ h)
+
+    module _ (h : r ≡ true) (lacks excludes : ℕ) (lacks-is : Read lacks (excludedOf s u)) (excludes-is : Read excludes (excludedOf t w)) (q : Bool)
+        (at : q ≡ subset excludes lacks) where
+      excluded-is : subset (excludedOf t w % 2 ^ nameCount) (excludedOf s u % 2 ^ nameCount) ≡ q
+      excluded-is = sym (subset-read excludes lacks (excludedOf t w) (excludedOf s u) q excludes-is lacks-is at)
+
       pub against-holds : q ≡ false →
           againstTree s t d w u ≡ individual pictureSignature (pictureSignature .complement (setAt (excludedOf s u))) (canonicalBelow s d u)
-      against-holds g =
-          against-names
-          ∙ rw (
-            sym (subset-read wants has (wantedOf t w) (wantedOf s u) r wants-is has-is is) ∙ h,
-            sym (subset-read excludes lacks (excludedOf t w) (excludedOf s u) q excludes-is lacks-is at) ∙ g,
-          )
+      against-holds g = against-names ∙ rw (within-is ∙ h, excluded-is ∙ g)
 
       pub against-below : q ≡ true → againstTree s t d w u ≡ individual pictureSignature (setAt (wantedOf s u)) (falsifiedBelow s t d w u)
-      against-below g =
-          against-names
-          ∙ rw (
-            sym (subset-read wants has (wantedOf t w) (wantedOf s u) r wants-is has-is is) ∙ h,
-            sym (subset-read excludes lacks (excludedOf t w) (excludedOf s u) q excludes-is lacks-is at) ∙ g,
-          )
+      against-below g = against-names ∙ rw (within-is ∙ h, excluded-is ∙ g)
+
+      pub against-carried : q ≡ true → labelCarried s t w u ≡ true
+      unfolding labelCarried viewOf wantedWithin
+      against-carried g =
+          let (wants, other) = both (subset (wantedOf t w % 2 ^ nameCount) (wantedOf s u % 2 ^ nameCount)) (not (eqb (impossibleOf t w) 1)) (within-is ∙ h) in
+          rw (wants, excluded-is ∙ g, other)
 
 -- ---- what hangs from it
 
@@ -131,8 +147,8 @@ module _ (s t : List ℕ) (d u : ℕ) where
       unfolding realizedBelow realizedRows
       falsified-realized some = falsified-rows ∙ rw (ne-eqb c 0 z, sym kind-is, ne-eqb kind kindForAll some)
 
-pub falsified-zero : (s t : List ℕ) (depth w u : ℕ) → depth ≡ 0 → falsifiedBelow s t depth w u ≡ nil
-unfolding falsifiedBelow
+pub falsified-zero : (s t : List ℕ) (depth w u : ℕ) → depth ≡ 0 → falsifiedBelow s t depth w u ≡ canonicalBelow s depth u
+unfolding falsifiedBelow canonicalBelow
 falsified-zero s t depth w u z = rw z
 
 -- ---- the all-successor of a role
@@ -171,26 +187,27 @@ topBelow t d w = falsifyAll pictureSignature (successorsOf pictureSignature (tre
 
 module _ (t : List ℕ) (d w : ℕ) where
   top-names : againstTop t d w
-      ≡ pick (subset (wantedOf t w % 2 ^ nameCount) none)
+      ≡ pick (wantedWithin t w none)
       (pick (subset (excludedOf t w % 2 ^ nameCount) none)
       (individual pictureSignature (pictureSignature .none) (topBelow t d w))
       (individual pictureSignature (pictureSignature .complement (pictureSignature .none)) nil))
       (individual pictureSignature (pictureSignature .none) nil)
-  unfolding againstTop topBelow viewOf
+  unfolding againstTop topBelow viewOf wantedWithin
   top-names = ap (λ x. countermodel pictureSignature x (top pictureSignature)) (treeOf-node pictureSignature (pictureTable t) d w)
 
-  module _ (wants : ℕ) (wants-is : Read wants (wantedOf t w)) (r : Bool) (is : r ≡ eqb wants none) where
+  module _ (empty : ℕ) (empty-is : empty ≡ none) (r : Bool) (is : r ≡ wantedWithin t w empty) where
+    none-is : wantedWithin t w none ≡ r
+    none-is = ap (wantedWithin t w) (sym empty-is) ∙ sym is
+
     pub top-lacks : r ≡ false → againstTop t d w ≡ individual pictureSignature (pictureSignature .none) nil
-    top-lacks h = top-names ∙ rw (sym (none-read wants (wantedOf t w) r wants-is is) ∙ h)
+    top-lacks h = top-names ∙ rw (none-is ∙ h)
 
     module _ (h : r ≡ true) (excludes : ℕ) (excludes-is : Read excludes (excludedOf t w)) (q : Bool) (at : q ≡ eqb excludes none) where
       pub top-holds : q ≡ false → againstTop t d w ≡ individual pictureSignature (pictureSignature .complement (pictureSignature .none)) nil
-      top-holds g =
-          top-names ∙ rw (sym (none-read wants (wantedOf t w) r wants-is is) ∙ h, sym (none-read excludes (excludedOf t w) q excludes-is at) ∙ g)
+      top-holds g = top-names ∙ rw (none-is ∙ h, sym (none-read excludes (excludedOf t w) q excludes-is at) ∙ g)
 
       pub top-below : q ≡ true → againstTop t d w ≡ individual pictureSignature (pictureSignature .none) (topBelow t d w)
-      top-below g =
-          top-names ∙ rw (sym (none-read wants (wantedOf t w) r wants-is is) ∙ h, sym (none-read excludes (excludedOf t w) q excludes-is at) ∙ g)
+      top-below g = top-names ∙ rw (none-is ∙ h, sym (none-read excludes (excludedOf t w) q excludes-is at) ∙ g)
 
 pub top-zero : (t : List ℕ) (depth w : ℕ) → depth ≡ 0 → topBelow t depth w ≡ nil
 unfolding topBelow

@@ -2,6 +2,7 @@
 -- (ale, Countermodel), from individual k on, as reached from a parent by a role. Nobody has to believe these.
 --   reachedTree, reachedAll          rows of a tree, of successors, reached from a parent
 --   canonicalTree, canonicalBelow    the canonical model of row u's tree; what hangs from its root
+--   wantedWithin                     row w is not marked, and its wanted names are in a set
 --   againstTree, againstTop          individuals that fit row u, or ⊤, and not row w
 --   falsifiedBelow                   what hangs from row u so that row w is not fitted
 --   valueRow                         the all-successor of row u by a role; 0 if there is none
@@ -9,9 +10,11 @@
 --   realizedRows, realizedBelow      where its some-edge is not to be fitted: the some-successors of a list; of u
 use Prim.Native.Nat.{ℕ}
 use lib.Dec.{eqb}
+use mathlib.Core.Bool.{Bool, _&&_, not}
 use mathlib.Core.List.{List, [], _∷_}
-use Rattle.table.specs.Fields.{kindOf, roleOf}
+use Rattle.table.specs.Fields.{impossibleOf, kindOf, roleOf, wantedOf}
 use Rattle.table.specs.Layout.{kindForAll}
+use Rattle.table.specs.NameSet.{subset}
 use Rattle.table.specs.Pick.{pick}
 use Rattle.ale.specs.Countermodel.{canonical, canonicalAll, countermodel, falsifyAll, realize}
 use Rattle.ale.specs.Encoding.{Row, encodeForest, encodeTree}
@@ -19,7 +22,7 @@ use Rattle.ale.specs.NormalForm.{valueOf}
 use Rattle.ale.specs.PictureSignature.{pictureSignature}
 use Rattle.ale.specs.Table.{successorRows, successors}
 use Rattle.ale.specs.Tree.{Forest, Tree, exists, successorsOf, top}
-use Rattle.meaning.specs.Meaning.{pictureTable}
+use Rattle.meaning.specs.Meaning.{pictureTable, setAt}
 use Rattle.homomorphism.specs.Search.{forestAt, treeAt}
 
 -- rows of a tree that is reached, and of successors
@@ -34,6 +37,9 @@ canonicalTree s depth u = canonical pictureSignature (treeAt s depth u)
 
 unfoldable pub canonicalBelow : List ℕ → ℕ → ℕ → Forest pictureSignature
 canonicalBelow s depth u = canonicalAll pictureSignature (successorsOf pictureSignature (treeAt s depth u))
+
+unfoldable pub wantedWithin : List ℕ → ℕ → ℕ → Bool
+wantedWithin t w set = subset ((setAt (wantedOf t w)) .set) set && not (eqb (impossibleOf t w) 1)
 
 unfoldable pub againstTree : List ℕ → List ℕ → ℕ → ℕ → ℕ → Tree pictureSignature
 againstTree s t depth w u = countermodel pictureSignature (treeAt t depth w) (treeAt s depth u)

@@ -1,10 +1,10 @@
 // The refutation file: the countermodel of two tables of which the second does not map to the first. An individual that fits row u and not row w: a name
-// tells them apart, or an edge of w that no edge of u serves is left unfitted, and all else is as in the canonical model.
+// tells them apart, or an edge of w that no edge of u serves is left unfitted, and all else is as in the canonical model. Which edge that is was found by
+// the search and left in `missed`, by row of the first table.
 use crate::layout::individual_place;
 use crate::writer::write_canonical;
 use crate::writer::write_canonical_below;
 use crate::writer::write_individual;
-use homomorphism::search::unserved;
 use normal::rows::LINKS;
 use table::layout::END_SIZE;
 use table::layout::KIND_EXISTS;
@@ -13,18 +13,22 @@ use table::layout::MAX_ROWS;
 use table::names::Names;
 use table::number::wide;
 use table::row::excluded;
+use table::row::impossible;
 use table::row::kind;
 use table::row::role as row_role;
 use table::row::wanted;
 use table::row::write_end;
+ghost use mathlib.Core.Bool.{true};
 ghost use mathlib.Core.List.{[], _∷_};
 ghost use mathlib.Core.Path.{_≡_};
 ghost use Prim.Native.Nat.{ℕ, _<_};
 ghost use lib.ListN.{length};
-ghost use Rattle.table.specs.Fields.{roleOf};
+ghost use Rattle.table.specs.Fields.{HasRow, kindOf, roleOf};
+ghost use Rattle.table.specs.Layout.{kindExists, kindForAll};
+ghost use Rattle.table.specs.NameSet.{setOf};
 ghost use Rattle.table.specs.Put.{put};
-ghost use Rattle.homomorphism.specs.Search.{LinkedTable};
-ghost use Rattle.countermodel.specs.Refuting.{againstTop, againstTree, againstValue, falsifiedBelow, reachedAll, reachedTree, realizedBelow, realizedRows, valueRow};
+ghost use Rattle.homomorphism.specs.Search.{LinkedTable, Missed, MissedBelow, labelCarried, sameEdge};
+ghost use Rattle.countermodel.specs.Refuting.{againstTop, againstTree, againstValue, falsifiedBelow, reachedAll, reachedTree, realizedBelow, realizedRows, valueRow, wantedWithin};
 ghost use Rattle.countermodel.specs.Writing.{RefutationRoom, Room, Written, refutationFile};
 
 // The all-successor of row u by a role; 0 if there is none.
@@ -44,6 +48,18 @@ fn value_row(first: &[u8], n: usize, links: &[u8; LINKS], u: usize, role: u8) ->
     0
 }
 
+// Whether row w is not marked and its wanted names are among these.
+fn wanted_within(second: &[u8], w: usize, has: Names) -> bool
+    requires { ⌜ HasRow (now second) w ⌝ }
+    ensures { λ r. ⌜ r ≡ wantedWithin (now (second .entry)) w (setOf has) ⌝ }
+{
+    if impossible(second, w) == 1 {
+        return false;
+    }
+    let wants = wanted(second, w);
+    wants.subset(has)
+}
+
 // Individuals of which row w fails and nothing is asked.
 fn write_against_top(
     second: &[u8],
@@ -60,8 +76,7 @@ fn write_against_top(
     ensures { λ r. ⌜ Written (now (out .entry)) k (reachedTree (againstTop (now (second .entry)) depth w) parent role k) r (now (out .exit)) ⌝ }
 {
     let none = Names::none();
-    let wants = wanted(second, w);
-    if !wants.is_none() {
+    if !wanted_within(second, w, none) {
         write_individual(out, k, parent, role, none);
         return k + 1;
     }
@@ -102,6 +117,7 @@ fn write_against(
     second: &[u8],
     m: usize,
     others: &[u8; LINKS],
+    missed: &[u8; MAX_ROWS],
     w: usize,
     u: usize,
     depth: usize,
@@ -110,12 +126,11 @@ fn write_against(
     out: &mut [u8],
     k: usize,
 ) -> usize
-    requires { ⌜ (LinkedTable (now first) n (now links)) × ((LinkedTable (now second) m (now others)) × (((w < m) × (u < n)) × (Room (now out) k (reachedTree (againstTree (now first) (now second) depth w u) parent role k)))) ⌝ }
+    requires { ⌜ (LinkedTable (now first) n (now links)) × ((LinkedTable (now second) m (now others)) × (((w < m) × (u < n)) × ((Missed (now first) (now second) (now missed) depth w u) × (Room (now out) k (reachedTree (againstTree (now first) (now second) depth w u) parent role k))))) ⌝ }
     ensures { λ r. ⌜ Written (now (out .entry)) k (reachedTree (againstTree (now (first .entry)) (now (second .entry)) depth w u) parent role k) r (now (out .exit)) ⌝ }
 {
     let has = wanted(first, u);
-    let wants = wanted(second, w);
-    if !wants.subset(has) {
+    if !wanted_within(second, w, has) {
         write_individual(out, k, parent, role, has);
         return write_canonical_below(first, n, links, u, depth, k, out, k + 1);
     }
@@ -133,6 +148,7 @@ fn write_against(
         second,
         m,
         others,
+        missed,
         w,
         u,
         depth,
@@ -150,6 +166,7 @@ fn write_falsified(
     second: &[u8],
     m: usize,
     others: &[u8; LINKS],
+    missed: &[u8; MAX_ROWS],
     w: usize,
     u: usize,
     depth: usize,
@@ -157,14 +174,11 @@ fn write_falsified(
     out: &mut [u8],
     k: usize,
 ) -> usize
-    requires { ⌜ (LinkedTable (now first) n (now links)) × ((LinkedTable (now second) m (now others)) × (((w < m) × (u < n)) × (Room (now out) k (reachedAll (falsifiedBelow (now first) (now second) depth w u) parent k)))) ⌝ }
+    requires { ⌜ (LinkedTable (now first) n (now links)) × ((LinkedTable (now second) m (now others)) × (((w < m) × (u < n)) × (((Missed (now first) (now second) (now missed) depth w u) × (labelCarried (now first) (now second) w u ≡ true)) × (Room (now out) k (reachedAll (falsifiedBelow (now first) (now second) depth w u) parent k))))) ⌝ }
     ensures { λ r. ⌜ Written (now (out .entry)) k (reachedAll (falsifiedBelow (now (first .entry)) (now (second .entry)) depth w u) parent k) r (now (out .exit)) ⌝ }
 {
-    if depth == 0 {
-        return k;
-    }
-    let c = unserved(first, n, links, second, m, others, w, u, depth - 1);
-    if c == 0 {
+    let c = wide(missed[u]) as usize;
+    if depth == 0 || c == 0 {
         return write_canonical_below(first, n, links, u, depth, parent, out, k);
     }
     if kind(second, c) == KIND_FOR_ALL {
@@ -175,6 +189,7 @@ fn write_falsified(
             second,
             m,
             others,
+            missed,
             c,
             u,
             depth - 1,
@@ -191,6 +206,7 @@ fn write_falsified(
         second,
         m,
         others,
+        missed,
         c,
         u,
         depth - 1,
@@ -208,6 +224,7 @@ fn write_against_value(
     second: &[u8],
     m: usize,
     others: &[u8; LINKS],
+    missed: &[u8; MAX_ROWS],
     c: usize,
     u: usize,
     depth: usize,
@@ -215,7 +232,7 @@ fn write_against_value(
     out: &mut [u8],
     k: usize,
 ) -> usize
-    requires { ⌜ (LinkedTable (now first) n (now links)) × ((LinkedTable (now second) m (now others)) × (((c < m) × (u < n)) × (Room (now out) k (reachedTree (againstValue (now first) (now second) depth c u) parent (roleOf (now second) c) k)))) ⌝ }
+    requires { ⌜ (LinkedTable (now first) n (now links)) × ((LinkedTable (now second) m (now others)) × (((c < m) × (u < n)) × (((kindOf (now second) c ≡ kindForAll) × (MissedBelow (now first) (now second) (now missed) depth c u)) × (Room (now out) k (reachedTree (againstValue (now first) (now second) depth c u) parent (roleOf (now second) c) k))))) ⌝ }
     ensures { λ r. ⌜ Written (now (out .entry)) k (reachedTree (againstValue (now (first .entry)) (now (second .entry)) depth c u) parent (roleOf (now (second .entry)) c) k) r (now (out .exit)) ⌝ }
 {
     let role = row_role(second, c);
@@ -230,6 +247,7 @@ fn write_against_value(
         second,
         m,
         others,
+        missed,
         c,
         v,
         depth,
@@ -248,6 +266,7 @@ fn write_realized(
     second: &[u8],
     m: usize,
     others: &[u8; LINKS],
+    missed: &[u8; MAX_ROWS],
     c: usize,
     u: usize,
     depth: usize,
@@ -255,7 +274,7 @@ fn write_realized(
     out: &mut [u8],
     k: usize,
 ) -> usize
-    requires { ⌜ (LinkedTable (now first) n (now links)) × ((LinkedTable (now second) m (now others)) × (((c < m) × (u < n)) × (Room (now out) k (reachedAll (realizedBelow (now first) (now second) depth c u) parent k)))) ⌝ }
+    requires { ⌜ (LinkedTable (now first) n (now links)) × ((LinkedTable (now second) m (now others)) × (((c < m) × (u < n)) × (((kindOf (now second) c ≡ kindExists) × (MissedBelow (now first) (now second) (now missed) depth c u)) × (Room (now out) k (reachedAll (realizedBelow (now first) (now second) depth c u) parent k))))) ⌝ }
     ensures { λ r. ⌜ Written (now (out .entry)) k (reachedAll (realizedBelow (now (first .entry)) (now (second .entry)) depth c u) parent k) r (now (out .exit)) ⌝ }
 {
     let mut next = k;
@@ -268,6 +287,7 @@ fn write_realized(
             second,
             m,
             others,
+            missed,
             c,
             v,
             depth,
@@ -288,6 +308,7 @@ fn write_reached(
     second: &[u8],
     m: usize,
     others: &[u8; LINKS],
+    missed: &[u8; MAX_ROWS],
     c: usize,
     v: usize,
     depth: usize,
@@ -295,7 +316,7 @@ fn write_reached(
     out: &mut [u8],
     k: usize,
 ) -> usize
-    requires { ⌜ (LinkedTable (now first) n (now links)) × ((LinkedTable (now second) m (now others)) × (((c < m) × ((v < n) × (v ≡ 0 → ⊥))) × (Room (now out) k (reachedAll (realizedRows (now first) (now second) depth c (v ∷ [])) parent k)))) ⌝ }
+    requires { ⌜ (LinkedTable (now first) n (now links)) × ((LinkedTable (now second) m (now others)) × (((c < m) × ((v < n) × (v ≡ 0 → ⊥))) × (((kindOf (now second) c ≡ kindExists) × (sameEdge (now first) (now second) c v ≡ true → Missed (now first) (now second) (now missed) depth c v)) × (Room (now out) k (reachedAll (realizedRows (now first) (now second) depth c (v ∷ [])) parent k))))) ⌝ }
     ensures { λ r. ⌜ Written (now (out .entry)) k (reachedAll (realizedRows (now (first .entry)) (now (second .entry)) depth c (v ∷ [])) parent k) r (now (out .exit)) ⌝ }
 {
     if kind(first, v) == KIND_FOR_ALL {
@@ -310,6 +331,7 @@ fn write_reached(
             second,
             m,
             others,
+            missed,
             c,
             v,
             depth,
@@ -330,10 +352,11 @@ pub fn write_refutation(
     second: &[u8],
     m: usize,
     others: &[u8; LINKS],
+    missed: &[u8; MAX_ROWS],
     depth: usize,
     out: &mut [u8],
 ) -> usize
-    requires { ⌜ (LinkedTable (now first) n (now links)) × ((LinkedTable (now second) m (now others)) × (RefutationRoom (againstTree (now first) (now second) depth 0 0) (length (now out)))) ⌝ }
+    requires { ⌜ (LinkedTable (now first) n (now links)) × ((LinkedTable (now second) m (now others)) × ((Missed (now first) (now second) (now missed) depth 0 0) × (RefutationRoom (againstTree (now first) (now second) depth 0 0) (length (now out))))) ⌝ }
     ensures { λ r. ⌜ (r ≡ length (refutationFile (againstTree (now (first .entry)) (now (second .entry)) depth 0 0))) × (now (out .exit) ≡ put (now (out .entry)) 0 (refutationFile (againstTree (now (first .entry)) (now (second .entry)) depth 0 0))) ⌝ }
 {
     let count = write_against(
@@ -343,6 +366,7 @@ pub fn write_refutation(
         second,
         m,
         others,
+        missed,
         0,
         0,
         depth,

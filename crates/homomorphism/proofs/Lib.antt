@@ -2,4 +2,5 @@
 pub mod Labels
 pub mod Walks
 pub mod Searches
+pub mod Traces
 pub mod Maps

@@ -2,11 +2,11 @@
 use crate::layout::MAP_TAG;
 use crate::layout::image;
 use crate::layout::image_place;
-use crate::search::lowest_image;
-use normal::rows::LINKS;
 use table::layout::END_SIZE;
+use table::layout::MAX_ROWS;
 use table::layout::NUMBER_SIZE;
 use table::number::copy_in;
+use table::number::wide;
 use table::row::impossible;
 use table::row::parent;
 use table::row::write_end;
@@ -20,21 +20,20 @@ ghost use Rattle.ale.specs.RowMap as rows;
 ghost use Rattle.meaning.specs.Meaning.{pictureTable};
 ghost use Rattle.homomorphism.specs.Layout.{imageOf, «imagePlace»};
 ghost use Rattle.homomorphism.specs.Map.{imageBytes, lowestMap};
-ghost use Rattle.homomorphism.specs.Search.{LinkedTable, Mapped};
+ghost use Rattle.homomorphism.specs.Search.{Mapped};
+ghost use Rattle.normal.specs.Rows.{Checked};
 
 // The image of row i, from those of the rows before it, which stand in the file.
 fn next_image(
     first: &[u8],
     n: usize,
-    links: &[u8; LINKS],
     second: &[u8],
     m: usize,
-    others: &[u8; LINKS],
-    depth: usize,
+    found: &[u8; MAX_ROWS],
     out: &[u8],
     i: usize,
 ) -> usize
-    requires { ⌜ (LinkedTable (now first) n (now links)) × ((LinkedTable (now second) m (now others)) × ((Mapped (now first) (now second) depth) × ((i < m) × ((«imagePlace» m ≤ length (now out)) × ((k : ℕ) → k < i → imageOf (now out) k ≡ rows.image pictureSignature (pictureTable (now first)) (pictureTable (now second)) k))))) ⌝ }
+    requires { ⌜ (Checked (now first) n) × ((Checked (now second) m) × ((Mapped (now first) (now second) (now found)) × ((i < m) × ((«imagePlace» m ≤ length (now out)) × ((k : ℕ) → k < i → imageOf (now out) k ≡ rows.image pictureSignature (pictureTable (now first)) (pictureTable (now second)) k))))) ⌝ }
     ensures { λ r. ⌜ r ≡ rows.image pictureSignature (pictureTable (now (first .entry))) (pictureTable (now (second .entry))) i ⌝ }
 {
     if i == 0 {
@@ -44,26 +43,24 @@ fn next_image(
     if impossible(first, u) == 1 {
         return u;
     }
-    lowest_image(first, n, links, second, m, others, i, u, depth)
+    wide(found[i]) as usize
 }
 
 // Every image.
 fn write_images(
     first: &[u8],
     n: usize,
-    links: &[u8; LINKS],
     second: &[u8],
     m: usize,
-    others: &[u8; LINKS],
-    depth: usize,
+    found: &[u8; MAX_ROWS],
     out: &mut [u8],
 )
-    requires { ⌜ (LinkedTable (now first) n (now links)) × ((LinkedTable (now second) m (now others)) × ((Mapped (now first) (now second) depth) × («imagePlace» m ≤ length (now out)))) ⌝ }
+    requires { ⌜ (Checked (now first) n) × ((Checked (now second) m) × ((Mapped (now first) (now second) (now found)) × («imagePlace» m ≤ length (now out)))) ⌝ }
     ensures { λ _. ⌜ now (out .exit) ≡ put (now (out .entry)) («imagePlace» 0) (imageBytes (rows.image pictureSignature (pictureTable (now (first .entry))) (pictureTable (now (second .entry)))) m) ⌝ }
 {
     let mut i = 0;
     while i < m {
-        let v = next_image(first, n, links, second, m, others, depth, out, i);
+        let v = next_image(first, n, second, m, found, out, i);
         let bytes = [(v / 256 % 256) as u8, (v % 256) as u8];
         copy_in(out, image_place(i), &bytes);
         i += 1;
@@ -74,20 +71,18 @@ fn write_images(
 pub fn write_map(
     first: &[u8],
     n: usize,
-    links: &[u8; LINKS],
     second: &[u8],
     m: usize,
-    others: &[u8; LINKS],
-    depth: usize,
+    found: &[u8; MAX_ROWS],
     out: &mut [u8],
 ) -> usize
-    requires { ⌜ (LinkedTable (now first) n (now links)) × ((LinkedTable (now second) m (now others)) × ((Mapped (now first) (now second) depth) × («imagePlace» m + endSize ≤ length (now out)))) ⌝ }
+    requires { ⌜ (Checked (now first) n) × ((Checked (now second) m) × ((Mapped (now first) (now second) (now found)) × («imagePlace» m + endSize ≤ length (now out)))) ⌝ }
     ensures { λ r. ⌜ (r ≡ length (lowestMap (pictureTable (now (first .entry))) (pictureTable (now (second .entry))))) × (now (out .exit) ≡ put (now (out .entry)) 0 (lowestMap (pictureTable (now (first .entry))) (pictureTable (now (second .entry))))) ⌝ }
 {
     let size = NUMBER_SIZE * m;
     let head = [MAP_TAG, (size / 256 % 256) as u8, (size % 256) as u8];
     copy_in(out, 0, &head);
-    write_images(first, n, links, second, m, others, depth, out);
+    write_images(first, n, second, m, found, out);
     let end = image_place(m);
     write_end(out, end);
     end + END_SIZE

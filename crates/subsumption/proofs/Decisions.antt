@@ -27,14 +27,16 @@ use Rattle.evidence.specs.Tables.{firstIn, secondIn}
 use Rattle.homomorphism.proofs.Maps.{length-mapFile}
 use Rattle.homomorphism.specs.Layout.{imagePlace}
 use Rattle.homomorphism.specs.Map.{lowestMap}
-use Rattle.homomorphism.specs.Search.{Mapped, rowMaps, treeAt}
+use Rattle.homomorphism.specs.Search.{Found, Mapped, Shallow, rowMaps, treeAt}
 use Rattle.meaning.proofs.Normals.{normal-meaning, normal-readable}
-use Rattle.meaning.proofs.Pictures.{rows-whole}
+use Rattle.meaning.proofs.Pictures.{picture-ranked}
 use Rattle.meaning.specs.Meaning.{pictureTable}
 use Rattle.meaning.specs.NormalTable.{normalFile, normalTreeOf}
 use Rattle.normal.specs.Call.{shortBuffer}
 use Rattle.normal.specs.Rows.{Checked}
-use Rattle.picture.specs.View.{viewOf}
+use Rattle.picture.specs.Depth.{depth}
+use Rattle.picture.specs.View.{Readable, viewOf}
+use Rattle.table.specs.Fields.{parentOf}
 use Rattle.table.specs.Bounds.{Bounded}
 use Rattle.table.specs.Layout.{endSize}
 use Rattle.table.specs.Pick.{pick}
@@ -52,6 +54,10 @@ use Rattle.subsumption.specs.declared.verdict.Verdict.the-variants.{No, 
 use Rattle.subsumption.proofs.Writers.{individuals-few, map-size}
 
 -- ---- the normal tables of a pair
+
+-- a readable picture's rows stand no deeper than the limit
+shallow : (limits : Limits) (s : List ℕ) → Readable limits s → Shallow s (limits .depth)
+shallow limits s readable = record { rank = depth (parentOf s); ranked = picture-ranked limits s readable }
 
 module _ (limits : Limits) (first second : List ℕ) (bounded : Bounded limits) (pair : Acceptable limits first second) where
   first-tree : treeAt (normalFile limits first) (limits .depth) 0 ≡ normalTreeOf limits first
@@ -80,8 +86,8 @@ module _ (limits : Limits) (first second : List ℕ) (bounded : Bounded limits) 
       let q = pictureTable (normalFile limits second) in
       let few = individuals-few limits first second bounded pair in
       record {
-        first-whole = rows-whole limits (normalFile limits first) (normal-readable limits first (pair .first-few) bounded);
-        second-whole = rows-whole limits (normalFile limits second) (normal-readable limits second (pair .second-few) bounded);
+        first-shallow = shallow limits (normalFile limits first) (normal-readable limits first (pair .first-few) bounded);
+        second-shallow = shallow limits (normalFile limits second) (normal-readable limits second (pair .second-few) bounded);
         map-room = omega (arith, long, map-size limits first second bounded pair, length-mapFile (q .rows) (image pictureSignature p q));
         refutation-room = subst (λ t. RefutationRoom t room) (sym against-is) (record {
           most = omega (arith, few, within-most limits bounded);
@@ -108,8 +114,15 @@ module _ (s t : List ℕ) (depth : ℕ) where
 
   -- what the search said
   module _ (says : Bool) (is : says ≡ rowMaps s t depth 0 0) where
-    pub mapped : (room : ℕ) → Settled s t depth room → says ≡ true → Mapped s t depth
-    mapped room settled said = record { first-whole = settled .first-whole; second-whole = settled .second-whole; maps = sym is ∙ said }
+    pub mapped : (room : ℕ) (found : List ℕ) → Settled s t depth room → (says ≡ true → Found s t found depth 0 0) → says ≡ true → Mapped s t found
+    mapped room found settled kept said =
+        record {
+          depth = depth;
+          first-shallow = settled .first-shallow;
+          second-shallow = settled .second-shallow;
+          maps = sym is ∙ said;
+          images = kept said;
+        }
 
     module _ (n : ℕ) (out end : List ℕ) where
       pub decided-yes : says ≡ true →

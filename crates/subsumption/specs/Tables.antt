@@ -5,13 +5,12 @@
 use Prim.Native.Nat.{ℕ, _+_, _≤_}
 use lib.ListN.{length}
 use mathlib.Core.List.{List}
-use mathlib.Core.Path.{_≡_}
 use Rattle.table.specs.Layout.{endSize}
 use Rattle.table.specs.Pick.{pick}
 use Rattle.meaning.specs.Meaning.{pictureTable}
 use Rattle.homomorphism.specs.Layout.{imagePlace}
 use Rattle.homomorphism.specs.Map.{lowestMap}
-use Rattle.homomorphism.specs.Search.{rowMaps, treeAt}
+use Rattle.homomorphism.specs.Search.{Shallow, rowMaps}
 use Rattle.countermodel.specs.Refuting.{againstTree}
 use Rattle.countermodel.specs.Writing.{RefutationRoom, refutationFile}
 use Rattle.subsumption.specs.declared.verdict.Verdict.{Verdict}
@@ -24,7 +23,7 @@ unfoldable pub verdictIn : List ℕ → List ℕ → ℕ → Verdict
 verdictIn s t depth = pick (rowMaps s t depth 0 0) (Yes (length (evidenceIn s t depth))) (No (length (evidenceIn s t depth)))
 
 pub record Settled (s t : List ℕ) (depth size : ℕ) : Type 0 where
-  pub first-whole : (i : ℕ) → treeAt s depth i ≡ treeAt s ((pictureTable s) .rows) i
-  pub second-whole : (i : ℕ) → treeAt t depth i ≡ treeAt t ((pictureTable t) .rows) i
+  pub first-shallow : Shallow s depth
+  pub second-shallow : Shallow t depth
   pub map-room : imagePlace ((pictureTable t) .rows) + endSize ≤ size
   pub refutation-room : RefutationRoom (againstTree s t depth 0 0) size

@@ -5,6 +5,7 @@ use homomorphism::search::maps;
 use normal::rows::LINKS;
 use normal::rows::fill_links;
 use picture::answer::Refusal;
+use table::layout::MAX_ROWS;
 ghost use mathlib.Core.Path.{_≡_};
 ghost use Prim.Native.Nat.{ℕ};
 ghost use lib.ListN.{length};
@@ -35,8 +36,20 @@ pub fn decide(
     fill_links(first, n, &mut links);
     let mut others = [0u8; LINKS];
     fill_links(second, m, &mut others);
-    if maps(first, n, &links, second, m, &others, depth) {
-        return Verdict::Yes(write_map(first, n, &links, second, m, &others, depth, out));
+    let mut found = [0u8; MAX_ROWS];
+    let mut missed = [0u8; MAX_ROWS];
+    if maps(
+        first,
+        n,
+        &links,
+        second,
+        m,
+        &others,
+        depth,
+        &mut found,
+        &mut missed,
+    ) {
+        return Verdict::Yes(write_map(first, n, second, m, &found, out));
     }
-    Verdict::No(write_refutation(first, n, &links, second, m, &others, depth, out))
+    Verdict::No(write_refutation(first, n, &links, second, m, &others, &missed, depth, out))
 }

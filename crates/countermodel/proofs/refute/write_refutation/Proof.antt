@@ -16,7 +16,10 @@ write-against-requires c κs =
         pre .1 .0,
         (
           (pre .1 .0 .checked .some, pre .0 .checked .some),
-          refutation-room (againstTree (now (a .first)) (now (a .second)) (a .depth) 0 0) (now (a .out)) (pre .1 .1),
+          (
+            pre .1 .1 .0,
+            refutation-room (againstTree (now (a .first)) (now (a .second)) (a .depth) 0 0) (now (a .out)) (pre .1 .1 .1),
+          ),
         ),
       ),
     )
@@ -40,8 +43,8 @@ returns c =
     let w = c .before .before .before .before .before .before .before .write-against in
     let at = c .before .before .before .before .individual-place in
     let end = c .before .before .write-end in
-    refutation-end (againstTree (now (a .first)) (now (a .second)) (a .depth) 0 0) (now (a .out)) (st .pre .1 .1)
-    (w .result) (w .last .1 .1 .1 .1 .1 .1 .1 .1 .1 .1 .1 .0) (w .ensures) (at .result) (end .last .0) (at .ensures) (end .ensures)
+    refutation-end (againstTree (now (a .first)) (now (a .second)) (a .depth) 0 0) (now (a .out)) (st .pre .1 .1 .1)
+    (w .result) (w .last .1 .1 .1 .1 .1 .1 .1 .1 .1 .1 .1 .1 .0) (w .ensures) (at .result) (end .last .0) (at .ensures) (end .ensures)
 
 pub write-refutation-spec : {M : Type 1} → statement M
 write-refutation-spec =

@@ -13,11 +13,11 @@ use Rattle.homomorphism.proofs.map.write_images.Statement.{statement}
 use Rattle.homomorphism.proofs.map.write_images.Tie as tie
 
 abbrev Inv-loop : tie.InvT-loop
-Inv-loop first n links second m others depth out₀ i₀ out i =
+Inv-loop first n second m found out₀ i₀ out i =
     (i ≤ m) × ((out ≡ put out₀ (imagePlace 0) (imageBytes (imageRow first second) i)) × (length out ≡ length out₀))
 
 abbrev μ-loop : tie.MeasureT-loop
-μ-loop first n links second m others depth out₀ i₀ out i = m - i
+μ-loop first n second m found out₀ i₀ out i = m - i
 
 loop-holds : tie.Need-loop-holds Inv-loop μ-loop
 loop-holds c =
@@ -34,14 +34,14 @@ next-image-requires c κs =
     let images = imageRow (now (a .first)) (now (a .second)) in
     let back : (k : ℕ) → k < l .i → imageOf (l .out) k ≡ images k =
     λ k b. rw (l .inv .1 .0) (images-read images (now (a .out)) (l .i) k (omega (arith, pre .1 .1 .1)) b
-    (omega (arith, pre .0 .checked .most, image-below (pre .0 .checked) (pre .1 .0 .checked) (pre .1 .1 .0) k (omega arith)))) in
+    (omega (arith, pre .0 .most, image-below (pre .0) (pre .1 .0) (pre .1 .1 .0) k (omega arith)))) in
     (pre .0, (pre .1 .0, (pre .1 .1 .0, (c .before .loop-test .taken, (omega (arith, l .inv, pre .1 .1 .1), back)))))
+
+cast-t15 : tie.Need-cast-t15 Inv-loop μ-loop
+cast-t15 c = search needs
 
 cast-t17 : tie.Need-cast-t17 Inv-loop μ-loop
 cast-t17 c = search needs
-
-cast-t19 : tie.Need-cast-t19 Inv-loop μ-loop
-cast-t19 c = search needs
 
 image-place-requires : tie.Need-image-place-requires Inv-loop μ-loop
 image-place-requires c κs = search needs
@@ -64,13 +64,13 @@ loop-again c =
     let a = start .args in
     let l = c .before .before .before .before .before .before .before .before .before .loop in
     let inside = c .before .before .before .before .before .before .before .before .loop-test .taken in
-    let found = c .before .before .before .before .before .before .next-image in
+    let made = c .before .before .before .before .before .before .next-image in
     let at = c .before .before .before .before .image-place in
     let copied = c .before .before .copy-in in (
       omega arith,
       (
-        images-turn (imageRow (now (a .first)) (now (a .second))) (now (a .out)) (l .out) (copied .last .0) (l .i) (found .result) (at .result)
-            (omega (arith, start .pre .1 .1 .1)) (l .inv .1 .0) (found .ensures) (at .ensures) (copied .ensures),
+        images-turn (imageRow (now (a .first)) (now (a .second))) (now (a .out)) (l .out) (copied .last .0) (l .i) (made .result) (at .result)
+            (omega (arith, start .pre .1 .1 .1)) (l .inv .1 .0) (made .ensures) (at .ensures) (copied .ensures),
         omega (arith, l .inv, copied .kept),
       ),
     )
@@ -93,8 +93,8 @@ write-images-spec =
     μ-loop
     loop-holds
     next-image-requires
+    cast-t15
     cast-t17
-    cast-t19
     image-place-requires
     slice-aggregate-copy-in
     copy-in-requires

@@ -9,11 +9,11 @@ use Rattle.homomorphism.proofs.map.write_map.Tie as tie
 mul-size : tie.Need-mul-size
 mul-size c = search needs
 
+cast-t12 : tie.Need-cast-t12
+cast-t12 c = search needs
+
 cast-t14 : tie.Need-cast-t14
 cast-t14 c = search needs
-
-cast-t16 : tie.Need-cast-t16
-cast-t16 c = search needs
 
 slice-aggregate-copy-in : tie.Need-slice-aggregate-copy-in
 slice-aggregate-copy-in c = search needs
@@ -47,9 +47,9 @@ returns c =
     let end = c .before .before .before .before .image-place in
     let ended = c .before .before .write-end in
     let images = imageRow (now (a .first)) (now (a .second)) in
-    rw (lowestMap-counted (now (a .first)) (start .pre .1 .0 .checked)) (
+    rw (lowestMap-counted (now (a .first)) (start .pre .1 .0)) (
       omega (arith, end .ensures, length-mapFile (a .m) images),
-      map-put (a .m) images (now (a .out)) (copied .last .0) (written .last .1 .1 .1 .1 .1 .1 .1 .0) (ended .last .0) (end .result)
+      map-put (a .m) images (now (a .out)) (copied .last .0) (written .last .1 .1 .1 .1 .1 .0) (ended .last .0) (end .result)
           (start .pre .1 .1 .1) (end .ensures) (copied .ensures) (written .ensures) (ended .ensures),
     )
 
@@ -58,8 +58,8 @@ write-map-spec =
     tie.close
     (tie.spec
     mul-size
+    cast-t12
     cast-t14
-    cast-t16
     slice-aggregate-copy-in
     copy-in-requires
     write-images-requires
