@@ -27,7 +27,8 @@ pub fn same_edge(first: &[u8], n: usize, v: usize, second: &[u8], m: usize, c: u
     kind(first, v) == kind(second, c) && role(first, v) == role(second, c)
 }
 
-// The row test: whether row w, whose label is given, maps to row u. A marked row takes everything.
+// The row test: whether row w, whose label is given, maps to row u. A marked row takes everything. Only `lowest_image` calls it, so it is compiled into the
+// loop there.
 fn row_maps(
     first: &[u8],
     n: usize,
@@ -170,19 +171,27 @@ pub fn maps(
     requires { ⌜ (LinkedTable (now first) n (now links)) × ((LinkedTable (now second) m (now others)) × ((length (now found) ≡ maxRows) × (length (now missed) ≡ maxRows))) ⌝ }
     ensures { λ r. ⌜ (r ≡ rowMaps (now (first .entry)) (now (second .entry)) depth 0 0) × ((r ≡ true → Found (now (first .entry)) (now (second .entry)) (now (found .exit)) depth 0 0) × (r ≡ false → Missed (now (first .entry)) (now (second .entry)) (now (missed .exit)) depth 0 0)) ⌝ }
 {
-    let label = label_at(second, 0);
-    row_maps(
+    if impossible(first, 0) == 1 {
+        return true;
+    }
+    if !label_within(label_at(second, 0), first, 0) {
+        return false;
+    }
+    if depth == 0 {
+        return true;
+    }
+    unserved(
         first,
         n,
         links,
         second,
         m,
         others,
-        label,
         0,
         0,
-        depth,
+        depth - 1,
         found,
         missed,
     )
+        == 0
 }

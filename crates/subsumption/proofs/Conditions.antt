@@ -8,41 +8,55 @@
 -- depth limit, below which a readable picture has no row (meaning, proofs/Pictures: `picture-whole`).
 --
 --   Covers                the second picture covers the first: 003, Definition 1, with Table 1's extensions, over finite interpretations
+--   any-interpretation    a positive count and any tables for names and roles are an interpretation: what else the record asks, that roles respect their
+--                         inclusion, asks nothing where inclusion is equality
 --   SaysYes, SaysNo       the verdict is yes, is no, with evidence of a length
 --   written               the result buffer's bytes up to the reported length
 --   condition-2-verdict   condition 2
 --   condition-3           condition 3
 --   condition-3-any       its first sentence of any bytes at all, in the place of the pictures too
 --   paper-limits          paper 01's limits are such limits, and have its lengths
-use Prim.Native.Nat.{ℕ, _≤_}
+use Prim.Native.Nat.{_<_, _≤_, ℕ}
+use lib.Dec.{T, eqb→eq}
 use lib.ListN.{length, take}
-use mathlib.Core.Bool.{false, true}
+use mathlib.Core.Bool.{Bool, false, true}
 use mathlib.Core.List.{List}
-use mathlib.Core.Logic.{_⊎_, _↔_, inl, inr}
-use mathlib.Core.Path.{_≡_, refl}
+use mathlib.Core.Logic.{_↔_, _⊎_, inl, inr}
+use mathlib.Core.Path.{_≡_, refl, subst, sym}
 use native.Mathlib.Omega.{arith}
+use Rattle.ale.specs.Concept.{ConceptSubsumed, conceptOf}
+use Rattle.ale.specs.Interpretation.{Interpretation}
+use Rattle.ale.specs.PictureSignature.{pictureSignature}
+use Rattle.countermodel.specs.Individual.{refutationForm}
+use Rattle.evidence.specs.Call.{verifyAnswer}
+use Rattle.evidence.specs.Form.{mapForm}
+use Rattle.meaning.specs.Meaning.{pictureTable, pictureTree}
+use Rattle.meaning.specs.NormalTable.{normalFile}
 use Rattle.table.proofs.Bools.{by-test}
 use Rattle.table.specs.Bounds.{Bounded, benchLimits}
 use Rattle.table.specs.Number.{Bytes}
 use Rattle.table.specs.declared.layout.Limits.{Limits}
-use Rattle.ale.specs.Concept.{ConceptSubsumed, conceptOf}
-use Rattle.ale.specs.PictureSignature.{pictureSignature}
-use Rattle.meaning.specs.Meaning.{pictureTable, pictureTree}
-use Rattle.meaning.specs.NormalTable.{normalFile}
-use Rattle.workspace.specs.Prepare.{Acceptable, workSize}
-use Rattle.evidence.specs.Call.{verifyAnswer}
-use Rattle.evidence.specs.Form.{mapForm}
 use Rattle.evidence.specs.declared.check.Verified.the-variants.{MapTaken, RefutationTaken}
-use Rattle.subsumption.specs.Call.{subsumesAnswer, subsumesResult}
-use Rattle.subsumption.specs.Verdict.{evidenceOf, evidenceSize, verdictOf}
 use Rattle.subsumption.specs.declared.verdict.Verdict.{Verdict}
 use Rattle.subsumption.specs.declared.verdict.Verdict.the-variants.{No, Yes}
+use Rattle.workspace.specs.Prepare.{Acceptable, workSize}
+use Rattle.subsumption.specs.Call.{subsumesAnswer, subsumesResult}
+use Rattle.subsumption.specs.Verdict.{evidenceOf, evidenceSize, verdictOf}
 use Rattle.subsumption.proofs.Answers.{answered-no, answered-yes, evidence-read, no-subsumes, yes-subsumes}
-use Rattle.subsumption.proofs.Writers.{evidence-bytes, evidence-size, map-covers, no-form, no-verify, refutation-fails, verdict-covers, verdict-fails, yes-form, yes-verify}
+use Rattle.subsumption.proofs.Writers.{evidence-bytes, evidence-size, map-covers, no-form, no-refutation, no-verify, refutation-fails, verdict-covers, verdict-fails, yes-form, yes-verify}
 
 abbrev pub Covers : Limits → List ℕ → List ℕ → Type 0
 Covers limits second first =
     ConceptSubsumed pictureSignature (conceptOf pictureSignature (pictureTree limits first)) (conceptOf pictureSignature (pictureTree limits second))
+
+pub any-interpretation : (count : ℕ) → 0 < count → (holds : ℕ → ℕ → Bool) (edge : ℕ → ℕ → ℕ → Bool) →
+    (I : Interpretation pictureSignature) × (I .count ≡ count) × (I .holds ≡ holds) × (I .edge ≡ edge)
+any-interpretation count positive holds edge = (
+  record { count = count; inhabited = positive; holds = holds; edge = edge; respects = λ r s x y same h. subst (λ z. T (edge z x y)) (eqb→eq r s same) h },
+  refl,
+  refl,
+  refl,
+)
 
 abbrev pub SaysYes : Verdict → Type 0
 SaysYes answer = (n : ℕ) × (answer ≡ Yes n)
@@ -89,10 +103,16 @@ pub record Condition3 (limits : Limits) (first second : List ℕ) : Type 0 where
   -- "Our writer produces evidence of at most 46,595 bytes, a map exactly when its verdict is yes,"
   pub length-yes : (work result n : ℕ) → subsumesAnswer limits first second work result ≡ Yes n → n ≤ evidenceSize limits
   pub length-no : (work result n : ℕ) → subsumesAnswer limits first second work result ≡ No n → n ≤ evidenceSize limits
+  pub sized-yes : (work : ℕ) (result : List ℕ) (n : ℕ) → subsumesAnswer limits first second work (length result) ≡ Yes n →
+      length (written limits first second work result n) ≡ n
+  pub sized-no : (work : ℕ) (result : List ℕ) (n : ℕ) → subsumesAnswer limits first second work (length result) ≡ No n →
+      length (written limits first second work result n) ≡ n
   pub map-yes : (work : ℕ) (result : List ℕ) (n : ℕ) → subsumesAnswer limits first second work (length result) ≡ Yes n →
       mapForm ((pictureTable (normalFile limits second)) .rows) (written limits first second work result n) ≡ true
   pub map-no : (work : ℕ) (result : List ℕ) (n : ℕ) → subsumesAnswer limits first second work (length result) ≡ No n →
       mapForm ((pictureTable (normalFile limits second)) .rows) (written limits first second work result n) ≡ true → ⊥
+  pub refutation-no : (work : ℕ) (result : List ℕ) (n : ℕ) → subsumesAnswer limits first second work (length result) ≡ No n →
+      refutationForm limits (written limits first second work result n) ≡ true
   pub bytes-yes : (work : ℕ) (result : List ℕ) (n : ℕ) → subsumesAnswer limits first second work (length result) ≡ Yes n →
       Bytes (written limits first second work result n)
   pub bytes-no : (work : ℕ) (result : List ℕ) (n : ℕ) → subsumesAnswer limits first second work (length result) ≡ No n →
@@ -128,12 +148,21 @@ condition-3 limits bounded first second pair =
       not-both = λ d e room hall h k. refutation-fails limits first second e hall bounded k (map-covers limits first second d room bounded h);
       length-yes = λ work result n h. omega (arith, answered-yes limits first second work result n h .length-is);
       length-no = λ work result n h. omega (arith, answered-no limits first second work result n h .length-is);
+      sized-yes = λ work result n h.
+          let a = answered-yes limits first second work (length result) n h in
+          rw (evidence-read limits first second work result true n a) (sym (a .length-is));
+      sized-no = λ work result n h.
+          let a = answered-no limits first second work (length result) n h in
+          rw (evidence-read limits first second work result false n a) (sym (a .length-is));
       map-yes = λ work result n h.
           let a = answered-yes limits first second work (length result) n h in
           rw (evidence-read limits first second work result true n a) (yes-form limits first second bounded pair (a .verdict-is));
       map-no = λ work result n h k.
           let a = answered-no limits first second work (length result) n h in
           no-form limits first second bounded pair (a .verdict-is) (rw (evidence-read limits first second work result false n a) at k);
+      refutation-no = λ work result n h.
+          let a = answered-no limits first second work (length result) n h in
+          rw (evidence-read limits first second work result false n a) (no-refutation limits first second bounded pair (a .verdict-is));
       bytes-yes = λ work result n h.
           let a = answered-yes limits first second work (length result) n h in
           rw (evidence-read limits first second work result true n a) bytes;

@@ -5,7 +5,7 @@
 --   refutation-written               where it is no, our file is a refutation, whose individual 0 fits the first and not the second
 --   yes-taken, no-taken              so the questions for evidence are all answered yes
 --   yes-verify, no-verify            and the check takes it, if its work space is long enough
---   yes-form, no-form                the evidence is a map exactly if the verdict is yes
+--   yes-form, no-refutation, no-form   the evidence is a map if the verdict is yes, else a refutation and no map
 --   map-size, refutation-size, evidence-size      it is never longer than the length laid down
 --   map-bytes, refutation-bytes, evidence-bytes   and it is bytes
 --   map-covers, refutation-fails     what the check takes, whatever it was written by: a map only if the second covers the first, a refutation only if not
@@ -36,6 +36,7 @@ use Rattle.ale.specs.Table.{KnownRoles, ParentsFirst, Table}
 use Rattle.ale.specs.Tree.{Tree}
 use Rattle.countermodel.proofs.Individuals.{within-most}
 use Rattle.countermodel.proofs.Refutables.{length-refutationFile, refutationFile-count, refutationFile-fits, refutationFile-form, refutationFile-passes}
+use Rattle.countermodel.specs.Individual.{refutationForm}
 use Rattle.countermodel.specs.Layout.{individualCount, individualsWithin}
 use Rattle.countermodel.specs.Model.{rowTree}
 use Rattle.countermodel.specs.Writing.{refutationFile}
@@ -201,9 +202,12 @@ module _ (limits : Limits) (first second : List ℕ) (bounded : Bounded limits) 
   unfolding evidenceOf
   yes-form e = rw e (map-written e .form)
 
-  pub no-form : verdictOf limits first second ≡ false → mapForm (q .rows) (evidenceOf limits first second) ≡ true → ⊥
+  pub no-refutation : verdictOf limits first second ≡ false → refutationForm limits (evidenceOf limits first second) ≡ true
   unfolding evidenceOf
-  no-form e h = forms-apart limits (q .rows) (refutationOf limits first second) (rw e at h) (refutation-written e .form)
+  no-refutation e = rw e (refutation-written e .form)
+
+  pub no-form : verdictOf limits first second ≡ false → mapForm (q .rows) (evidenceOf limits first second) ≡ true → ⊥
+  no-form e h = forms-apart limits (q .rows) (evidenceOf limits first second) h (no-refutation e)
 
   -- ---- its length
 

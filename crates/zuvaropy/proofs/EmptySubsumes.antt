@@ -37,7 +37,7 @@ use Rattle.picture.specs.View.{Readable, rowCount, viewOf}
 use Rattle.subsumption.proofs.Answers.{acceptable-result, yes-subsumes}
 use Rattle.subsumption.proofs.Conditions.{Covers}
 use Rattle.subsumption.proofs.Writers.{verdict-covers}
-use Rattle.subsumption.specs.Verdict.{evidenceOf, evidenceSize, mapOf, verdictOf}
+use Rattle.subsumption.specs.Verdict.{evidenceOf, mapOf, verdictOf}
 use Rattle.table.specs.Bounds.{benchLimits, maxRows}
 use Rattle.table.specs.Fields.{endBytes, endsAt, rowOf}
 use Rattle.table.specs.Number.{be, beBytes}
@@ -118,9 +118,8 @@ module _ (first : List ℕ) (few : mergedCount benchLimits first ≤ maxRows) wh
     unfolding subsumesWord subsumesBuffer
     empty-writes =
         let enough : workSize benchLimits ≤ room = omega arith in
-        let long : evidenceSize benchLimits ≤ evidenceRoom = omega arith in
         let decided = verdict-covers benchLimits first empty bench pair .0 covers in (
-          ap verdictWord (yes-subsumes benchLimits first empty room evidenceRoom enough long pair decided)
+          ap verdictWord (yes-subsumes benchLimits first empty room evidenceRoom enough (omega arith) pair decided)
               ∙ ap (λ (e : List ℕ). valueWord outcomeYes (length e)) (empty-evidence decided),
           λ result h. acceptable-result benchLimits first empty room result enough h pair ∙ ap (λ (e : List ℕ). put result 0 e) (empty-evidence decided),
         )

@@ -28,15 +28,15 @@ normalizeBuffer picture result = normalizeResult benchLimits picture result
 -- Verdict with evidence, and its length (buffer 46,595): 1 of the work space and of the result buffer, so many bytes long; first; second; 14 of each;
 -- yes or no.
 unfoldable pub subsumesWord : List ℕ → List ℕ → ℕ → ℕ → ℕ
-subsumesWord first second work result = verdictWord (subsumesAnswer benchLimits first second work result)
+subsumesWord first second room space = verdictWord (subsumesAnswer benchLimits first second room space)
 
--- the work space, as that of the check; `result` is how long the result buffer is
+-- the work space, as that of the check if the result buffer, so many bytes long, is long enough, else nothing written
 unfoldable pub subsumesSpace : List ℕ → List ℕ → List ℕ → ℕ → List ℕ
-subsumesSpace first second work result = subsumesWork benchLimits first second work result
+subsumesSpace first second work room = subsumesWork benchLimits first second work room
 
--- the result buffer: the evidence from its first byte on, or nothing written; `work` is how long the work space is
+-- the result buffer: the evidence from its first byte on, or nothing written; the work space is so many bytes long
 unfoldable pub subsumesBuffer : List ℕ → List ℕ → ℕ → List ℕ → List ℕ
-subsumesBuffer first second work result = subsumesResult benchLimits first second work result
+subsumesBuffer first second room result = subsumesResult benchLimits first second room result
 
 -- Check evidence: map taken or refutation taken: 1 of the work space, so many bytes long; first; second; 14 of each; 16 to 23.
 unfoldable pub verifyWord : List ℕ → List ℕ → List ℕ → ℕ → ℕ

@@ -13,7 +13,8 @@
 --                               subsumes: the second covers the first, with our map; subsumesNot: it does not, with our refutation (01 leaves which
 --                               one it is to the program)
 --                               subsumesAll: a picture that covers every picture, with one map that is ours for each that passes 14
---   Writes                      the verdict, the evidence's length, and the evidence in any result buffer that is long enough
+--   Writes                      with buffers of these lengths the verdict and the evidence's length; in any result buffer that is long enough the
+--                               evidence
 --   Holds, AllHold              what a claim says of the calls; that each of a list holds
 --   starred                     the cases
 use Prim.Native.Nat.{ℕ, _*_, _+_, _^_, _≤_}
@@ -111,7 +112,7 @@ Writes first second outcome evidence =
 
 -- normal: the word has the table's length; the buffer holds the table, and past it what was lent
 -- subsumes, subsumesNot: the verdict is yes, or no, with this evidence, which the check takes, and it is so by the meaning of the two pictures
--- subsumesAll: so of every readable picture; where its merged table has too many rows, both calls refuse it by 14
+-- subsumesAll: by its meaning so of every readable picture, by the calls of each that passes 14
 abbrev pub Holds : Case → Type 0
 Holds (normal first table) =
     (normalizeWord first (length lent) ≡ valueWord outcomeYes (length table))
