@@ -1,6 +1,7 @@
 # make        prove the library and the verdict program, and write target/staticlib/libzuvaropy.a and
 #             target/bin/verdict
-# make test   prove everything, then run the C tests; the last line is 'N passed, M failed'
+# make test   prove everything, then run the C tests, the comparison with the Rust implementation and the
+#             tests of the verdict program; the last line is 'N passed, M failed'
 # make demo   validate the sample pictures, print their normal tables, ask which subsumes which, check the
 #             sample evidence, and run the verdict program
 # make bench  time the library beside the same calls hand-written in C and in Rust

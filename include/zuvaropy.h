@@ -89,9 +89,9 @@ extern "C" {
 #define ZUVAROPY_SECOND_TABLE_AT  ZUVAROPY_MAX_PICTURE_BYTES
 
 /*
- * Evidence says whether the second of two pictures subsumes the first: whether
- * every instance of the first is one of the second. It has one of two forms,
- * both in fields as a picture is.
+ * Evidence says whether the second of two pictures subsumes the first, that is,
+ * whether every instance of the first is one of the second. It has one of two
+ * forms, both in fields as a picture is.
  *
  * A map, for yes, sends each row of the second normal table to a row of the
  * first. It is one field, whose value has the image of each row in turn, and
@@ -127,6 +127,15 @@ extern "C" {
 /* A refutation of so many individuals, and the longest evidence, in bytes. */
 #define ZUVAROPY_REFUTATION_BYTES(individuals)  ((individuals) * ZUVAROPY_INDIVIDUAL_BYTES + ZUVAROPY_HEAD_BYTES)
 #define ZUVAROPY_MAX_EVIDENCE_BYTES             ZUVAROPY_REFUTATION_BYTES(ZUVAROPY_MAX_INDIVIDUALS)
+
+/*
+ * The stack that each call takes at most, in bytes: measured on pictures as deep
+ * as allowed, and rounded up. This is tested and not proved.
+ */
+#define ZUVAROPY_VALIDATE_STACK_BYTES   512
+#define ZUVAROPY_NORMALIZE_STACK_BYTES  (17 * 1024)
+#define ZUVAROPY_SUBSUMES_STACK_BYTES   (25 * 1024)
+#define ZUVAROPY_VERIFY_STACK_BYTES     (37 * 1024)
 
 /*
  * Codes
@@ -277,7 +286,8 @@ static inline uint8_t *zuvaropy_lent_writable(uint8_t *buffer)
  *          input ZUVAROPY_INPUT_FIRST.
  *
  * Any bytes of any length may be given. An empty buffer is refused by
- * ZUVAROPY_QUESTION_HEAD.
+ * ZUVAROPY_QUESTION_HEAD. The call takes at most ZUVAROPY_VALIDATE_STACK_BYTES
+ * of stack.
  */
 uint64_t zuvaropy_validate(const uint8_t *picture, size_t picture_len);
 #define zuvaropy_validate(picture, picture_len) \
@@ -314,7 +324,7 @@ uint64_t zuvaropy_validate(const uint8_t *picture, size_t picture_len);
  *          further than that.
  *
  * Any bytes of any length may be given as the picture. The two buffers must
- * not overlap. The call takes about 17 KB of stack.
+ * not overlap. The call takes at most ZUVAROPY_NORMALIZE_STACK_BYTES of stack.
  *
  * A normal table is a picture, and can be given to any call. Its own normal
  * table has the same instances, but need not be the same bytes, and its merged
@@ -325,8 +335,8 @@ uint64_t zuvaropy_normalize(const uint8_t *picture, size_t picture_len, uint8_t 
     zuvaropy_normalize(zuvaropy_lent(picture), (picture_len), zuvaropy_lent_writable(result), (result_len))
 
 /*
- * Say whether the second picture subsumes the first, whether every instance of
- * the first is one of the second, and write evidence of it.
+ * Say whether the second picture subsumes the first, that is, whether every
+ * instance of the first is one of the second; and write evidence of it.
  *
  * Reads:   first, at most first_len bytes; second, at most second_len bytes.
  * Writes:  work, its first ZUVAROPY_WORK_BYTES bytes: the normal table of the
@@ -358,9 +368,13 @@ uint64_t zuvaropy_normalize(const uint8_t *picture, size_t picture_len, uint8_t 
  *
  * Any bytes of any length may be given as the pictures; the work space and the
  * result buffer may hold anything beforehand. Neither may overlap any other
- * buffer; the pictures may overlap. The call takes about 20 KB of stack. Its
- * time grows at most as the rows of the one normal table times the rows of the
- * other, times their depth.
+ * buffer; the pictures may overlap.
+ *
+ * The call takes at most ZUVAROPY_SUBSUMES_STACK_BYTES of stack. Beyond making
+ * the two normal tables its time grows at most as the rows of the one times the
+ * rows of the other: the search meets two rows at most once, and the evidence
+ * is written without another search. A refutation has at most
+ * ZUVAROPY_MAX_INDIVIDUALS individuals.
  */
 uint64_t zuvaropy_subsumes(const uint8_t *first, size_t first_len, const uint8_t *second, size_t second_len,
                            uint8_t *work, size_t work_len, uint8_t *result, size_t result_len);
@@ -413,8 +427,12 @@ uint64_t zuvaropy_subsumes(const uint8_t *first, size_t first_len, const uint8_t
  *
  * Any bytes of any length may be given as the pictures and as the evidence; the
  * work space may hold anything beforehand. It must not overlap any other
- * buffer; the others may overlap. The call takes about 30 KB of stack. Its time
- * grows at most as the individuals times the rows of both normal tables.
+ * buffer; the others may overlap.
+ *
+ * The call takes at most ZUVAROPY_VERIFY_STACK_BYTES of stack. Beyond making
+ * the two normal tables its time grows at most as the rows of the second, for a
+ * map, and as the individuals times the rows of both, for a refutation: an
+ * individual meets a row at most once.
  */
 uint64_t zuvaropy_verify(const uint8_t *first, size_t first_len, const uint8_t *second, size_t second_len,
                          const uint8_t *evidence, size_t evidence_len, uint8_t *work, size_t work_len);

@@ -1,6 +1,6 @@
 #!/bin/sh
 # The gate: proves every crate, tries the must-fail edits and runs the programs, then builds the library
-# from what was proved and runs the C tests and those of the verdict program.
+# from what was proved and runs the C tests, the Rust comparison and the tests of the verdict program.
 #
 # The last line is 'N passed, M failed': rt's own, or, where something failed that rt does not count, with
 # the number of failures. It is kept in build/gate.last too. Exits 0 only if nothing failed.

@@ -1,5 +1,6 @@
 #!/bin/sh
-# Builds the C tests against an archive of the library and runs them, and tests the verdict program.
+# Builds the C tests against an archive of the library and runs them; compares it with the Rust
+# implementation of tests/rust, if there is a rustc; runs the examples; and tests the verdict program.
 #
 #   sh tests/run.sh ARCHIVE PROGRAM
 #
@@ -110,7 +111,8 @@ symbols() {
         ! grep -vE '^$|:$| (memset|memcpy|memmove|memcmp)$' "$out/symbols.log"
 }
 
-# The samples are what their script makes, and each example says of them what it should.
+# The samples are what their script makes, and each example says of them what it should. Paper 01 leaves free which
+# refutation is written: how long those are that the examples and the README show is this library's choice.
 samples() {
     sh samples/make.sh "$out/samples" && diff -r -x '*.sh' -x '*.stdout' samples "$out/samples"
 }

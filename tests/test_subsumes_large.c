@@ -114,7 +114,8 @@ static void test_deep(void)
 }
 
 /* Each of so many successors has to fail at the end of a chain of value
- * restrictions: an individual for it, and one for each edge below. */
+ * restrictions: an individual for it, and one for each edge below. Paper 01
+ * leaves the length free; here it is this library's, so that long ones are met. */
 static void test_refutations(void)
 {
     unsigned int rows, edges;

@@ -98,7 +98,8 @@ int main(void)
         check_pair(&shape, i);
     }
 
-    /* The pictures reach every answer, and often. */
+    /* The pictures reach every answer, and often. That refutations are long is this library's choice; paper 01 leaves
+     * their length free. */
     CHECK(met.yes > PAIRS / 10);
     CHECK(met.no > PAIRS / 10);
     CHECK(met.long_map > PAIRS / 200);

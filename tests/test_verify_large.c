@@ -201,8 +201,9 @@ static void test_maps(void)
     }
 }
 
-/* A refutation that needs nearly as many individuals as there may be: each of
- * 255 successors has to fail at the end of a chain of value restrictions. */
+/* A refutation of nearly as many individuals as there may be: each of 255
+ * successors has to fail at the end of a chain of value restrictions. Its
+ * length is the choice of tests/witness.c; there are shorter ones. */
 static void test_witness(void)
 {
     picture_fan(&in.first, ROOM_ROWS);

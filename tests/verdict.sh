@@ -20,11 +20,11 @@ trap 'rm -rf "$room"' EXIT
 mkdir "$room/files"
 
 # run FIRST SECOND: what the program prints, in $room/printed; false unless it ends well, says nothing else and leaves
-# its folder alone. '-' is no file.
+# its folder alone. '-' is no file; a folder and a link are copied as such.
 run() {
     rm -rf "$room/folder" && mkdir "$room/folder" || return
-    [ "$1" = - ] || cp "$1" "$room/folder/first.pic" || return
-    [ "$2" = - ] || cp "$2" "$room/folder/second.pic" || return
+    [ "$1" = - ] || cp -RP "$1" "$room/folder/first.pic" || return
+    [ "$2" = - ] || cp -RP "$2" "$room/folder/second.pic" || return
     before=$(ls -l "$room/folder")
     (cd "$room/folder" && "$program") >"$room/printed" 2>"$room/said" </dev/null &&
         [ ! -s "$room/said" ] && [ "$(ls -l "$room/folder")" = "$before" ]
@@ -106,6 +106,12 @@ expect - cut.pic 'refused first 2'
 expect cut.pic - 'refused first 6'
 expect spread.pic - 'refused second 2'
 refused "$room/files/empty" 2
+
+# So is one that cannot be read: a folder, and a link to nothing.
+mkdir "$room/files/folder"
+ln -s nothing "$room/files/dangling"
+refused "$room/files/folder" 2
+refused "$room/files/dangling" 2
 
 # As many rows as allowed: of rows that are alike the lowest is taken.
 most() {

@@ -1,0 +1,170 @@
+/*
+ * The stack that each call takes is at most what the header says. A call is made
+ * on a stack of its own, painted beforehand; it took what has lost its paint. The
+ * recursions of the library go down the pictures, so these are chains, up to the
+ * deepest: of 'some', of 'all' and of both by turns.
+ */
+
+#define _XOPEN_SOURCE 600 /* makecontext */
+
+#include "check.h"
+#include "evidence.h"
+#include "rows.h"
+
+#include <stdio.h>
+#include <string.h>
+#include <ucontext.h>
+
+#define PAINT 0xA5
+#define PAINTED_BYTES 131072 /* several times what any call takes */
+#define KNOWN_BYTES 20000
+
+static uint8_t stack[PAINTED_BYTES];
+static struct inputs in;
+static uint64_t word;
+
+static void run(void (*call)(void))
+{
+    static ucontext_t here, there;
+
+    CHECK(getcontext(&there) == 0);
+    there.uc_stack.ss_sp = stack;
+    there.uc_stack.ss_size = sizeof stack;
+    there.uc_link = &here;
+    makecontext(&there, call, 0);
+    CHECK(swapcontext(&here, &there) == 0);
+}
+
+/* The bytes that a call takes, with the few that it takes to make it. It is made twice: at the first time the C
+ * library's own functions may have to be found, which takes stack too. */
+static size_t taken(void (*call)(void))
+{
+    size_t left = 0;
+
+    run(call);
+    memset(stack, PAINT, sizeof stack);
+    run(call);
+    while (left < sizeof stack && stack[left] == PAINT)
+        left++;
+    return sizeof stack - left;
+}
+
+static void validate(void)
+{
+    word = zuvaropy_validate(in.first.bytes, in.first.length);
+}
+
+static void normalize(void)
+{
+    static uint8_t table[ZUVAROPY_MAX_PICTURE_BYTES];
+
+    word = zuvaropy_normalize(in.first.bytes, in.first.length, table, sizeof table);
+}
+
+static uint8_t work[ZUVAROPY_WORK_BYTES];
+
+static void subsumes(void)
+{
+    word = zuvaropy_subsumes(in.first.bytes, in.first.length, in.second.bytes, in.second.length, work, sizeof work,
+                             in.evidence.bytes, ZUVAROPY_MAX_EVIDENCE_BYTES);
+    in.evidence.length = zuvaropy_value(word);
+}
+
+static void verify(void)
+{
+    word = zuvaropy_verify(in.first.bytes, in.first.length, in.second.bytes, in.second.length, in.evidence.bytes,
+                           in.evidence.length, work, sizeof work);
+}
+
+static void check_call(const char *name, void (*call)(void), unsigned int outcome, size_t most)
+{
+    const size_t bytes = taken(call);
+
+    CHECK(zuvaropy_outcome(word) == outcome);
+    CHECK(bytes <= most);
+    if (bytes > most)
+        printf("  %s took %lu bytes of stack\n", name, (unsigned long)bytes);
+}
+
+/* Each call on the pair; the evidence that is checked is what was written. */
+static void check_calls(unsigned int verdict)
+{
+    check_call("validate", validate, ZUVAROPY_OUTCOME_YES, ZUVAROPY_VALIDATE_STACK_BYTES);
+    check_call("normalize", normalize, ZUVAROPY_OUTCOME_YES, ZUVAROPY_NORMALIZE_STACK_BYTES);
+    check_call("subsumes", subsumes, verdict, ZUVAROPY_SUBSUMES_STACK_BYTES);
+    check_call("verify", verify, verdict, ZUVAROPY_VERIFY_STACK_BYTES);
+}
+
+/* A chain with a name at its end. */
+static void make_chain(struct picture *p, unsigned int edges, unsigned int all, uint64_t wanted)
+{
+    picture_kinds(p, edges, all);
+    picture_label(p, wanted, 0, 0);
+    picture_end(p);
+}
+
+/* The search, the writers of evidence and the checks of it go down to the end: yes; no at the end; no at the root, and
+ * all below it is as the first asks; no of what asks nothing, against each row of the second. */
+static void check_chain(unsigned int edges, unsigned int all)
+{
+    make_chain(&in.first, edges, all, NAME(0));
+    in.second = in.first;
+    check_calls(ZUVAROPY_OUTCOME_YES);
+    make_chain(&in.second, edges, all, NAME(1));
+    check_calls(ZUVAROPY_OUTCOME_NO);
+    picture_value(&in.second, 0)[ZUVAROPY_WANTED_AT] = 1;
+    check_calls(ZUVAROPY_OUTCOME_NO);
+    rows_picture(&in.first, ROWS(ROOT(0, 0)));
+    make_chain(&in.second, edges, all, NAME(1));
+    check_calls(ZUVAROPY_OUTCOME_NO);
+}
+
+static void test_chains(void)
+{
+    static const unsigned int kinds[] = {0, ~0u, 0x555, 0xAAA};
+    unsigned int edges, i;
+
+    for (edges = 0; edges <= ZUVAROPY_MAX_DEPTH; edges += 4)
+        for (i = 0; i < sizeof kinds / sizeof kinds[0]; i++)
+            check_chain(edges, kinds[i]);
+}
+
+/* As many rows as allowed, and many individuals. */
+static void test_fan(void)
+{
+    picture_fan(&in.first, ZUVAROPY_MAX_ROWS);
+    picture_end(&in.first);
+    in.second = in.first;
+    check_calls(ZUVAROPY_OUTCOME_YES);
+    make_chain(&in.second, ZUVAROPY_MAX_DEPTH, ~1u, NAME(1));
+    check_calls(ZUVAROPY_OUTCOME_NO);
+}
+
+static void nothing(void)
+{
+}
+
+/* Writes so many bytes of its stack, and little else. */
+static void known(void)
+{
+    volatile uint8_t bytes[KNOWN_BYTES];
+    size_t i;
+
+    for (i = 0; i < sizeof bytes; i++)
+        bytes[i] = 0;
+}
+
+/* The measure is right. */
+static void test_measure(void)
+{
+    CHECK(taken(nothing) < 100);
+    CHECK(taken(known) >= KNOWN_BYTES && taken(known) < KNOWN_BYTES + 300);
+}
+
+int main(void)
+{
+    test_measure();
+    test_chains();
+    test_fan();
+    return check_summary("stack");
+}
