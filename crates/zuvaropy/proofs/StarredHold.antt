@@ -1,10 +1,9 @@
 -- 01, "Starred ones are proved, gathered into one list with a single theorem over the list": computed from the calls' definitions.
 -- Of K7 and K8 the words and the evidence are computed, and by the laws of the check they show what the two pictures mean.
-use Prim.Native.Nat.{ℕ}
-use borrow.Author.Tests.{le-leb}
+use Prim.Native.Nat.{_≤_, ℕ}
 use lib.ListN.{length}
 use mathlib.Core.List.{List}
-use mathlib.Core.Path.{_≡_, refl}
+use mathlib.Core.Path.{_∙_, _≡_, ap, refl}
 use native.Mathlib.Omega.{arith}
 use Rattle.countermodel.specs.Individual.{individualHead, individualOk, refutationForm}
 use Rattle.countermodel.specs.Layout.{individualCount}
@@ -20,31 +19,45 @@ use Rattle.picture.specs.Depth.{depth, depthIn}
 use Rattle.picture.specs.Questions.{endField, fieldAt, kindOk, lengthFor, parentOk, roleOk, rowField, tagOk, valueField}
 use Rattle.picture.specs.Read.{answerOf, readingOf, scanFrom}
 use Rattle.picture.specs.View.{rowCount, viewOf}
-use Rattle.subsumption.specs.Call.{subsumesAnswer, subsumesResult, verdictAnswer}
+use Rattle.subsumption.proofs.Answers.{acceptable-result}
+use Rattle.subsumption.specs.Call.{subsumesAnswer, verdictAnswer}
 use Rattle.subsumption.specs.Verdict.{evidenceOf, mapOf, refutationOf, verdictOf}
+use Rattle.table.specs.Bounds.{benchLimits}
 use Rattle.table.specs.Fields.{endBytes, endsAt, rowOf}
 use Rattle.table.specs.Number.{be, beBytes}
 use Rattle.table.specs.Put.{put}
 use Rattle.table.specs.Range.{each}
-use Rattle.workspace.specs.Prepare.{mergedAsked, prepareAnswer}
+use Rattle.workspace.specs.Prepare.{Acceptable, mergedAsked, prepareAnswer}
 use Rattle.zuvaropy.specs.Calls.{normalizeBuffer, normalizeWord, subsumesBuffer, subsumesWord, verifyWord}
-use Rattle.zuvaropy.specs.Starred.{AllHold, Holds, Writes, allFive, alone, evidenceRoom, noneReached, oneEach, room, someBoth, someEach, someReached, starred, subsumes, subsumesNot, toBoth, toMarked}
+use Rattle.zuvaropy.specs.Starred.{AllHold, Holds, allFive, alone, evidenceRoom, noneReached, oneEach, room, someBoth, someEach, someReached, starred, subsumes, subsumesNot, toBoth, toMarked}
 use Rattle.zuvaropy.specs.Word.{outcomeNo, outcomeYes, valueWord}
 use Rattle.zuvaropy.proofs.EmptySubsumes.{empty-subsumes}
-use Rattle.zuvaropy.proofs.VerifyWords.{verify-map-subsumed, verify-refutation-not}
+use Rattle.zuvaropy.proofs.VerifyWords.{verify-map, verify-map-subsumed, verify-refutation, verify-refutation-not}
 
--- a word that says so shows what the two pictures mean
+-- words that say so show what the two pictures mean, and that the evidence stands in any result buffer that is long enough
 module _ (first second e : List ℕ) where
-  shown : Writes first second outcomeYes e → verifyWord first second e room ≡ valueWord outcomeYes 0 → Holds (subsumes first second e)
-  shown told w = (told, w, verify-map-subsumed first second e room (omega (arith, w)))
+  stands : Acceptable benchLimits first second → evidenceOf benchLimits first second ≡ e →
+      (result : List ℕ) → evidenceRoom ≤ length result → subsumesBuffer first second room result ≡ put result 0 e
+  unfolding subsumesBuffer
+  stands pair is result long =
+      acceptable-result benchLimits first second room result (omega arith) long pair ∙ ap (λ (l : List ℕ). put result 0 l) is
 
-  shown-not : Writes first second outcomeNo e → verifyWord first second e room ≡ valueWord outcomeNo 0 → Holds (subsumesNot first second e)
-  shown-not told w = (told, w, verify-refutation-not first second e room (omega (arith, w)))
+  shown : subsumesWord first second room evidenceRoom ≡ valueWord outcomeYes (length e) → evidenceOf benchLimits first second ≡ e →
+      verifyWord first second e room ≡ valueWord outcomeYes 0 → Holds (subsumes first second e)
+  shown told is w =
+      let (enough, pair, map) = verify-map first second e room (omega (arith, w)) in
+      ((told, stands pair is), w, verify-map-subsumed first second e room (omega (arith, w)))
+
+  shown-not : subsumesWord first second room evidenceRoom ≡ valueWord outcomeNo (length e) → evidenceOf benchLimits first second ≡ e →
+      verifyWord first second e room ≡ valueWord outcomeNo 0 → Holds (subsumesNot first second e)
+  shown-not told is w =
+      let (enough, pair, refuting) = verify-refutation first second e room (omega (arith, w)) in
+      ((told, stands pair is), w, verify-refutation-not first second e room (omega (arith, w)))
 
 pub starred-hold : AllHold starred
 unfolding be beBytes rowOf endBytes endsAt put depthIn depth tagOk lengthFor kindOk roleOk parentOk valueField rowField endField fieldAt scanFrom readingOf answerOf rowCount viewOf mergedTree mergedCount normalTreeOf normalFile normalizeAnswer normalizeResult normalizeWord normalizeBuffer
     each individualCount individualHead refutationForm individualOk mapForm formOf rowAsked inOrder mapAsked refutationAsked checkAnswer evidenceAnswer mergedAsked prepareAnswer verifyAnswer verifyWord
-    verdictOf mapOf lowestMap mapFile refutationOf refutationFile individualBytes evidenceOf verdictAnswer subsumesAnswer subsumesResult subsumesWord subsumesBuffer
+    verdictOf mapOf lowestMap mapFile refutationOf refutationFile individualBytes evidenceOf verdictAnswer subsumesAnswer subsumesWord
 starred-hold = (
   empty-subsumes,
   (
@@ -60,13 +73,13 @@ starred-hold = (
             (
               (refl, refl),
               (
-                shown someBoth someEach toBoth (refl, λ result h. rw (le-leb evidenceRoom (length result) h)) refl,
+                shown someBoth someEach toBoth refl refl refl,
                 (
-                  shown-not someEach someBoth oneEach (refl, λ result h. rw (le-leb evidenceRoom (length result) h)) refl,
+                  shown-not someEach someBoth oneEach refl refl refl,
                   (
-                    shown noneReached allFive toMarked (refl, λ result h. rw (le-leb evidenceRoom (length result) h)) refl,
+                    shown noneReached allFive toMarked refl refl refl,
                     (
-                      shown-not noneReached someReached alone (refl, λ result h. rw (le-leb evidenceRoom (length result) h)) refl,
+                      shown-not noneReached someReached alone refl refl refl,
                       ((refl, refl), ((refl, refl), tt)),
                     ),
                   ),
