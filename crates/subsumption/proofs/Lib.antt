@@ -2,6 +2,7 @@
 -- what is written is evidence
 pub mod ByteLists
 pub mod Writers
+pub mod Lowest
 -- the call
 pub mod Answers
 pub mod Refusals
@@ -9,3 +10,5 @@ pub mod Refusals
 pub mod Decisions
 -- the conditions
 pub mod Conditions
+-- worked cases, computed
+pub mod VerdictCases
