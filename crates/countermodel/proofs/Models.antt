@@ -1,6 +1,5 @@
 -- The model check goes along links: what is still to be decided at a row or at an individual of a chain, and one turn of each loop.
---   refutation-has, checked-has              an individual, a row is there
---   chain-less                               a walk along a chain rises, so it ends
+--   refutation-has                           an individual is there
 --   fits-unsatisfied, fits-satisfied         the label first, and then the successors decide
 --   belowFrom                                individual i passes what the successors of row w from row c on ask
 --   BelowAt                                  it has passed what those before c ask, so these decide
@@ -21,7 +20,7 @@ use mathlib.Core.Bool.{Bool, Bool·beq, _&&_, _||_, and-false, false, not, true}
 use mathlib.Core.List.{List}
 use mathlib.Core.Path.{_∙_, _≡_, ap, ap₂, refl, sym}
 use native.Mathlib.Omega.{arith}
-use Rattle.ale.proofs.LinkLists.{OnChain, ahead, chain-first, chain-next, chain-on-first, chain-on-next, chain-rises, childOf}
+use Rattle.ale.proofs.LinkLists.{OnChain, ahead, chain-first, chain-next, chain-on-first, chain-on-next, childOf}
 use Rattle.ale.proofs.WholeTrees.{whole-step}
 use Rattle.ale.specs.ModelCheck.{fitsAllTest, fitsTest, reachedTest, restrictionTest}
 use Rattle.ale.specs.PictureSignature.{pictureSignature}
@@ -30,38 +29,25 @@ use Rattle.ale.specs.Signature.{Signature}
 use Rattle.ale.specs.Table.{ParentsFirst, successors}
 use Rattle.ale.specs.Tree.{Forest, Tree, any, exists, forAll}
 use Rattle.meaning.specs.Meaning.{pictureTable}
-use Rattle.table.proofs.Links.{walk-less}
 use Rattle.normal.specs.Rows.{Checked}
 use Rattle.picture.specs.View.{viewOf}
 use Rattle.table.specs.Bounds.{maxRows}
-use Rattle.table.specs.Fields.{HasRow, kindOf, parentOf, roleOf}
+use Rattle.table.specs.Fields.{kindOf, parentOf, roleOf}
 use Rattle.table.specs.Layout.{kindForAll}
 use Rattle.table.specs.Links.{Linked}
 use Rattle.table.specs.Pick.{pick}
+use Rattle.homomorphism.proofs.Maps.{checked-parents}
+use Rattle.homomorphism.proofs.Walks.{chain-less}
 use Rattle.countermodel.specs.Individual.{HasIndividual, Refutation, individualParent, individualRole, individualTable}
 use Rattle.countermodel.specs.Layout.{mostIndividuals}
 use Rattle.countermodel.specs.Model.{belowFits, fitsRow, modelTree, reachedFits, reachedForest, rowTree, satisfiesRow}
 use Rattle.countermodel.proofs.Individuals.{ok-parents}
-
-checked-parents : (t : List ℕ) (rows : ℕ) → Checked t rows → ParentsFirst pictureSignature (pictureTable t)
-unfolding viewOf
-checked-parents t rows k y l z = k .parents y z (rw (k .counted) l)
 
 refutation-parents : (e links : List ℕ) (n : ℕ) → Refutation e n links → ParentsFirst pictureSignature (individualTable e)
 refutation-parents e links n r = ok-parents e (rw (r .all .counted) at (r .passed))
 
 pub refutation-has : (e links : List ℕ) (n k : ℕ) → Refutation e n links → k < n → HasIndividual e k
 refutation-has e links n k r l = (omega (arith, r .all .most), omega (arith, r .all .whole))
-
-pub checked-has : (t : List ℕ) (rows k : ℕ) → Checked t rows → k < rows → HasRow t k
-checked-has t rows k d l = (omega (arith, d .most), omega (arith, d .whole))
-
--- a walk along a chain rises, so it ends
-pub chain-less : (parent : ℕ → ℕ) (rows c width : ℕ) (links : List ℕ) → Linked parent rows width links → (j : ℕ) → (j ≡ 0 → ⊥) →
-    OnChain parent rows c j → (k : ℕ) → k ≡ getD links (width + j) 0 →
-    pick (eqb k 0) 0 (rows + 1 - k) < pick (eqb j 0) 0 (rows + 1 - j)
-chain-less parent rows c width links linked j z on k e =
-    rw e (walk-less rows j (getD links (width + j) 0) z (on z .0) (λ u. let r = chain-rises parent rows c width links linked j z on u in omega arith))
 
 -- ---- 22: the label, and then each successor
 
@@ -70,7 +56,7 @@ module _ (t e reached : List ℕ) (n rows w i : ℕ) (refutation : Refutation e 
   unfolding fitsRow satisfiesRow belowFits viewOf
   fits-split =
       ap₂ (fitsTest pictureSignature)
-      (whole-step pictureSignature (pictureTable t) (checked-parents t rows checked) w)
+      (whole-step pictureSignature (pictureTable t) (checked-parents checked) w)
       (whole-step pictureSignature (individualTable e) (refutation-parents e reached n refutation) i)
 
   pub fits-unsatisfied : (r : Bool) → r ≡ satisfiesRow t w e i → r ≡ false → fitsRow t w e i ≡ false

@@ -28,7 +28,7 @@ use Rattle.table.specs.Fields.{parentOf}
 use Rattle.table.specs.Pick.{pick}
 use Rattle.countermodel.specs.Refuting.{reachedAll}
 use Rattle.countermodel.specs.Writing.{Room, Written}
-use Rattle.countermodel.proofs.Models.{chain-less}
+use Rattle.homomorphism.proofs.Walks.{chain-less}
 use Rattle.countermodel.proofs.Writings.{room-left, room-right, room-same, written-append, written-kept, written-none, written-same}
 
 pub successors-ahead : (s links : List ℕ) (rows u : ℕ) → LinkedTable s rows links → u < rows →

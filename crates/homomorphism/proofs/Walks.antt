@@ -2,6 +2,7 @@
 --   firstOf                                  the first number of a list that passes, or `none`
 --   first-filtered                           the first of a range that passes two tests: of those that pass one, the first that passes the other
 --   first-failing                            the first that fails a test passes its opposite
+--   chain-less                               a walk along a chain rises, so it ends
 --   WalkAt                                   a walk that is at row j: what is found is the first of the rows that are still ahead
 --   walk-start, walk-next, walk-less         before the loop, and one turn more, which brings its end nearer
 --   walk-found, walk-end                     where it stops
@@ -37,6 +38,13 @@ first-failing f q opposite [] = refl
 first-failing f q opposite (v ∷ s) =
     rw (opposite v) (by-test (q v) (λ e. rw e) (λ e. rw e (first-failing f q opposite s)))
 
+-- a walk along a chain rises, so it ends
+pub chain-less : (parent : ℕ → ℕ) (rows c width : ℕ) (links : List ℕ) → Linked parent rows width links → (j : ℕ) → (j ≡ 0 → ⊥) →
+    OnChain parent rows c j → (k : ℕ) → k ≡ getD links (width + j) 0 →
+    pick (eqb k 0) 0 (rows + 1 - k) < pick (eqb j 0) 0 (rows + 1 - j)
+chain-less parent rows c width links linked j z on k e =
+    rw e (rising.walk-less rows j (getD links (width + j) 0) z (on z .0) (λ u. let r = chain-rises parent rows c width links linked j z on u in omega arith))
+
 pub record WalkAt (parent : ℕ → ℕ) (rows i : ℕ) (q : ℕ → Bool) (none found j : ℕ) : Type 0 where
   pub on : OnChain parent rows i j
   pub rest : found ≡ firstOf q (ahead parent rows i j) none
@@ -61,10 +69,7 @@ module _ {parent : ℕ → ℕ} {rows i width : ℕ} {links : List ℕ} (linked 
         (record { on = chain-on-next parent rows i width links linked j z (at .on); rest = walk-turn ∙ rw fails })
 
     pub walk-less : (k : ℕ) → k ≡ getD links (width + j) 0 → pick (eqb k 0) 0 (rows + 1 - k) < pick (eqb j 0) 0 (rows + 1 - j)
-    walk-less k next =
-        rw next
-        (rising.walk-less rows j (getD links (width + j) 0) z (at .on z .0) (λ u.
-        let r = chain-rises parent rows i width links linked j z (at .on) u in omega arith))
+    walk-less k next = chain-less parent rows i width links linked j z (at .on) k next
 
     pub walk-found : q j ≡ true → found ≡ j
     walk-found passes = walk-turn ∙ rw passes

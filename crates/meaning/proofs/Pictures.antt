@@ -3,7 +3,6 @@
 --   picture-parents   question 11: parents come first
 --   picture-ranked    question 12: the depths of its rows rise from a row to its successors, and are within the limit
 --   picture-whole     so its tree is the same at any greater depth
---   rows-whole        and the tree of each row is the same as deep as there are rows
 --   merged-whole      and its merged tree
 --   count-whole       and so the number of its merged rows
 --   normal-whole      and its normal tree
@@ -13,11 +12,10 @@ use mathlib.Core.Path.{_≡_, ap}
 use native.Mathlib.Omega.{arith}
 use Rattle.ale.proofs.Depths.{Ranked, ranked-by-depth, treeOf-deeper}
 use Rattle.ale.proofs.MergedDepths.{merged-deeper}
-use Rattle.ale.proofs.WholeTrees.{whole-tree}
 use Rattle.ale.specs.Merged.{merged}
 use Rattle.ale.specs.Normal.{normalTree, tidy}
 use Rattle.ale.specs.PictureSignature.{pictureSignature}
-use Rattle.ale.specs.Table.{KnownRoles, ParentsFirst, tree, treeOf}
+use Rattle.ale.specs.Table.{KnownRoles, ParentsFirst, tree}
 use Rattle.ale.specs.Tree.{size}
 use Rattle.picture.proofs.Readables.{readable-depth, readable-depth-under, readable-parent, readable-role}
 use Rattle.picture.specs.Depth.{depth}
@@ -45,10 +43,6 @@ module _ (limits : Limits) (s : List ℕ) (readable : Readable limits s) where
   pub picture-whole : (k : ℕ) → pictureTree limits s ≡ tree pictureSignature (pictureTable s) (k + limits .depth)
   picture-whole k =
       treeOf-deeper pictureSignature (pictureTable s) (depth (parentOf s)) (limits .depth) picture-ranked k (limits .depth) 0 (omega arith)
-
-  pub rows-whole : (i : ℕ) →
-      treeOf pictureSignature (pictureTable s) (limits .depth) i ≡ treeOf pictureSignature (pictureTable s) ((pictureTable s) .rows) i
-  rows-whole = whole-tree pictureSignature (pictureTable s) picture-parents (depth (parentOf s)) (limits .depth) picture-ranked
 
   pub merged-whole : (k : ℕ) → mergedTree limits s ≡ merged pictureSignature (pictureTable s) (k + limits .depth) (0 ∷ [])
   unfolding mergedTree

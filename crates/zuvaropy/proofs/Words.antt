@@ -3,7 +3,7 @@
 --   refusal-outcome .. refusal-card         those of a refusal
 --   value-outcome, value-value              those of an answer
 --   refused                                 the word of a refusal by its number and input
---   codes-agree                             the words of a refusal of each input, computed
+--   codes-agree                             the words of a refusal of each input, and of an answer of each call, computed
 --   validate-readable, readable-validate    the plain test answers with a row count exactly when the picture is readable
 use mathlib.Core.Path.{_≡_, refl}
 use mathlib.Core.List.{List, [], _∷_}
@@ -18,8 +18,10 @@ use Rattle.picture.specs.declared.read.Reading.{Reading}
 use Rattle.picture.specs.declared.read.Reading.the-variants as reading
 use Rattle.picture.specs.Read.{readingOf, answered, answerOf}
 use Rattle.picture.specs.View.{Readable, rowCount}
+use Rattle.evidence.specs.declared.check.Verified.the-variants as verified
+use Rattle.subsumption.specs.declared.verdict.Verdict.the-variants as verdict
 use Rattle.picture.proofs.Readables.{reading-answer, reading-number, readable-count}
-use Rattle.zuvaropy.specs.Word.{outcomeYes, inputCode, cardOf, valueWord, refusalWord, readWord}
+use Rattle.zuvaropy.specs.Word.{outcomeYes, inputCode, cardOf, valueWord, refusalWord, readWord, verdictWord, verifiedWord}
 use Rattle.zuvaropy.specs.Calls.{validateWord}
 
 abbrev pub outcome : ℕ → ℕ
@@ -77,10 +79,26 @@ words =
     ∷ refused 24 Book
     ∷ refused 2 (Card 31)
     ∷ valueWord outcomeYes 256
+    ∷ verdictWord (verdict.Yes 12)
+    ∷ verdictWord (verdict.No 46595)
+    ∷ verifiedWord verified.MapTaken
+    ∷ verifiedWord verified.RefutationTaken
     ∷ []
 
 -- in hex each byte is a part: outcome, question, input, card, and four of value
-pub codes-agree : words ≡ 0x0001000000000000 ∷ 0x000D010000000000 ∷ 0x000E020000000000 ∷ 0x0010030000000000 ∷ 0x0018040000000000 ∷ 0x0002051F00000000 ∷ 0x0100000000000100 ∷ []
+pub codes-agree : words ≡
+    0x0001000000000000
+    ∷ 0x000D010000000000
+    ∷ 0x000E020000000000
+    ∷ 0x0010030000000000
+    ∷ 0x0018040000000000
+    ∷ 0x0002051F00000000
+    ∷ 0x0100000000000100
+    ∷ 0x010000000000000C
+    ∷ 0x020000000000B603
+    ∷ 0x0100000000000000
+    ∷ 0x0200000000000000
+    ∷ []
 codes-agree = refl
 
 -- ---- the plain test

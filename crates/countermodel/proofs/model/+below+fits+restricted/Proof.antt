@@ -11,7 +11,8 @@ use denote.Ref.{now}
 use lib.Dec.{eqb}
 use Rattle.table.specs.Layout.{kindForAll}
 use Rattle.table.specs.Pick.{pick}
-use Rattle.countermodel.proofs.Models.{BelowAt, MeetsAt, agrees, below-end, below-fails, below-less, below-next, below-start, checked-has, decided, fits-satisfied, fits-unsatisfied, meets-end, meets-found, meets-less, meets-next, meets-start, other-role, refutation-has}
+use Rattle.countermodel.proofs.Models.{BelowAt, MeetsAt, agrees, below-end, below-fails, below-less, below-next, below-start, decided, fits-satisfied, fits-unsatisfied, meets-end, meets-found, meets-less, meets-next, meets-start, other-role, refutation-has}
+use Rattle.homomorphism.proofs.Searches.{checked-has}
 use borrow.Fn.Kinds.{In}
 use borrow.Fn.PlainCycle.{Measures, is, falls, and}
 use Rattle.countermodel.proofs.model.below.Reads as below

@@ -15,7 +15,7 @@ use Rattle.table.specs.Pick.{pick}
 use Rattle.ale.specs.Tree.{nil}
 use Rattle.countermodel.specs.Refuting.{againstTop, againstTree, againstValue, canonicalBelow, canonicalTree, falsifiedBelow, realizedBelow, realizedRows}
 use Rattle.countermodel.proofs.Misses.{falsified-canonical, missed-chain, missed-reached, missed-row, missed-value, some-kind}
-use Rattle.countermodel.proofs.Models.{checked-has}
+use Rattle.homomorphism.proofs.Searches.{checked-has}
 use Rattle.countermodel.proofs.Refutings.{against-carried, falsified-realized, falsified-value, realized-all, realized-other, realized-same, realized-split, value-row-is, value-top}
 use Rattle.countermodel.proofs.RefutingTurns.{begun-below, begun-holds, begun-lacks, edge-room, edge-written, edges-room, edges-written, forest-room, forest-written, realized-end, realized-start, tree-here, tree-room, tree-written}
 use Rattle.countermodel.proofs.Walks.{WalkAt, walk-next, walk-room, walk-shorter}

@@ -7,7 +7,7 @@ use denote.Ref.{now}
 use Rattle.table.specs.NameSet.{setOf}
 use Rattle.ale.specs.Tree.{nil}
 use Rattle.countermodel.specs.Refuting.{againstTop}
-use Rattle.countermodel.proofs.Models.{checked-has}
+use Rattle.homomorphism.proofs.Searches.{checked-has}
 use Rattle.countermodel.proofs.Refutings.{top-all, top-inside, top-none, top-some, top-zero, topBelow}
 use Rattle.countermodel.proofs.RefutingTurns.{begun-top, begun-top-holds, begun-top-lacks, edge-room, edge-written, leaf-written, tree-here}
 use Prim.Native.Nat.{ℕ, _<_, _+_, _-_}

@@ -7,7 +7,7 @@ use borrow.Author.Needs.{needs}
 use denote.Ref.{now}
 use lib.Dec.{eqb}
 use Rattle.table.specs.Pick.{pick}
-use Rattle.countermodel.proofs.Models.{checked-has}
+use Rattle.homomorphism.proofs.Searches.{checked-has}
 use Rattle.countermodel.proofs.RefutingTurns.{ValueAt, value-end, value-found, value-less, value-next, value-start}
 use Rattle.countermodel.proofs.refute.value_row.Statement.{statement}
 use Rattle.countermodel.proofs.refute.value_row.Tie as tie

@@ -11,7 +11,7 @@ use lib.Dec.{eqb}
 use Rattle.table.specs.NameSet.{setOf}
 use Rattle.table.specs.Pick.{pick}
 use Rattle.countermodel.proofs.Canonicals.{canonical-end, canonical-here, canonical-next, canonical-none, canonical-room, canonical-skip, canonical-split, canonical-start, canonical-turn, canonical-written, canonicalRows}
-use Rattle.countermodel.proofs.Models.{checked-has}
+use Rattle.homomorphism.proofs.Searches.{checked-has}
 use Rattle.countermodel.proofs.Walks.{WalkAt, walk-shorter}
 use Rattle.countermodel.proofs.writer.write_canonical.Reads as write-canonical
 use Rattle.countermodel.proofs.writer.write_canonical.Kinds as write-canonical-kinds
