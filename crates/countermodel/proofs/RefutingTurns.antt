@@ -41,9 +41,9 @@ use Rattle.table.specs.Put.{put}
 use Rattle.countermodel.specs.Layout.{individualPlace, individualSize, mostIndividuals}
 use Rattle.countermodel.specs.Refuting.{againstTop, againstTree, canonicalBelow, falsifiedBelow, firstValue, reachedAll, reachedTree, realizedBelow, realizedRows, valueRow, wantedWithin}
 use Rattle.countermodel.specs.Writing.{RefutationRoom, Room, Written, individualBytes, individualsOf, refutationFile}
-use Rattle.homomorphism.proofs.Walks.{chain-less}
+use Rattle.homomorphism.proofs.Walks.{chain-less, successors-ahead}
 use Rattle.countermodel.proofs.Refutings.{against-below, against-holds, against-lacks, realized-split, top-below, top-holds, top-lacks, topBelow}
-use Rattle.countermodel.proofs.Walks.{WalkAt, successors-ahead, walk-end, walk-start}
+use Rattle.countermodel.proofs.Walks.{WalkAt, walk-end, walk-start}
 use Rattle.countermodel.proofs.Writings.{length-individuals, room-here, room-left, room-node, room-right, room-same, written-append, written-node, written-none, written-same}
 
 -- ---- the same individuals

@@ -45,7 +45,8 @@ use Rattle.table.specs.Layout.{kindExists, kindForAll, nameCount}
 use Rattle.table.specs.NameSet.{none, subset}
 use Rattle.table.specs.Pick.{pick}
 use Rattle.countermodel.specs.Refuting.{againstTop, againstTree, againstValue, canonicalBelow, canonicalTree, falsifiedBelow, firstValue, realizedBelow, realizedRows, valueRow, wantedWithin}
-use Rattle.countermodel.proofs.Walks.{Split, successors-ahead}
+use Rattle.homomorphism.proofs.Walks.{successors-ahead}
+use Rattle.countermodel.proofs.Walks.{Split}
 
 -- ---- the rows that hang from a row
 

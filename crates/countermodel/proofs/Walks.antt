@@ -1,5 +1,4 @@
 -- A walk along the rows that hang from row u writes the individuals that a function f gives for each of them, one row after the other.
---   successors-ahead         it has all of them ahead at first
 --   Split                    f of a row and others is f of the row, and then f of the others; f of none is none
 --   WalkAt                   at row v: so far everything before it was written, there is room for what is ahead, and that will complete it
 --   walk-start               before the first turn
@@ -14,28 +13,20 @@ use mathlib.Core.List.{List, [], _++_, _∷_}
 use mathlib.Core.Path.{_∙_, _≡_, ap, refl, sym}
 use Rattle.ale.proofs.Appends.{encodeForest-append}
 use Rattle.ale.proofs.Encodings.{encodeForest-length}
-use Rattle.ale.proofs.LinkLists.{OnChain, ahead, chain-first, chain-next, chain-on-first, chain-on-next, childOf}
+use Rattle.ale.proofs.LinkLists.{OnChain, ahead, chain-next, chain-on-first, chain-on-next}
 use Rattle.ale.specs.Forest.{append}
 use Rattle.ale.specs.PictureSignature.{pictureSignature}
-use Rattle.ale.specs.Rows.{filterBelow}
 use Rattle.ale.specs.Table.{successorRows}
 use Rattle.ale.specs.Tree.{Forest, nil}
 use Rattle.homomorphism.specs.Search.{LinkedTable}
 use Rattle.meaning.specs.Meaning.{pictureTable}
-use Rattle.picture.specs.View.{viewOf}
 use Rattle.table.specs.Bounds.{maxRows}
 use Rattle.table.specs.Fields.{parentOf}
 use Rattle.table.specs.Pick.{pick}
 use Rattle.countermodel.specs.Refuting.{reachedAll}
 use Rattle.countermodel.specs.Writing.{Room, Written}
-use Rattle.homomorphism.proofs.Walks.{chain-less}
+use Rattle.homomorphism.proofs.Walks.{chain-less, successors-ahead}
 use Rattle.countermodel.proofs.Writings.{room-left, room-right, room-same, written-append, written-kept, written-none, written-same}
-
-pub successors-ahead : (s links : List ℕ) (rows u : ℕ) → LinkedTable s rows links → u < rows →
-    successorRows pictureSignature (pictureTable s) u ≡ ahead (parentOf s) rows u (getD links u 0)
-unfolding viewOf
-successors-ahead s links rows u table l =
-    ap (λ m. filterBelow (childOf (parentOf s) u) m) (sym (table .checked .counted)) ∙ chain-first (parentOf s) rows u maxRows links (table .linked) l
 
 pub record Split (f : List ℕ → Forest pictureSignature) : Type 0 where
   pub none : f [] ≡ nil

@@ -1,34 +1,13 @@
--- What the code checks evidence against: two tables as bytes, and where they stand in the work space. Nobody has to believe these.
---   checkIn             the answer from the two tables alone: their trees in the place of the pictures'
---   firstIn, secondIn   the tables of so many rows in the work space
---   TablesIn            they are there, each as the code needs it
-use Prim.Native.Nat.{ℕ, _≤_}
-use lib.ListN.{drop, length, take}
+-- What the code checks evidence against: two tables as bytes. Nobody has to believe this.
+--   checkIn   the answer from the two tables alone: their trees in the place of the pictures'
+use Prim.Native.Nat.{ℕ}
 use mathlib.Core.List.{List}
-use Rattle.table.specs.Bounds.{pictureSize}
-use Rattle.table.specs.Layout.{endSize, «place»}
 use Rattle.table.specs.declared.layout.Limits.{Limits}
 use Rattle.meaning.specs.Meaning.{pictureTable}
-use Rattle.normal.specs.Rows.{Checked}
 use Rattle.countermodel.specs.Model.{rowTree}
-use Rattle.workspace.specs.Prepare.{workSize}
-use Rattle.workspace.specs.declared.prepare.Pair.{Pair}
 use Rattle.evidence.specs.declared.check.Verified.{Verified}
 use Rattle.evidence.specs.Check.{checkAnswer}
 
 unfoldable pub checkIn : Limits → List ℕ → List ℕ → List ℕ → Verified
 checkIn limits first second e =
     checkAnswer limits (pictureTable first) (pictureTable second) (rowTree (pictureTable first) 0) (rowTree (pictureTable second) 0) e
-
-abbrev pub firstIn : Pair → List ℕ → List ℕ
-firstIn pair work = take (place (pair .first) endSize) work
-
-abbrev pub secondIn : Limits → Pair → List ℕ → List ℕ
-secondIn limits pair work = take (place (pair .second) endSize) (drop (pictureSize limits) work)
-
-pub record TablesIn (limits : Limits) (work : List ℕ) (pair : Pair) : Type 0 where
-  pub room : workSize limits ≤ length work
-  pub first-fits : place (pair .first) endSize ≤ pictureSize limits
-  pub second-fits : place (pair .second) endSize ≤ pictureSize limits
-  pub first-checked : Checked (firstIn pair work) (pair .first)
-  pub second-checked : Checked (secondIn limits pair work) (pair .second)

@@ -14,7 +14,8 @@ ghost use mathlib.Core.Path.{_≡_};
 ghost use Prim.Native.Nat.{ℕ};
 ghost use lib.ListN.{length};
 ghost use Rattle.table.specs.Bounds.{Bounded};
-ghost use Rattle.evidence.specs.Tables.{TablesIn, checkIn, firstIn, secondIn};
+ghost use Rattle.workspace.specs.Tables.{TablesIn, firstIn, secondIn};
+ghost use Rattle.evidence.specs.Tables.{checkIn};
 ghost use Rattle.evidence.specs.Call.{verifyAnswer, verifyWork};
 
 // The evidence against the tables in the work space.

@@ -3,6 +3,7 @@
 --   first-filtered                           the first of a range that passes two tests: of those that pass one, the first that passes the other
 --   first-failing                            the first that fails a test passes its opposite
 --   chain-less                               a walk along a chain rises, so it ends
+--   successors-ahead                         at first it has all rows that hang from a row of a table ahead
 --   WalkAt                                   a walk that is at row j: what is found is the first of the rows that are still ahead
 --   walk-start, walk-next, walk-less         before the loop, and one turn more, which brings its end nearer
 --   walk-found, walk-end                     where it stops
@@ -12,15 +13,21 @@ use lib.Dec.{eqb}
 use lib.ListN.{getD}
 use mathlib.Core.Bool.{Bool, _&&_, false, not, true}
 use mathlib.Core.List.{List, [], _∷_}
-use mathlib.Core.Path.{_∙_, _≡_, ap, refl}
+use mathlib.Core.Path.{_∙_, _≡_, ap, refl, sym}
 use native.Mathlib.Omega.{arith}
 use Rattle.table.proofs.Bools.{by-test}
 use Rattle.table.proofs.Links as rising
+use Rattle.table.specs.Bounds.{maxRows}
+use Rattle.table.specs.Fields.{parentOf}
 use Rattle.table.specs.Links.{Linked}
 use Rattle.table.specs.Pick.{pick}
 use Rattle.ale.proofs.LinkLists.{OnChain, ahead, chain-first, chain-next, chain-on-first, chain-on-next, chain-rises, childOf}
+use Rattle.ale.specs.PictureSignature.{pictureSignature}
 use Rattle.ale.specs.Rows.{filterBelow, filterFrom, firstFrom}
-use Rattle.homomorphism.specs.Search.{firstFailing}
+use Rattle.ale.specs.Table.{successorRows}
+use Rattle.meaning.specs.Meaning.{pictureTable}
+use Rattle.picture.specs.View.{viewOf}
+use Rattle.homomorphism.specs.Search.{LinkedTable, firstFailing}
 
 abbrev pub firstOf : (ℕ → Bool) → List ℕ → ℕ → ℕ
 firstOf q [] none = none
@@ -37,6 +44,13 @@ pub first-failing : (f q : ℕ → Bool) → ((v : ℕ) → f v ≡ not (q v)) �
 first-failing f q opposite [] = refl
 first-failing f q opposite (v ∷ s) =
     rw (opposite v) (by-test (q v) (λ e. rw e) (λ e. rw e (first-failing f q opposite s)))
+
+-- at first a walk has all rows that hang from row u ahead
+pub successors-ahead : (s links : List ℕ) (rows u : ℕ) → LinkedTable s rows links → u < rows →
+    successorRows pictureSignature (pictureTable s) u ≡ ahead (parentOf s) rows u (getD links u 0)
+unfolding viewOf
+successors-ahead s links rows u table l =
+    ap (λ m. filterBelow (childOf (parentOf s) u) m) (sym (table .checked .counted)) ∙ chain-first (parentOf s) rows u maxRows links (table .linked) l
 
 -- a walk along a chain rises, so it ends
 pub chain-less : (parent : ℕ → ℕ) (rows c width : ℕ) (links : List ℕ) → Linked parent rows width links → (j : ℕ) → (j ≡ 0 → ⊥) →

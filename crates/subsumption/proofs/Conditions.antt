@@ -7,7 +7,7 @@
 -- inputs are lists of any numbers, bytes among them; where evidence is said to exist, or is written, it is bytes. The trees of `Covers` are read down to the
 -- depth limit, below which a readable picture has no row (meaning, proofs/Pictures: `picture-whole`).
 --
---   Covers                the second picture covers the first: 003, Definition 1, with Table 1's extensions, over finite interpretations
+--   Covers                the second picture covers the first: 003, Definition 1, with Table 1's extensions, over finite interpretations (meaning, specs/Covering)
 --   any-interpretation    a positive count and any tables for names and roles are an interpretation: what else the record asks, that roles respect their
 --                         inclusion, asks nothing where inclusion is equality
 --   SaysYes, SaysNo       the verdict is yes, is no, with evidence of a length
@@ -24,13 +24,13 @@ use mathlib.Core.List.{List}
 use mathlib.Core.Logic.{_↔_, _⊎_, inl, inr}
 use mathlib.Core.Path.{_≡_, refl, subst, sym}
 use native.Mathlib.Omega.{arith}
-use Rattle.ale.specs.Concept.{ConceptSubsumed, conceptOf}
 use Rattle.ale.specs.Interpretation.{Interpretation}
 use Rattle.ale.specs.PictureSignature.{pictureSignature}
 use Rattle.countermodel.specs.Individual.{refutationForm}
 use Rattle.evidence.specs.Call.{verifyAnswer}
 use Rattle.evidence.specs.Form.{mapForm}
-use Rattle.meaning.specs.Meaning.{pictureTable, pictureTree}
+use Rattle.meaning.specs.Covering.{Covers}
+use Rattle.meaning.specs.Meaning.{pictureTable}
 use Rattle.meaning.specs.NormalTable.{normalFile}
 use Rattle.table.proofs.Bools.{by-test}
 use Rattle.table.specs.Bounds.{Bounded, benchLimits}
@@ -44,10 +44,6 @@ use Rattle.subsumption.specs.Call.{subsumesAnswer, subsumesResult}
 use Rattle.subsumption.specs.Verdict.{evidenceOf, evidenceSize, verdictOf}
 use Rattle.subsumption.proofs.Answers.{answered-no, answered-yes, evidence-read, no-subsumes, yes-subsumes}
 use Rattle.subsumption.proofs.Writers.{evidence-bytes, evidence-size, map-covers, no-form, no-refutation, no-verify, refutation-fails, verdict-covers, verdict-fails, yes-form, yes-verify}
-
-abbrev pub Covers : Limits → List ℕ → List ℕ → Type 0
-Covers limits second first =
-    ConceptSubsumed pictureSignature (conceptOf pictureSignature (pictureTree limits first)) (conceptOf pictureSignature (pictureTree limits second))
 
 pub any-interpretation : (count : ℕ) → 0 < count → (holds : ℕ → ℕ → Bool) (edge : ℕ → ℕ → ℕ → Bool) →
     (I : Interpretation pictureSignature) × (I .count ≡ count) × (I .holds ≡ holds) × (I .edge ≡ edge)

@@ -22,8 +22,8 @@ use Rattle.ale.specs.RowMap.{image}
 use Rattle.countermodel.proofs.Individuals.{within-most}
 use Rattle.countermodel.specs.Refuting.{againstTree}
 use Rattle.countermodel.specs.Writing.{RefutationRoom, refutationFile}
-use Rattle.evidence.proofs.CheckLaws.{prepared-first, prepared-pair, prepared-second}
-use Rattle.evidence.specs.Tables.{firstIn, secondIn}
+use Rattle.workspace.proofs.TablesIn.{prepared-first, prepared-pair, prepared-second}
+use Rattle.workspace.specs.Tables.{firstIn, secondIn}
 use Rattle.homomorphism.proofs.Maps.{length-mapFile}
 use Rattle.homomorphism.specs.Layout.{imagePlace}
 use Rattle.homomorphism.specs.Map.{lowestMap}

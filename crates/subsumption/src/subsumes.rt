@@ -17,7 +17,7 @@ ghost use Prim.Native.Nat.{ℕ};
 ghost use lib.ListN.{length};
 ghost use Rattle.table.specs.Bounds.{Bounded};
 ghost use Rattle.table.specs.Put.{put};
-ghost use Rattle.evidence.specs.Tables.{TablesIn, firstIn, secondIn};
+ghost use Rattle.workspace.specs.Tables.{TablesIn, firstIn, secondIn};
 ghost use Rattle.subsumption.specs.Call.{roomy, subsumesAnswer, subsumesResult, subsumesWork};
 ghost use Rattle.subsumption.specs.Tables.{Settled, evidenceIn, verdictIn};
 

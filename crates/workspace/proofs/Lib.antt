@@ -3,4 +3,5 @@
 pub mod Halves
 -- the answer and the work space after it
 pub mod Preparations
+pub mod TablesIn
 pub mod Sizes

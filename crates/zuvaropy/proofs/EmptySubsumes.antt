@@ -35,7 +35,7 @@ use Rattle.picture.specs.Questions.{endField, fieldAt, kindOk, lengthFor, paren
 use Rattle.picture.specs.Read.{readingOf, scanFrom}
 use Rattle.picture.specs.View.{Readable, rowCount, viewOf}
 use Rattle.subsumption.proofs.Answers.{acceptable-result, yes-subsumes}
-use Rattle.subsumption.proofs.Conditions.{Covers}
+use Rattle.meaning.specs.Covering.{Covers}
 use Rattle.subsumption.proofs.Writers.{verdict-covers}
 use Rattle.subsumption.specs.Verdict.{evidenceOf, mapOf, verdictOf}
 use Rattle.table.specs.Bounds.{benchLimits, maxRows}

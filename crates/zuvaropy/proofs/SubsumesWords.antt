@@ -36,7 +36,8 @@ use Rattle.workspace.proofs.Preparations.{halves-same}
 use Rattle.workspace.specs.Prepare.{Acceptable, halvesPut, workSize}
 use Rattle.evidence.specs.declared.check.Verified.the-variants as verified
 use Rattle.subsumption.proofs.Answers.{Answered, TooShort, acceptable-result, acceptable-subsumes, acceptable-work, answered-no, answered-yes, evidence-read, refused-result, refused-subsumes, refused-work, result-kept, result-past, short-result, short-subsumes, short-work, work-kept, work-past, work-verify}
-use Rattle.subsumption.proofs.Conditions.{Covers, condition-2-verdict}
+use Rattle.meaning.specs.Covering.{Covers}
+use Rattle.subsumption.proofs.Conditions.{condition-2-verdict}
 use Rattle.subsumption.proofs.Refusals.{subsumes-refusal}
 use Rattle.subsumption.proofs.Writers.{evidence-size, no-verify, verdict-covers, verdict-fails, yes-verify}
 use Rattle.subsumption.specs.Call.{subsumesAnswer, subsumesResult, subsumesWork, verdictAnswer}

@@ -6,8 +6,9 @@ use lib.ListN.{drop, take}
 use lib.Seq.{length-take-le}
 use Prim.Native.Nat.{_+_, _-_}
 use Rattle.normal.specs.Rows.{Checked}
-use Rattle.evidence.specs.Tables.{firstIn, secondIn}
-use Rattle.evidence.proofs.CheckLaws.{check-parts, first-part, second-part}
+use Rattle.workspace.specs.Tables.{firstIn, secondIn}
+use Rattle.workspace.proofs.TablesIn.{first-part, second-part}
+use Rattle.evidence.proofs.CheckLaws.{check-parts}
 use borrow.Author.Needs.{needs}
 use Rattle.evidence.proofs.verify.check_in.Statement.{statement}
 use Rattle.evidence.proofs.verify.check_in.Tie as tie

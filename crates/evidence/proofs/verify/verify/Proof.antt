@@ -6,7 +6,8 @@ use denote.Ref.{now}
 use lib.ListN.{length}
 use Rattle.workspace.specs.Prepare.{workSize}
 use Rattle.workspace.specs.declared.prepare.Prepared.the-variants.{Refused, Tables}
-use Rattle.evidence.proofs.CheckLaws.{prepared-check, prepared-in}
+use Rattle.workspace.proofs.TablesIn.{prepared-in}
+use Rattle.evidence.proofs.CheckLaws.{prepared-check}
 use Rattle.evidence.proofs.Verifications.{prepared-verify, prepared-work, short-verify, short-work}
 use borrow.Author.Needs.{needs}
 use Rattle.evidence.proofs.verify.verify.Statement.{statement}

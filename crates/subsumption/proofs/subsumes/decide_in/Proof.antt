@@ -7,8 +7,8 @@ use lib.Seq.{length-take-le}
 use mathlib.Core.Path.{_≡_, sym}
 use Rattle.table.specs.Put.{put}
 use Rattle.normal.specs.Rows.{Checked}
-use Rattle.evidence.proofs.CheckLaws.{first-part, second-part}
-use Rattle.evidence.specs.Tables.{firstIn, secondIn}
+use Rattle.workspace.proofs.TablesIn.{first-part, second-part}
+use Rattle.workspace.specs.Tables.{firstIn, secondIn}
 use Rattle.subsumption.specs.Tables.{Settled, evidenceIn, verdictIn}
 use Rattle.subsumption.proofs.Decisions.{of-parts}
 use borrow.Author.Needs.{needs}

@@ -4,7 +4,7 @@ use denote.Ref.{now}
 use lib.ListN.{length}
 use mathlib.Core.Path.{_∙_, sym}
 use Rattle.workspace.specs.declared.prepare.Prepared.the-variants.{Refused, Tables}
-use Rattle.evidence.proofs.CheckLaws.{prepared-in}
+use Rattle.workspace.proofs.TablesIn.{prepared-in}
 use Rattle.subsumption.proofs.Answers.{room-both}
 use Rattle.subsumption.proofs.Decisions.{prepared-call, prepared-decided, prepared-settled, short-call}
 use borrow.Author.Needs.{needs}

@@ -1,0 +1,1 @@
+-- The laws of the common picture, by subject.
