@@ -1,15 +1,17 @@
 -- Forests one after the other: what is counted, tidied, encoded and tested of the whole is that of its parts.
---   forest-nil                    appending nothing
+--   forest-nil, forest-assoc      appending nothing; in which order forests are appended
+--   consReduced-append            one successor more, unless it is dropped
 --   sizes-append                  nodes
 --   tidyAll-append                tidying
 --   any-append                    a test of some successor
 --   encodeForest-append           rows
 --   byRole-more, byRole-same      further roles add nodes; roles without successors add nothing
+--   byRole-first                  what the first role with successors has more in front, the whole has in front
 use Prim.Native.Nat.{_+_, _<_, _≤_, suc, zero, ℕ}
 use mathlib.Core.Bool.{Bool, _||_, false, true}
 use mathlib.Core.List.{_++_, append-assoc}
 use mathlib.Core.Logic.{⊎-elim}
-use mathlib.Core.Path.{_∙_, _≡_, ap, refl, sym}
+use mathlib.Core.Path.{_∙_, _≡_, ap, ap₂, refl, subst, sym}
 use native.Mathlib.Nat.{eq-or-lt-of-le}
 use native.Mathlib.Omega.{arith}
 use Rattle.table.proofs.Bools.{or-assoc}
@@ -25,11 +27,15 @@ module _ (S : Signature) where
   forest-nil nil = refl
   forest-nil (cons k r t f) = ap (cons k r t) (forest-nil f)
 
+  pub forest-assoc : (f g h : Forest S) → append S (append S f g) h ≡ append S f (append S g h)
+  forest-assoc nil g h = refl
+  forest-assoc (cons k r t f) g h = ap (cons k r t) (forest-assoc f g h)
+
   pub sizes-append : (f g : Forest S) → sizes S (append S f g) ≡ sizes S f + sizes S g
   sizes-append nil g = omega arith
   sizes-append (cons k r t f) g = omega (arith, sizes-append f g)
 
-  consReduced-append : (k : Kind) (r : ℕ) (t : Tree S) (f g : Forest S) (b : Bool) →
+  pub consReduced-append : (k : Kind) (r : ℕ) (t : Tree S) (f g : Forest S) (b : Bool) →
       pick b (append S f g) (cons k r t (append S f g)) ≡ append S (pick b f (cons k r t f)) g
   consReduced-append k r t f g true = refl
   consReduced-append k r t f g false = refl
@@ -66,3 +72,16 @@ module _ (S : Signature) where
         ∙ forest-nil (byRole S h n)
         ∙ byRole-same m n (omega arith) (λ r i j. e r i (omega arith)))
         (eq-or-lt-of-le {n = m} {m = suc n} l)
+
+  pub byRole-first : (h h′ : ℕ → Forest S) (r : ℕ) (e : Forest S) → ((s : ℕ) → s < r → h s ≡ nil) → ((s : ℕ) → (s ≡ r → ⊥) → h′ s ≡ h s) →
+      h′ r ≡ append S e (h r) → (n : ℕ) → r < n → byRole S h′ n ≡ append S e (byRole S h n)
+  byRole-first h h′ r e none other on zero l = absurd (omega arith)
+  byRole-first h h′ r e none other on (suc n) l =
+      ⊎-elim
+      (λ z.
+      let empty = byRole-same h 0 n (omega arith) (λ s _ j. none s (omega arith)) in
+      let empty′ = byRole-same h′ 0 n (omega arith) (λ s _ j. other s (λ q. omega arith) ∙ none s (omega arith)) in
+      ap₂ (λ x y. append S x y) empty′ (subst (λ s. h′ s ≡ append S e (h s)) z on) ∙ ap (λ x. append S e (append S x (h n))) (sym empty))
+      (λ b.
+      ap₂ (λ x y. append S x y) (byRole-first h h′ r e none other on n b) (other n (λ q. omega arith)) ∙ forest-assoc e (byRole S h n) (h n))
+      (eq-or-lt-of-le {n = r} {m = n} (omega arith))
