@@ -1,4 +1,5 @@
 -- Laws of what a function that writes merged rows has done, over any forest.
+--   rows-append    the rows of two forests, one after the other
 --   grown-nil      nothing
 --   grown-append   one forest after another
 --   grown-same     the same forest
@@ -31,7 +32,7 @@ use Rattle.normal.specs.declared.label.Label.{Label}
 use Rattle.normal.specs.declared.node.Branch.{Branch}
 
 -- the rows of two forests, one after the other
-rows-append : (f g : Forest pictureSignature) (p o : ℕ) → rowsFrom o (encodeForest pictureSignature (append pictureSignature f g) p o) ≡ rowsFrom o (encodeForest pictureSignature f p o) ++ rowsFrom (o + sizes pictureSignature f) (encodeForest pictureSignature g p (o + sizes pictureSignature f))
+pub rows-append : (f g : Forest pictureSignature) (p o : ℕ) → rowsFrom o (encodeForest pictureSignature (append pictureSignature f g) p o) ≡ rowsFrom o (encodeForest pictureSignature f p o) ++ rowsFrom (o + sizes pictureSignature f) (encodeForest pictureSignature g p (o + sizes pictureSignature f))
 rows-append f g p o =
     ap (rowsFrom o) (encodeForest-append pictureSignature f g p o)
     ∙ rowsFrom-append o (encodeForest pictureSignature f p o) (encodeForest pictureSignature g p (o + sizes pictureSignature f))

@@ -1,5 +1,7 @@
 -- A merged row as it is left: isInconsistent, dropped, or with what hangs from it. The tests of the code are those of the theory, over any kind.
---   grown-node   a row that was written, with what hangs from it, and then left, is one successor more
+--   nil-is         no rows were added exactly where there are no successors
+--   dropped-bare   an all-successor is dropped exactly where it has no names and no successors; of a label that is not marked
+--   grown-node     a row that was written, with what hangs from it, and then left, is one successor more
 use Prim.Native.Nat.{_+_, _<_, _≤_, suc, ℕ}
 use lib.Bits.{bitAnd}
 use lib.Dec.{eqb}
@@ -41,7 +43,7 @@ inconsistent-is : (label : Label) (l : tree.Label pictureSignature) (below : Bra
 inconsistent-is label l below g is e =
     rw (is .wanted-is, is .excluded-is, is .bottom-is, e, subset-none (bitAnd (l .wanted .set) (l .excluded .set))) (or-assoc (l .bottom) _ _)
 
-nil-is : (n : ℕ) (g : Forest pictureSignature) → eqb (n + sizes pictureSignature g) n ≡ isNil pictureSignature g
+pub nil-is : (n : ℕ) (g : Forest pictureSignature) → eqb (n + sizes pictureSignature g) n ≡ isNil pictureSignature g
 nil-is n nil = eq-eqb (n + 0) n (omega arith)
 nil-is n (cons k r (node l f) g) = ne-eqb (n + (suc (sizes pictureSignature f) + sizes pictureSignature g)) n (λ e. omega arith)
 
@@ -61,12 +63,16 @@ trivial-is true true n = refl
 trivial-is true false n = refl
 trivial-is false e n = refl
 
+pub dropped-bare : (kind : ℕ) (label : Label) (l : tree.Label pictureSignature) (g : Forest pictureSignature) → LabelIs label l → l .bottom ≡ false → dropped pictureSignature (kindAt kind) (node l g) ≡ (eqb kind kindForAll && (bare label && isNil pictureSignature g))
+dropped-bare kind label l g is possible =
+    by-kind (eqb kind kindForAll) (node l g) (bare label && isNil pictureSignature g)
+    (rw (is .wanted-is, is .excluded-is, possible, subset-none (l .wanted .set), subset-none (l .excluded .set))
+    (trivial-is (eqb (l .wanted .set) 0) (eqb (l .excluded .set) 0) (isNil pictureSignature g)))
+
 dropped-is : (b : Branch) (edge : Edge) (label : Label) (l : tree.Label pictureSignature) (below : Branch) (g : Forest pictureSignature) → LabelIs label l → below .table .rows ≡ b .table .rows + 1 + sizes pictureSignature g → l .bottom ≡ false → isDropped b edge label below ≡ dropped pictureSignature (kindAt (edge .kind)) (node l g)
 dropped-is b edge label l below g is e possible =
-    sym
-    (by-kind (eqb (edge .kind) kindForAll) (node l g) (bare label && eqb (below .table .rows) (b .table .rows + 1))
-    (rw (is .wanted-is, is .excluded-is, e, possible, nil-is (b .table .rows + 1) g, subset-none (l .wanted .set), subset-none (l .excluded .set))
-    (trivial-is (eqb (l .wanted .set) 0) (eqb (l .excluded .set) 0) (isNil pictureSignature g))))
+    ap (λ (c : Bool). eqb (edge .kind) kindForAll && (bare label && c)) (ap (λ (n : ℕ). eqb n (b .table .rows + 1)) e ∙ nil-is (b .table .rows + 1) g)
+    ∙ sym (dropped-bare (edge .kind) label l g is possible)
 
 -- ---- the row as it is left
 
