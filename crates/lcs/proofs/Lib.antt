@@ -1,1 +1,7 @@
 -- The laws of the common picture, by subject.
+-- rows along links, and their order
+pub mod Edges
+pub mod SiblingRows
+-- tables under construction
+pub mod Growth
+pub mod Nodes

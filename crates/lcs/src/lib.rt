@@ -1,2 +1,5 @@
 // The fourth call: the common picture of two pictures, their least common subsumer.
 pub mod common;
+pub mod copy;
+pub mod edge;
+pub mod node;
