@@ -5,3 +5,5 @@ pub mod SiblingRows
 -- tables under construction
 pub mod Growth
 pub mod Nodes
+-- the rows that are copied
+pub mod Copies

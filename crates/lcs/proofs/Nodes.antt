@@ -1,6 +1,7 @@
 -- A row of the common picture as it is written and left. The code's tests are those of the theory, over any kind.
 --   common-is       the label that two have in common
---   pushed-room     once a row is written there is room for what hangs from it; entered-room: or there was none for the row
+--   pushed-length, pushed-room   once a row is written the lent part is as long, and there is room for what hangs from the row
+--   entered-length, entered-room   the same if there was room for the row, or none
 --   grown-row       a row, and then what hangs from it, is one successor more
 --   grown-node      once it is left: one successor more, or none, if it is dropped
 --   grown-stays     one that stays where the table is full
@@ -69,15 +70,15 @@ module _ (limit : ℕ) (b : Builder) (out : List ℕ) (edge : Edge) (label : Lab
   row-length = length-rowOf (edge .parent) (edge .kind) (edge .role) (markCode (eqb (label .bottom) 1)) (setOf (label .wanted)) (setOf (label .excluded))
 
   module _ (fits : at < limit) (entered : Builder) (first : List ℕ) (en : Pushed b out edge label entered first) where
-    first-length : length first ≡ length out
-    first-length = ap length (en .row-put) ∙ length-put out (place at 0) row (omega (arith, room .space, row-length))
+    pub pushed-length : length first ≡ length out
+    pushed-length = ap length (en .row-put) ∙ length-put out (place at 0) row (omega (arith, room .space, row-length))
 
     pub pushed-room : Room limit entered first
-    pushed-room = record { limit-most = room .limit-most; space = omega (arith, room .space, first-length); within = omega (arith, en .one-more) }
+    pushed-room = record { limit-most = room .limit-most; space = omega (arith, room .space, pushed-length); within = omega (arith, en .one-more) }
 
     module _ (f : Forest pictureSignature) (below : Builder) (mid : List ℕ) (gr : Grown limit at entered first f below mid) where
       mid-length : length mid ≡ length out
-      mid-length = gr .same ∙ first-length
+      mid-length = gr .same ∙ pushed-length
 
       -- what stands in the lent part once the rows below are there
       standing : at + 1 + sizes pictureSignature f ≤ limit →
