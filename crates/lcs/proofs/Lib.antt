@@ -7,3 +7,6 @@ pub mod Growth
 pub mod Nodes
 -- the rows that are copied
 pub mod Copies
+-- the rows that are paired
+pub mod Pairings
+pub mod Grafts

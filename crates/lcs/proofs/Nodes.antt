@@ -1,7 +1,7 @@
 -- A row of the common picture as it is written and left. The code's tests are those of the theory, over any kind.
 --   common-is       the label that two have in common
 --   pushed-length, pushed-room   once a row is written the lent part is as long, and there is room for what hangs from the row
---   entered-length, entered-room   the same if there was room for the row, or none
+--   entered-length, entered-room, entered-some   the same if there was room for the row, or none; there is a row
 --   grown-row       a row, and then what hangs from it, is one successor more
 --   grown-node      once it is left: one successor more, or none, if it is dropped
 --   grown-stays     one that stays where the table is full
@@ -18,7 +18,7 @@ use Rattle.table.proofs.Bools.{by-test}
 use Rattle.table.proofs.Puts.{length-put}
 use Rattle.table.proofs.Rows.{length-rowOf}
 use Rattle.table.specs.Fields.{rowOf}
-use Rattle.table.specs.Layout.{kindForAll, «place», rowSize}
+use Rattle.table.specs.Layout.{kindForAll, kindRoot, «place», rowSize}
 use Rattle.table.specs.NameSet.{intersection, setOf}
 use Rattle.table.specs.Pick.{pick}
 use Rattle.table.specs.declared.builder.Builder.{Builder}
@@ -212,14 +212,33 @@ module _ (limit : ℕ) (b : Builder) (out : List ℕ) (edge : Edge) (label : Lab
           (λ c. when-pushed (ltb-true at limit c) (stays edge label) f refl gr)
           (λ c. when-full (ltb-false at limit c) f gr)
 
-  pub entered-room : (entered : Builder) (first : List ℕ) → Entered limit b out edge label entered first → Room limit entered first
-  entered-room entered first en =
-      by-test (ltb at limit)
-      (λ c. pushed-room (ltb-true at limit c) entered first (en .pushed (ltb-true at limit c)))
-      (λ c.
-      let (same, first-is) = en .full (ltb-false at limit c) in
-      record {
-        limit-most = room .limit-most;
-        space = omega (arith, room .space, ap (λ (x : List ℕ). length x) first-is);
-        within = omega (arith, room .within);
-      })
+  module _ (entered : Builder) (first : List ℕ) (en : Entered limit b out edge label entered first) where
+    pub entered-length : length first ≡ length out
+    entered-length =
+        by-test (ltb at limit)
+        (λ c. pushed-length (ltb-true at limit c) entered first (en .pushed (ltb-true at limit c)))
+        (λ c. ap length (en .full (ltb-false at limit c) .1))
+
+    pub entered-room : Room limit entered first
+    entered-room = record {
+      limit-most = room .limit-most;
+      space = omega (arith, room .space, entered-length);
+      within = by-test (ltb at limit)
+          (λ c. pushed-room (ltb-true at limit c) entered first (en .pushed (ltb-true at limit c)) .within)
+          (λ c. omega (arith, room .within, en .full (ltb-false at limit c) .0));
+    }
+
+    -- the root stays: so there is a row, written before or now
+    pub entered-some : (limit ≤ at → stays edge label ≡ false) → 0 < entered .rows
+    entered-some room-or =
+        by-test (ltb at limit)
+        (λ c. omega (arith, (en .pushed (ltb-true at limit c)) .one-more))
+        (λ c.
+        let full = ltb-false at limit c in
+        let all : edge .kind ≡ kindForAll = eqb-true (edge .kind) kindForAll (left-true (eqb (edge .kind) kindForAll) (bare label) (room-or full)) in
+        let hung : ¬ (at ≡ 0) = (λ z. let root : kindRoot ≡ edge .kind = sym (rw (eq-eqb at 0 z)) ∙ code in omega arith) in
+        omega (arith, en .full full .0, hung))
+      where
+        left-true : (x y : Bool) → not (x && y) ≡ false → x ≡ true
+        left-true true y e = refl
+        left-true false y e = sym e

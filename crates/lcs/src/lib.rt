@@ -2,4 +2,5 @@
 pub mod common;
 pub mod copy;
 pub mod edge;
+pub mod graft;
 pub mod node;
