@@ -1,1 +1,3 @@
 -- The laws of the common picture, by subject.
+-- what is written is the least common subsumer
+pub mod Commons
