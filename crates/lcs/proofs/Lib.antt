@@ -1,3 +1,6 @@
 -- The laws of the common picture, by subject.
 -- what is written is the least common subsumer
 pub mod Commons
+-- the call
+pub mod Answers
+pub mod Refusals
