@@ -4,3 +4,5 @@ pub mod Commons
 -- the call
 pub mod Answers
 pub mod Refusals
+-- the condition
+pub mod Conditions
