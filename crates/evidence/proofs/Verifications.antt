@@ -2,12 +2,14 @@
 --   short-verify, prepared-verify       1 is answered no, or the reading and 14 decide
 --   refused-verify, acceptable-verify   a refusal of those is the call's; else 16 to 23 decide
 --   short-work, refused-work, acceptable-work   the work space then
+--   pair-work                           the calls that are lent a result buffer too leave it so, if that is long enough
 --   verify-taken                        an answer other than a refusal is given in no other case
 --   work-past, work-kept                bytes past the two halves keep their contents, whatever the answer; so does the work space's length
 use Prim.Native.Nat.{ℕ, _<_, _≤_}
 use borrow.Author.Tests.{le-leb, leb-true, lt-leb}
 use lib.Dec.{leb}
 use lib.ListN.{getD, length}
+use mathlib.Core.Bool.{and-true}
 use mathlib.Core.List.{List}
 use mathlib.Core.Path.{_≡_, refl}
 use Rattle.table.specs.declared.layout.Limits.{Limits}
@@ -15,6 +17,7 @@ use Rattle.picture.specs.declared.answer.Refusal.{Refusal}
 use Rattle.normal.specs.Call.{shortBuffer}
 use Rattle.workspace.proofs.Lendings.{on-room, room-given}
 use Rattle.workspace.proofs.Preparations.{acceptable-tables, halves-past, length-halves, tablesOf}
+use Rattle.workspace.specs.Lent.{pairWork}
 use Rattle.workspace.specs.Prepare.{Acceptable, halvesPut, onPrepared, prepareAnswer, workSize}
 use Rattle.workspace.specs.declared.prepare.Prepared.{Prepared}
 use Rattle.workspace.specs.declared.prepare.Prepared.the-variants as prepared
@@ -69,6 +72,10 @@ module _ (limits : Limits) (first second work : List ℕ) where
     acceptable-work pair =
         prepared-work (prepared.Tables (tablesOf limits first second))
         (acceptable-tables limits first second pair)
+
+  pub pair-work : (size result : ℕ) → size ≤ result → pairWork limits size first second work result ≡ verifyWork limits first second work
+  unfolding pairWork verifyWork
+  pair-work size result long = rw (le-leb size result long, and-true (leb (workSize limits) (length work)))
 
   pub work-past : (i : ℕ) → workSize limits ≤ i → getD (verifyWork limits first second work) i 0 ≡ getD work i 0
   unfolding verifyWork

@@ -150,7 +150,8 @@ badLength = 0x10 ∷ 0 ∷ 20 ∷ []
 abbrev pub cases : List Case
 cases =
     -- K9, K10, K11
-    told (picture (root 8 ∷ some 0 8 16 ∷ [])) (picture (root 40 ∷ some 0 8 80 ∷ some 0 8 128 ∷ [])) (Length 75) (picture (root 8 ∷ some 0 8 16 ∷ some 0 8 0 ∷ []))
+    told (picture (root 8 ∷ some 0 8 16 ∷ [])) (picture (root 40 ∷ some 0 8 80 ∷ some 0 8 128 ∷ [])) (Length 75)
+    (picture (root 8 ∷ some 0 8 16 ∷ some 0 8 0 ∷ []))
     ∷ told (allOf 8) (allOf 32) (Length 27) empty
     ∷ told noneReached (allOf 32) (Length 51) (allOf 32)
     -- the normal tables are intersected, never the raw ones

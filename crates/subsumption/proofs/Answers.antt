@@ -3,20 +3,16 @@
 --   refused-subsumes, acceptable-subsumes      a refusal by the reading or 14 is the call's; else the verdict is given
 --   yes-subsumes, no-subsumes                  it is yes or no, with the length of the evidence
 --   Answered, answered-yes, answered-no        yes or no with a length is answered in no other case, and with no other length
---   work-verify                                the work space (workspace, proofs/Lendings), if the result buffer is long enough, is what the check leaves in it
---   short-result, refused-result, acceptable-result   the result buffer then
+--   short-result, refused-result, acceptable-result   the result buffer then; the work space is that of every call on two pictures (workspace, proofs/Lendings)
 --   result-past, result-kept                   bytes past the evidence keep their contents, whatever the answer; so does the result buffer's length
 --   evidence-read                              the result buffer's bytes up to the reported length are the evidence
 use Prim.Native.Nat.{_+_, _-_, _≤_, ℕ}
-use borrow.Author.Tests.{le-leb}
-use lib.Dec.{leb}
 use lib.ListN.{drop, getD, length, take}
 use lib.Seq.{take-at}
-use mathlib.Core.Bool.{Bool, and-true, false, true}
+use mathlib.Core.Bool.{Bool, false, true}
 use mathlib.Core.List.{List}
 use mathlib.Core.Path.{_∙_, _≡_, refl, sym}
 use native.Mathlib.Omega.{arith}
-use Rattle.evidence.specs.Call.{verifyWork}
 use Rattle.normal.specs.Call.{shortBuffer}
 use Rattle.table.proofs.Puts.{length-put, put-after}
 use Rattle.table.specs.Bounds.{Bounded}
@@ -27,13 +23,13 @@ use Rattle.picture.specs.declared.answer.Refusal.{Refusal}
 use Rattle.workspace.proofs.Halves.{put-start}
 use Rattle.workspace.proofs.Lendings.{TooShort, on-room, room-both, room-given, room-no, room-yes}
 use Rattle.workspace.proofs.Preparations.{acceptable-tables, tablesOf}
-use Rattle.workspace.specs.Lent.{pairWork, roomy}
+use Rattle.workspace.specs.Lent.{roomy}
 use Rattle.workspace.specs.Prepare.{Acceptable, prepareAnswer, workSize}
 use Rattle.workspace.specs.declared.prepare.Prepared.{Prepared}
 use Rattle.workspace.specs.declared.prepare.Prepared.the-variants as prepared
 use Rattle.subsumption.specs.declared.verdict.Verdict.{Verdict}
 use Rattle.subsumption.specs.declared.verdict.Verdict.the-variants.{No, Refused, Yes}
-use Rattle.subsumption.specs.Call.{onVerdict, subsumesAnswer, subsumesResult, subsumesWork, verdictAnswer}
+use Rattle.subsumption.specs.Call.{onVerdict, subsumesAnswer, subsumesResult, verdictAnswer}
 use Rattle.subsumption.specs.Verdict.{evidenceOf, evidenceSize, verdictOf}
 use Rattle.subsumption.proofs.Writers.{evidence-size}
 
@@ -110,13 +106,6 @@ module _ (limits : Limits) (first second : List ℕ) (work result : ℕ) where
         let (verdict, size) = no-verdict (verdictOf limits first second) (length (evidenceOf limits first second)) same in
         record { work-long = enough; result-long = long; pair = pair; verdict-is = verdict; length-is = size }
 
--- ---- the work space
-
-pub work-verify : (limits : Limits) (first second work : List ℕ) (result : ℕ) → evidenceSize limits ≤ result →
-    subsumesWork limits first second work result ≡ verifyWork limits first second work
-unfolding pairWork verifyWork
-work-verify limits first second work result long = rw (le-leb (evidenceSize limits) result long, and-true (leb (workSize limits) (length work)))
-
 -- ---- the result buffer
 
 module _ (limits : Limits) (first second : List ℕ) (work : ℕ) (result : List ℕ) where
@@ -149,7 +138,9 @@ module _ (limits : Limits) (first second : List ℕ) (work : ℕ) (result : List
   result-kept bounded =
       let e = evidenceOf limits first second in
       on-room limits first second (λ l. length l ≡ length result) result (put result 0 e) (roomy limits (evidenceSize limits) work (length result)) refl
-      (λ room pair. length-put result 0 e (omega (arith, evidence-size limits first second bounded pair, room-both limits (evidenceSize limits) work (length result) room .1)))
+      (λ room pair.
+      length-put result 0 e
+      (omega (arith, evidence-size limits first second bounded pair, room-both limits (evidenceSize limits) work (length result) room .1)))
 
   pub evidence-read : (verdict : Bool) (n : ℕ) → Answered limits first second work (length result) verdict n →
       take n (subsumesResult limits first second work result) ≡ evidenceOf limits first second

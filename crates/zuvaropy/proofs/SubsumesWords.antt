@@ -35,8 +35,9 @@ use Rattle.normal.specs.Half.{halfOf}
 use Rattle.workspace.proofs.Lendings.{TooShort, acceptable-work, refused-work, short-work, work-kept, work-past}
 use Rattle.workspace.proofs.Preparations.{halves-same}
 use Rattle.workspace.specs.Prepare.{Acceptable, halvesPut, workSize}
+use Rattle.evidence.proofs.Verifications.{pair-work}
 use Rattle.evidence.specs.declared.check.Verified.the-variants as verified
-use Rattle.subsumption.proofs.Answers.{Answered, acceptable-result, acceptable-subsumes, answered-no, answered-yes, evidence-read, refused-result, refused-subsumes, result-kept, result-past, short-result, short-subsumes, work-verify}
+use Rattle.subsumption.proofs.Answers.{Answered, acceptable-result, acceptable-subsumes, answered-no, answered-yes, evidence-read, refused-result, refused-subsumes, result-kept, result-past, short-result, short-subsumes}
 use Rattle.meaning.specs.Covering.{Covers}
 use Rattle.subsumption.proofs.Conditions.{condition-2-verdict}
 use Rattle.subsumption.proofs.Refusals.{subsumes-refusal}
@@ -70,7 +71,7 @@ module _ (first second work result : List ℕ) where
 
   pub subsumes-space : evidenceSize benchLimits ≤ length result → subsumesSpace first second work (length result) ≡ verifySpace first second work
   unfolding subsumesSpace verifySpace
-  subsumes-space long = work-verify benchLimits first second work (length result) long
+  subsumes-space long = pair-work benchLimits first second work (evidenceSize benchLimits) (length result) long
 
   module _ (enough : workSize benchLimits ≤ length work) (long : evidenceSize benchLimits ≤ length result) where
     pub subsumes-refuses : Refusals first second Refuses
