@@ -1,12 +1,12 @@
 -- Which refusals the fifth call gives: 1 names the buffer, 2 to 14 one of the two pictures, 16 to 23 the evidence; there is no other.
---   Concerns                        the numbers by which an input can be refused
---   Known, Prepares, prepare-known  so is every refusal of a pair by 2 to 14
---   verify-refusal                  and every refusal of the call
+--   Named            1 to 14 as in every call on two pictures (workspace, proofs/PairRefusals), or 16 to 23 and the evidence
+--   verify-refusal   so is every refusal of the call
 use Prim.Native.Nat.{ℕ, zero, suc, _+_, _≤_}
 use native.Mathlib.Omega.{arith}
 use lib.Dec.{eqb, leb, ltb}
 use mathlib.Core.Bool.{Bool, false, not, true}
 use mathlib.Core.List.{List}
+use mathlib.Core.Logic.{_⊎_, inl, inr}
 use mathlib.Core.Path.{_≡_, refl, subst}
 use Rattle.table.specs.Pick.{pick}
 use Rattle.table.specs.Range.{each}
@@ -16,21 +16,16 @@ use Rattle.ale.specs.PictureSignature.{pictureSignature}
 use Rattle.ale.specs.RowMap.{edgeAgrees, labelAgrees}
 use Rattle.ale.specs.Table.{Table}
 use Rattle.ale.specs.Tree.{Tree}
-use Rattle.picture.proofs.Readables.{reading-number}
-use Rattle.picture.specs.Read.{answerOf, answered, readingOf}
-use Rattle.picture.specs.declared.answer.Input.{Input}
-use Rattle.picture.specs.declared.answer.Input.the-variants.{Book, Buffer, Card, Evidence, First, Second}
+use Rattle.picture.specs.declared.answer.Input.the-variants.{Evidence}
 use Rattle.picture.specs.declared.answer.Refusal.{Refusal}
-use Rattle.picture.specs.declared.read.Reading.{Reading}
-use Rattle.picture.specs.declared.read.Reading.the-variants as reading
 use Rattle.meaning.specs.Meaning.{pictureTable, pictureTree}
-use Rattle.meaning.specs.NormalTable.{mergedCount, normalFile}
-use Rattle.normal.specs.Call.{shortBuffer, tooMany}
+use Rattle.meaning.specs.NormalTable.{normalFile}
+use Rattle.normal.specs.Call.{shortBuffer}
 use Rattle.countermodel.specs.Individual.{individualOk}
 use Rattle.countermodel.specs.Layout.{individualCount}
 use Rattle.countermodel.specs.Model.{modelTree}
-use Rattle.workspace.proofs.Preparations.{tablesOf}
-use Rattle.workspace.specs.Prepare.{afterReading, mergedAsked, prepareAnswer, workSize}
+use Rattle.workspace.proofs.PairRefusals.{Concerns, Known, Prepares, prepare-known, short-known}
+use Rattle.workspace.specs.Prepare.{prepareAnswer, workSize}
 use Rattle.workspace.specs.declared.prepare.Prepared.{Prepared}
 use Rattle.workspace.specs.declared.prepare.Prepared.the-variants as prepared
 use Rattle.evidence.specs.Call.{evidenceAnswer, onPair, verifyAnswer}
@@ -45,33 +40,21 @@ use Rattle.evidence.specs.declared.check.Verified.the-variants.{MapTaken
 use Rattle.evidence.specs.declared.form.Form.{Form}
 use Rattle.evidence.specs.declared.form.Form.the-variants.{Map, Neither, Refutation}
 
-abbrev pub Concerns : Input → ℕ → Type 0
-Concerns Buffer number = number ≡ 1
-Concerns First number = (2 ≤ number) × (number ≤ 14)
-Concerns Second number = (2 ≤ number) × (number ≤ 14)
-Concerns Evidence number = (16 ≤ number) × (number ≤ 23)
-Concerns Book number = ⊥
-Concerns (Card n) number = ⊥
-
-abbrev pub Known : Refusal → Type 0
-Known r = Concerns (r .input) (r .number)
+abbrev pub Named : Refusal → Type 0
+Named r = Known r ⊎ Concerns r Evidence 16 23
 
 abbrev Numbered : Asked → Type 0
 Numbered Yes = Unit
-Numbered (No number) = Concerns Evidence number
+Numbered (No number) = (16 ≤ number) × (number ≤ 23)
 
 abbrev Answers : Verified → Type 0
 Answers MapTaken = Unit
 Answers RefutationTaken = Unit
-Answers (Refused r) = Known r
-
-abbrev pub Prepares : Prepared → Type 0
-Prepares (prepared.Tables p) = Unit
-Prepares (prepared.Refused r) = Known r
+Answers (Refused r) = Named r
 
 -- ---- 16 to 23
 
-ask-numbered : (number : ℕ) (b : Bool) (next : Asked) → Concerns Evidence number → Numbered next → Numbered (ask number b next)
+ask-numbered : (number : ℕ) (b : Bool) (next : Asked) → Numbered (No number) → Numbered next → Numbered (ask number b next)
 ask-numbered number true next l h = h
 ask-numbered number false next l h = l
 
@@ -112,35 +95,14 @@ refutation-numbered t u e =
 
 asked-answers : (taken : Verified) → Answers taken → (a : Asked) → Numbered a → Answers (onAsked taken a)
 asked-answers taken h Yes k = h
-asked-answers taken h (No number) k = k
+asked-answers taken h (No number) (a, b) = inr (refl, a, b)
 
 form-answers : (p q : Table pictureSignature) (t u : Tree pictureSignature) (e : List ℕ) (f : Form) → Answers (onForm p q t u e f)
 form-answers p q t u e Map = asked-answers MapTaken tt (mapAsked p q (imageOf e)) (map-numbered p q (imageOf e))
 form-answers p q t u e Refutation = asked-answers RefutationTaken tt (refutationAsked t u e) (refutation-numbered t u e)
-form-answers p q t u e Neither = (omega arith, omega arith)
+form-answers p q t u e Neither = inr (refl, omega arith, omega arith)
 
--- ---- 1 to 14
-
-module _ (limits : Limits) (first second : List ℕ) where
-  merged-known : (b c : Bool) (p : Prepared) → Prepares p → Prepares (pick b (pick c p (prepared.Refused (tooMany Second))) (prepared.Refused (tooMany First)))
-  merged-known true true p h = h
-  merged-known true false p h = (omega arith, omega arith)
-  merged-known false c p h = (omega arith, omega arith)
-
-  reading-known : (s : List ℕ) (input : Input) → ((q : ℕ) → 2 ≤ q → q ≤ 14 → Concerns input q) → (r : Reading) → readingOf limits s ≡ r → (next : Prepared) → Prepares next → Prepares (afterReading (answered input r) next)
-  reading-known s input named (reading.Rows n) e next h = h
-  reading-known s input named (reading.Failed q) e next h =
-      let asked = reading-number limits s q e in
-      named q (asked .least) (omega (arith, asked .most))
-
-  pub prepare-known : Prepares (prepareAnswer limits first second)
-  unfolding prepareAnswer mergedAsked answerOf
-  prepare-known =
-      let tables = mergedAsked limits first second in
-      let few = leb (mergedCount limits first) (limits .rows) in
-      let few-second = leb (mergedCount limits second) (limits .rows) in
-      reading-known first First (λ q a b. (a, b)) (readingOf limits first) refl (afterReading (answerOf limits Second second) tables)
-      (reading-known second Second (λ q a b. (a, b)) (readingOf limits second) refl tables (merged-known few few-second (prepared.Tables (tablesOf limits first second)) tt))
+-- ---- the call
 
 module _ (limits : Limits) (first second e : List ℕ) (room : ℕ) where
   pair-answers : (a : Prepared) → Prepares a → Answers (onPair a (evidenceAnswer limits first second e))
@@ -148,12 +110,12 @@ module _ (limits : Limits) (first second e : List ℕ) (room : ℕ) where
   pair-answers (prepared.Tables p) h =
       form-answers (pictureTable (normalFile limits first)) (pictureTable (normalFile limits second)) (pictureTree limits first) (pictureTree limits second) e
       (formOf limits ((pictureTable (normalFile limits second)) .rows) e)
-  pair-answers (prepared.Refused r) h = h
+  pair-answers (prepared.Refused r) h = inl h
 
   room-answers : (b : Bool) → Answers (pick b (onPair (prepareAnswer limits first second) (evidenceAnswer limits first second e)) (Refused shortBuffer))
   room-answers true = pair-answers (prepareAnswer limits first second) (prepare-known limits first second)
-  room-answers false = refl
+  room-answers false = inl short-known
 
-  pub verify-refusal : (r : Refusal) → verifyAnswer limits first second e room ≡ Refused r → Concerns (r .input) (r .number)
+  pub verify-refusal : (r : Refusal) → verifyAnswer limits first second e room ≡ Refused r → Named r
   unfolding verifyAnswer
   verify-refusal r h = subst Answers h (room-answers (leb (workSize limits) room))

@@ -2,20 +2,22 @@
 --   short-verify, prepared-verify       1 is answered no, or the reading and 14 decide
 --   refused-verify, acceptable-verify   a refusal of those is the call's; else 16 to 23 decide
 --   short-work, refused-work, acceptable-work   the work space then
+--   pair-work                           the calls that are lent a result buffer too leave it so, if that is long enough
 --   verify-taken                        an answer other than a refusal is given in no other case
 --   work-past, work-kept                bytes past the two halves keep their contents, whatever the answer; so does the work space's length
 use Prim.Native.Nat.{ℕ, _<_, _≤_}
 use borrow.Author.Tests.{le-leb, leb-true, lt-leb}
 use lib.Dec.{leb}
 use lib.ListN.{getD, length}
-use mathlib.Core.Bool.{Bool, false, true}
+use mathlib.Core.Bool.{and-true}
 use mathlib.Core.List.{List}
 use mathlib.Core.Path.{_≡_, refl}
-use Rattle.table.specs.Pick.{pick}
 use Rattle.table.specs.declared.layout.Limits.{Limits}
 use Rattle.picture.specs.declared.answer.Refusal.{Refusal}
 use Rattle.normal.specs.Call.{shortBuffer}
-use Rattle.workspace.proofs.Preparations.{halves-past, length-halves, prepare-tables, tables-acceptable, tablesOf}
+use Rattle.workspace.proofs.Lendings.{on-room, room-given}
+use Rattle.workspace.proofs.Preparations.{acceptable-tables, halves-past, length-halves, tablesOf}
+use Rattle.workspace.specs.Lent.{pairWork}
 use Rattle.workspace.specs.Prepare.{Acceptable, halvesPut, onPrepared, prepareAnswer, workSize}
 use Rattle.workspace.specs.declared.prepare.Prepared.{Prepared}
 use Rattle.workspace.specs.declared.prepare.Prepared.the-variants as prepared
@@ -40,27 +42,17 @@ module _ (limits : Limits) (first second e : List ℕ) (room : ℕ) where
     pub acceptable-verify : Acceptable limits first second → verifyAnswer limits first second e room ≡ evidenceAnswer limits first second e
     acceptable-verify pair =
         prepared-verify (prepared.Tables (tablesOf limits first second))
-        (prepare-tables limits first second (pair .first-readable) (pair .second-readable) (pair .first-few) (pair .second-few))
+        (acceptable-tables limits first second pair)
 
   -- the answer is v, which is no refusal: then there is room, 14 is answered yes for both, and 16 to 23 give v
-  module _ (v : Verified) (no-refusal : (r : Refusal) → Refused r ≡ v → ⊥) where
-    by-pair : (a : Prepared) → prepareAnswer limits first second ≡ a → onPair a (evidenceAnswer limits first second e) ≡ v →
-        Acceptable limits first second × (evidenceAnswer limits first second e ≡ v)
-    by-pair (prepared.Tables p) h k = (tables-acceptable limits first second p h .0, k)
-    by-pair (prepared.Refused r) h k = absurd (no-refusal r k)
-
-    by-room : (b : Bool) → leb (workSize limits) room ≡ b →
-        pick b (onPair (prepareAnswer limits first second) (evidenceAnswer limits first second e)) (Refused shortBuffer) ≡ v →
-        (workSize limits ≤ room) × Acceptable limits first second × (evidenceAnswer limits first second e ≡ v)
-    by-room true h k =
-        let (pair, same) = by-pair (prepareAnswer limits first second) refl k in
-        (leb-true (workSize limits) room h, pair, same)
-    by-room false h k = absurd (no-refusal shortBuffer k)
-
-    pub verify-taken : verifyAnswer limits first second e room ≡ v →
-        (workSize limits ≤ room) × Acceptable limits first second × (evidenceAnswer limits first second e ≡ v)
-    unfolding verifyAnswer
-    verify-taken h = by-room (leb (workSize limits) room) refl h
+  pub verify-taken : (v : Verified) → ((r : Refusal) → Refused r ≡ v → ⊥) → verifyAnswer limits first second e room ≡ v →
+      (workSize limits ≤ room) × Acceptable limits first second × (evidenceAnswer limits first second e ≡ v)
+  unfolding verifyAnswer
+  verify-taken v no-refusal h =
+      let (enough, pair, (p, same)) =
+      room-given limits first second (λ a. onPair a (evidenceAnswer limits first second e)) v no-refusal
+      (leb (workSize limits) room) (Refused shortBuffer) (no-refusal shortBuffer) h in
+      (leb-true (workSize limits) room enough, pair, same)
 
 module _ (limits : Limits) (first second work : List ℕ) where
   pub short-work : length work < workSize limits → verifyWork limits first second work ≡ work
@@ -79,26 +71,21 @@ module _ (limits : Limits) (first second work : List ℕ) where
     pub acceptable-work : Acceptable limits first second → verifyWork limits first second work ≡ halvesPut limits first second work
     acceptable-work pair =
         prepared-work (prepared.Tables (tablesOf limits first second))
-        (prepare-tables limits first second (pair .first-readable) (pair .second-readable) (pair .first-few) (pair .second-few))
+        (acceptable-tables limits first second pair)
 
-  -- a property of the work space as it was and as it is once both tables are written is one of it at exit
-  module _ (P : List ℕ → Type 0) (old : P work) (new : workSize limits ≤ length work → Acceptable limits first second → P (halvesPut limits first second work)) where
-    on-pair : (a : Prepared) → workSize limits ≤ length work → prepareAnswer limits first second ≡ a → P (onPrepared a (halvesPut limits first second work) work)
-    on-pair (prepared.Tables p) enough h = new enough (tables-acceptable limits first second p h .0)
-    on-pair (prepared.Refused r) enough h = old
-
-    on-room : (b : Bool) → leb (workSize limits) (length work) ≡ b → P (pick b (onPrepared (prepareAnswer limits first second) (halvesPut limits first second work) work) work)
-    on-room true h = on-pair (prepareAnswer limits first second) (leb-true (workSize limits) (length work) h) refl
-    on-room false h = old
-
-    work-either : P (verifyWork limits first second work)
-    unfolding verifyWork
-    work-either = on-room (leb (workSize limits) (length work)) refl
+  pub pair-work : (size result : ℕ) → size ≤ result → pairWork limits size first second work result ≡ verifyWork limits first second work
+  unfolding pairWork verifyWork
+  pair-work size result long = rw (le-leb size result long, and-true (leb (workSize limits) (length work)))
 
   pub work-past : (i : ℕ) → workSize limits ≤ i → getD (verifyWork limits first second work) i 0 ≡ getD work i 0
+  unfolding verifyWork
   work-past i h =
-      work-either (λ l. getD l i 0 ≡ getD work i 0) refl (λ enough pair. halves-past limits first second work (pair .first-few) (pair .second-few) i h)
+      on-room limits first second (λ l. getD l i 0 ≡ getD work i 0) work (halvesPut limits first second work) (leb (workSize limits) (length work)) refl
+      (λ room pair. halves-past limits first second work (pair .first-few) (pair .second-few) i h)
 
   pub work-kept : length (verifyWork limits first second work) ≡ length work
+  unfolding verifyWork
   work-kept =
-      work-either (λ l. length l ≡ length work) refl (λ enough pair. length-halves limits first second work (pair .first-few) (pair .second-few) enough)
+      on-room limits first second (λ l. length l ≡ length work) work (halvesPut limits first second work) (leb (workSize limits) (length work)) refl
+      (λ room pair.
+      length-halves limits first second work (pair .first-few) (pair .second-few) (leb-true (workSize limits) (length work) room))

@@ -1,4 +1,9 @@
 -- The laws of the common picture, by subject.
+-- what is written is a picture, and its covering
+pub mod Commons
+-- the call
+pub mod Answers
+pub mod Refusals
 -- rows along links, and their order
 pub mod Edges
 pub mod SiblingRows
@@ -10,3 +15,7 @@ pub mod Copies
 -- the rows that are paired
 pub mod Pairings
 pub mod Grafts
+-- the condition
+pub mod Conditions
+-- worked cases, computed
+pub mod CommonCases

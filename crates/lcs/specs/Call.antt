@@ -1,6 +1,5 @@
 -- 01, "Common picture and its length (buffer 6,147)": the answer, and what the two buffers hold then.
 --   tooWide      15 is answered no: it names the second
---   roomy        1: the work space and the result buffer are each at least the length named
 --   onTables     what comes after 14
 --   commonAnswer 15, and then the length of the common picture
 --   lcsAnswer    1; first; second; 14 of each; 15
@@ -9,7 +8,6 @@
 use Prim.Native.Nat.{ℕ}
 use lib.Dec.{leb}
 use lib.ListN.{length}
-use mathlib.Core.Bool.{Bool, _&&_}
 use mathlib.Core.List.{List}
 use Rattle.table.specs.Bounds.{pictureSize}
 use Rattle.table.specs.Pick.{pick}
@@ -18,7 +16,8 @@ use Rattle.table.specs.declared.layout.Limits.{Limits}
 use Rattle.picture.specs.declared.answer.Input.the-variants.{Second}
 use Rattle.picture.specs.declared.answer.Refusal.{Refusal}
 use Rattle.normal.specs.Call.{shortBuffer}
-use Rattle.workspace.specs.Prepare.{halvesPut, onPrepared, prepareAnswer, workSize}
+use Rattle.workspace.specs.Lent.{pairWork, roomy}
+use Rattle.workspace.specs.Prepare.{prepareAnswer}
 use Rattle.workspace.specs.declared.prepare.Prepared.{Prepared}
 use Rattle.workspace.specs.declared.prepare.Prepared.the-variants as prepared
 use Rattle.lcs.specs.Product.{lcsCount, lcsFile}
@@ -27,9 +26,6 @@ use Rattle.lcs.specs.declared.common.Common.the-variants.{Length, Refuse
 
 abbrev pub tooWide : Refusal
 tooWide = record { number = 15; input = Second }
-
-abbrev pub roomy : Limits → ℕ → ℕ → Bool
-roomy limits work result = leb (workSize limits) work && leb (pictureSize limits) result
 
 abbrev pub onTables : Prepared → Common → Common
 onTables (prepared.Tables pair) answer = answer
@@ -40,15 +36,12 @@ commonAnswer limits first second = pick (leb (lcsCount limits first second) (lim
 
 unfoldable pub lcsAnswer : Limits → List ℕ → List ℕ → ℕ → ℕ → Common
 lcsAnswer limits first second work result =
-    pick (roomy limits work result)
+    pick (roomy limits (pictureSize limits) work result)
     (onTables (prepareAnswer limits first second) (commonAnswer limits first second))
     (Refused shortBuffer)
 
-unfoldable pub lcsWork : Limits → List ℕ → List ℕ → List ℕ → ℕ → List ℕ
-lcsWork limits first second work result =
-    pick (roomy limits (length work) result)
-    (onPrepared (prepareAnswer limits first second) (halvesPut limits first second work) work)
-    work
+abbrev pub lcsWork : Limits → List ℕ → List ℕ → List ℕ → ℕ → List ℕ
+lcsWork limits first second work result = pairWork limits (pictureSize limits) first second work result
 
 abbrev pub onCommon : Common → List ℕ → List ℕ → List ℕ
 onCommon (Length n) file result = put result 0 file

@@ -1,4 +1,5 @@
 -- The laws of meaning, by subject.
+pub mod ByteLists
 pub mod Files
 pub mod FileTables
 pub mod FileReadings

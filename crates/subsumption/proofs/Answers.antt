@@ -1,28 +1,19 @@
 -- Laws of the third call at any limits: which answer is given for which inputs and buffers, and what the two buffers hold then.
---   TooShort, room-no, room-yes, room-both     1: one of the two buffers is too short, or both are long enough
 --   short-subsumes                             1 is answered no
 --   refused-subsumes, acceptable-subsumes      a refusal by the reading or 14 is the call's; else the verdict is given
 --   yes-subsumes, no-subsumes                  it is yes or no, with the length of the evidence
 --   Answered, answered-yes, answered-no        yes or no with a length is answered in no other case, and with no other length
---   work-verify                                the work space, if the result buffer is long enough, is what the check leaves in it
---   short-work, refused-work, acceptable-work  the work space then
---   work-past, work-kept                       bytes past the two halves keep their contents, whatever the answer; so does the work space's length
---   short-result, refused-result, acceptable-result   the result buffer then
+--   short-result, refused-result, acceptable-result   the result buffer then; the work space is that of every call on two pictures (workspace, proofs/Lendings)
 --   result-past, result-kept                   bytes past the evidence keep their contents, whatever the answer; so does the result buffer's length
 --   evidence-read                              the result buffer's bytes up to the reported length are the evidence
-use Prim.Native.Nat.{_+_, _-_, _<_, _≤_, ℕ}
-use borrow.Author.Tests.{le-leb, leb-true, lt-leb}
-use lib.Dec.{leb}
+use Prim.Native.Nat.{_+_, _-_, _≤_, ℕ}
 use lib.ListN.{drop, getD, length, take}
 use lib.Seq.{take-at}
-use mathlib.Core.Bool.{Bool, and-false, and-true, false, true}
+use mathlib.Core.Bool.{Bool, false, true}
 use mathlib.Core.List.{List}
-use mathlib.Core.Logic.{_⊎_, inl, inr}
 use mathlib.Core.Path.{_∙_, _≡_, refl, sym}
 use native.Mathlib.Omega.{arith}
-use Rattle.evidence.specs.Call.{verifyWork}
 use Rattle.normal.specs.Call.{shortBuffer}
-use Rattle.table.proofs.Bools.{both}
 use Rattle.table.proofs.Puts.{length-put, put-after}
 use Rattle.table.specs.Bounds.{Bounded}
 use Rattle.table.specs.Pick.{pick}
@@ -30,36 +21,17 @@ use Rattle.table.specs.Put.{put}
 use Rattle.table.specs.declared.layout.Limits.{Limits}
 use Rattle.picture.specs.declared.answer.Refusal.{Refusal}
 use Rattle.workspace.proofs.Halves.{put-start}
-use Rattle.workspace.proofs.Preparations.{halves-past, length-halves, prepare-tables, tables-acceptable, tablesOf}
-use Rattle.workspace.specs.Prepare.{Acceptable, halvesPut, onPrepared, prepareAnswer, workSize}
+use Rattle.workspace.proofs.Lendings.{TooShort, on-room, room-both, room-given, room-no, room-yes}
+use Rattle.workspace.proofs.Preparations.{acceptable-tables, tablesOf}
+use Rattle.workspace.specs.Lent.{roomy}
+use Rattle.workspace.specs.Prepare.{Acceptable, prepareAnswer, workSize}
 use Rattle.workspace.specs.declared.prepare.Prepared.{Prepared}
 use Rattle.workspace.specs.declared.prepare.Prepared.the-variants as prepared
 use Rattle.subsumption.specs.declared.verdict.Verdict.{Verdict}
 use Rattle.subsumption.specs.declared.verdict.Verdict.the-variants.{No, Refused, Yes}
-use Rattle.subsumption.specs.Call.{onVerdict, roomy, subsumesAnswer, subsumesResult, subsumesWork, verdictAnswer}
+use Rattle.subsumption.specs.Call.{onVerdict, subsumesAnswer, subsumesResult, verdictAnswer}
 use Rattle.subsumption.specs.Verdict.{evidenceOf, evidenceSize, verdictOf}
 use Rattle.subsumption.proofs.Writers.{evidence-size}
-
-abbrev pub TooShort : Limits → ℕ → ℕ → Type 0
-TooShort limits work result = (work < workSize limits) ⊎ (result < evidenceSize limits)
-
-module _ (limits : Limits) (work result : ℕ) where
-  pub room-no : TooShort limits work result → roomy limits work result ≡ false
-  room-no (inl h) = rw (lt-leb (workSize limits) work h)
-  room-no (inr h) = rw (lt-leb (evidenceSize limits) result h) (and-false (leb (workSize limits) work))
-
-  pub room-yes : workSize limits ≤ work → evidenceSize limits ≤ result → roomy limits work result ≡ true
-  room-yes enough long = rw (le-leb (workSize limits) work enough, le-leb (evidenceSize limits) result long)
-
-  pub room-both : roomy limits work result ≡ true → (workSize limits ≤ work) × (evidenceSize limits ≤ result)
-  room-both h =
-      let (a, b) = both (leb (workSize limits) work) (leb (evidenceSize limits) result) h in
-      (leb-true (workSize limits) work a, leb-true (evidenceSize limits) result b)
-
-acceptable-tables : (limits : Limits) (first second : List ℕ) → Acceptable limits first second →
-    prepareAnswer limits first second ≡ prepared.Tables (tablesOf limits first second)
-acceptable-tables limits first second pair =
-    prepare-tables limits first second (pair .first-readable) (pair .second-readable) (pair .first-few) (pair .second-few)
 
 -- ---- the answer
 
@@ -72,15 +44,15 @@ module _ (limits : Limits) (first second : List ℕ) (work result : ℕ) where
     pub verdict-is : verdictOf limits first second ≡ verdict
     pub length-is : n ≡ length (evidenceOf limits first second)
 
-  pub short-subsumes : TooShort limits work result → subsumesAnswer limits first second work result ≡ Refused shortBuffer
+  pub short-subsumes : TooShort limits (evidenceSize limits) work result → subsumesAnswer limits first second work result ≡ Refused shortBuffer
   unfolding subsumesAnswer
-  short-subsumes h = rw (room-no limits work result h)
+  short-subsumes h = rw (room-no limits (evidenceSize limits) work result h)
 
   module _ (enough : workSize limits ≤ work) (long : evidenceSize limits ≤ result) where
     prepared-subsumes : (a : Prepared) → prepareAnswer limits first second ≡ a →
         subsumesAnswer limits first second work result ≡ onVerdict a (verdictAnswer limits first second)
     unfolding subsumesAnswer
-    prepared-subsumes a h = rw (room-yes limits work result enough long, h)
+    prepared-subsumes a h = rw (room-yes limits (evidenceSize limits) work result enough long, h)
 
     pub refused-subsumes : (r : Refusal) → prepareAnswer limits first second ≡ prepared.Refused r →
         subsumesAnswer limits first second work result ≡ Refused r
@@ -101,25 +73,15 @@ module _ (limits : Limits) (first second : List ℕ) (work result : ℕ) where
       no-subsumes e = acceptable-subsumes ∙ rw e
 
   -- the answer is v, which is no refusal
-  module _ (v : Verdict) (no-refusal : (r : Refusal) → Refused r ≡ v → ⊥) where
-    by-pair : (a : Prepared) → prepareAnswer limits first second ≡ a → onVerdict a (verdictAnswer limits first second) ≡ v →
-        Acceptable limits first second × (verdictAnswer limits first second ≡ v)
-    by-pair (prepared.Tables p) h k = (tables-acceptable limits first second p h .0, k)
-    by-pair (prepared.Refused r) h k = absurd (no-refusal r k)
-
-    by-room : (b : Bool) → roomy limits work result ≡ b →
-        pick b (onVerdict (prepareAnswer limits first second) (verdictAnswer limits first second)) (Refused shortBuffer) ≡ v →
-        (workSize limits ≤ work) × (evidenceSize limits ≤ result) × Acceptable limits first second × (verdictAnswer limits first second ≡ v)
-    by-room true h k =
-        let (enough, long) = room-both limits work result h in
-        let (pair, same) = by-pair (prepareAnswer limits first second) refl k in
-        (enough, long, pair, same)
-    by-room false h k = absurd (no-refusal shortBuffer k)
-
-    given : subsumesAnswer limits first second work result ≡ v →
-        (workSize limits ≤ work) × (evidenceSize limits ≤ result) × Acceptable limits first second × (verdictAnswer limits first second ≡ v)
-    unfolding subsumesAnswer
-    given h = by-room (roomy limits work result) refl h
+  given : (v : Verdict) → ((r : Refusal) → Refused r ≡ v → ⊥) → subsumesAnswer limits first second work result ≡ v →
+      (workSize limits ≤ work) × (evidenceSize limits ≤ result) × Acceptable limits first second × (verdictAnswer limits first second ≡ v)
+  unfolding subsumesAnswer
+  given v no-refusal h =
+      let (room, pair, (p, same)) =
+      room-given limits first second (λ a. onVerdict a (verdictAnswer limits first second)) v no-refusal
+      (roomy limits (evidenceSize limits) work result) (Refused shortBuffer) (no-refusal shortBuffer) h in
+      let (enough, long) = room-both limits (evidenceSize limits) work result room in
+      (enough, long, pair, same)
 
   module _ (n : ℕ) where
     yes-verdict : (b : Bool) (m : ℕ) → pick b (Yes m) (No m) ≡ Yes n → (b ≡ true) × (n ≡ m)
@@ -144,68 +106,23 @@ module _ (limits : Limits) (first second : List ℕ) (work result : ℕ) where
         let (verdict, size) = no-verdict (verdictOf limits first second) (length (evidenceOf limits first second)) same in
         record { work-long = enough; result-long = long; pair = pair; verdict-is = verdict; length-is = size }
 
--- ---- a buffer
-
--- a property of a buffer as it was and as it is once it is written is one of it at exit
-module _ (limits : Limits) (first second : List ℕ) (P : List ℕ → Type 0) (old new : List ℕ) where
-  on-pair : (a : Prepared) → prepareAnswer limits first second ≡ a → P old → (Acceptable limits first second → P new) → P (onPrepared a new old)
-  on-pair (prepared.Tables p) h before after = after (tables-acceptable limits first second p h .0)
-  on-pair (prepared.Refused r) h before after = before
-
-  on-room : (b : Bool) → P old → (b ≡ true → Acceptable limits first second → P new) →
-      P (pick b (onPrepared (prepareAnswer limits first second) new old) old)
-  on-room true before after = on-pair (prepareAnswer limits first second) refl before (after refl)
-  on-room false before after = before
-
--- ---- the work space
-
-module _ (limits : Limits) (first second work : List ℕ) (result : ℕ) where
-  pub work-verify : evidenceSize limits ≤ result → subsumesWork limits first second work result ≡ verifyWork limits first second work
-  unfolding subsumesWork verifyWork
-  work-verify long = rw (le-leb (evidenceSize limits) result long, and-true (leb (workSize limits) (length work)))
-
-  pub short-work : TooShort limits (length work) result → subsumesWork limits first second work result ≡ work
-  unfolding subsumesWork
-  short-work h = rw (room-no limits (length work) result h)
-
-  module _ (enough : workSize limits ≤ length work) (long : evidenceSize limits ≤ result) where
-    pub refused-work : (r : Refusal) → prepareAnswer limits first second ≡ prepared.Refused r → subsumesWork limits first second work result ≡ work
-    unfolding subsumesWork
-    refused-work r h = rw (room-yes limits (length work) result enough long, h)
-
-    pub acceptable-work : Acceptable limits first second → subsumesWork limits first second work result ≡ halvesPut limits first second work
-    unfolding subsumesWork
-    acceptable-work pair = rw (room-yes limits (length work) result enough long, acceptable-tables limits first second pair)
-
-  pub work-past : (i : ℕ) → workSize limits ≤ i → getD (subsumesWork limits first second work result) i 0 ≡ getD work i 0
-  unfolding subsumesWork
-  work-past i h =
-      on-room limits first second (λ l. getD l i 0 ≡ getD work i 0) work (halvesPut limits first second work) (roomy limits (length work) result) refl
-      (λ room pair. halves-past limits first second work (pair .first-few) (pair .second-few) i h)
-
-  pub work-kept : length (subsumesWork limits first second work result) ≡ length work
-  unfolding subsumesWork
-  work-kept =
-      on-room limits first second (λ l. length l ≡ length work) work (halvesPut limits first second work) (roomy limits (length work) result) refl
-      (λ room pair. length-halves limits first second work (pair .first-few) (pair .second-few) (room-both limits (length work) result room .0))
-
 -- ---- the result buffer
 
 module _ (limits : Limits) (first second : List ℕ) (work : ℕ) (result : List ℕ) where
-  pub short-result : TooShort limits work (length result) → subsumesResult limits first second work result ≡ result
+  pub short-result : TooShort limits (evidenceSize limits) work (length result) → subsumesResult limits first second work result ≡ result
   unfolding subsumesResult
-  short-result h = rw (room-no limits work (length result) h)
+  short-result h = rw (room-no limits (evidenceSize limits) work (length result) h)
 
   module _ (enough : workSize limits ≤ work) (long : evidenceSize limits ≤ length result) where
     pub refused-result : (r : Refusal) → prepareAnswer limits first second ≡ prepared.Refused r →
         subsumesResult limits first second work result ≡ result
     unfolding subsumesResult
-    refused-result r h = rw (room-yes limits work (length result) enough long, h)
+    refused-result r h = rw (room-yes limits (evidenceSize limits) work (length result) enough long, h)
 
     pub acceptable-result : Acceptable limits first second →
         subsumesResult limits first second work result ≡ put result 0 (evidenceOf limits first second)
     unfolding subsumesResult
-    acceptable-result pair = rw (room-yes limits work (length result) enough long, acceptable-tables limits first second pair)
+    acceptable-result pair = rw (room-yes limits (evidenceSize limits) work (length result) enough long, acceptable-tables limits first second pair)
 
   pub result-past : (i : ℕ) → length (evidenceOf limits first second) ≤ i →
       getD (subsumesResult limits first second work result) i 0 ≡ getD result i 0
@@ -213,15 +130,17 @@ module _ (limits : Limits) (first second : List ℕ) (work : ℕ) (result : List
   result-past i h =
       let e = evidenceOf limits first second in
       let k : 0 + length e + (i - length e) ≡ i = omega arith in
-      on-room limits first second (λ l. getD l i 0 ≡ getD result i 0) result (put result 0 e) (roomy limits work (length result)) refl
+      on-room limits first second (λ l. getD l i 0 ≡ getD result i 0) result (put result 0 e) (roomy limits (evidenceSize limits) work (length result)) refl
       (λ room pair. rw k at (put-after result 0 e (i - length e) (omega arith)))
 
   pub result-kept : Bounded limits → length (subsumesResult limits first second work result) ≡ length result
   unfolding subsumesResult
   result-kept bounded =
       let e = evidenceOf limits first second in
-      on-room limits first second (λ l. length l ≡ length result) result (put result 0 e) (roomy limits work (length result)) refl
-      (λ room pair. length-put result 0 e (omega (arith, evidence-size limits first second bounded pair, room-both limits work (length result) room .1)))
+      on-room limits first second (λ l. length l ≡ length result) result (put result 0 e) (roomy limits (evidenceSize limits) work (length result)) refl
+      (λ room pair.
+      length-put result 0 e
+      (omega (arith, evidence-size limits first second bounded pair, room-both limits (evidenceSize limits) work (length result) room .1)))
 
   pub evidence-read : (verdict : Bool) (n : ℕ) → Answered limits first second work (length result) verdict n →
       take n (subsumesResult limits first second work result) ≡ evidenceOf limits first second

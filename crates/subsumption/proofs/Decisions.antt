@@ -4,12 +4,9 @@
 --   map-fits, mapped                     a map has room; it is there where the search said yes
 --   decided-yes, decided-no              the answer and the evidence over what the search said
 --   of-parts                             what is true of two tables is true of the parts that are lent, which are the same lists
---   roomy-long                           1: the work space is long enough, so the result buffer's length decides
 --   Gives, short-call, prepared-call     the answer and both buffers: 1 is answered no, or the reading and 14 decide
 --   prepared-settled, prepared-decided   after `prepare` has given the pair
 use Prim.Native.Nat.{_+_, _≤_, ℕ}
-use borrow.Author.Tests.{le-leb}
-use lib.Dec.{leb}
 use lib.ListN.{length}
 use mathlib.Core.Bool.{Bool, false, true}
 use mathlib.Core.List.{List}
@@ -42,11 +39,12 @@ use Rattle.table.specs.Layout.{endSize}
 use Rattle.table.specs.Pick.{pick}
 use Rattle.table.specs.Put.{put}
 use Rattle.table.specs.declared.layout.Limits.{Limits}
+use Rattle.workspace.specs.Lent.{pairWork, roomy}
 use Rattle.workspace.specs.Prepare.{Acceptable, halvesPut, onPrepared, prepareAnswer, workSize}
 use Rattle.workspace.specs.declared.prepare.Pair.{Pair}
 use Rattle.workspace.specs.declared.prepare.Prepared.{Prepared}
 use Rattle.workspace.specs.declared.prepare.Prepared.the-variants.{Tables}
-use Rattle.subsumption.specs.Call.{onVerdict, roomy, subsumesAnswer, subsumesResult, subsumesWork, verdictAnswer}
+use Rattle.subsumption.specs.Call.{onVerdict, subsumesAnswer, subsumesResult, subsumesWork, verdictAnswer}
 use Rattle.subsumption.specs.Tables.{Settled, evidenceIn, verdictIn}
 use Rattle.subsumption.specs.Verdict.{evidenceOf, evidenceSize, mapOf, refutationOf, verdictOf}
 use Rattle.subsumption.specs.declared.verdict.Verdict.{Verdict}
@@ -142,23 +140,20 @@ of-parts P s f t g d e h = subst (λ x. P x t) (sym d) (subst (λ y. P f y) (sym
 
 -- ---- the call by its tests
 
-pub roomy-long : (limits : Limits) (work result : ℕ) → workSize limits ≤ work → roomy limits work result ≡ leb (evidenceSize limits) result
-roomy-long limits work result h = rw (le-leb (workSize limits) work h)
-
 module _ (limits : Limits) (first second work result : List ℕ) where
   abbrev pub Gives : Verdict → List ℕ → List ℕ → Type 0
   Gives answer space buffer =
       (answer ≡ subsumesAnswer limits first second (length work) (length result))
       × ((space ≡ subsumesWork limits first second work (length result)) × (buffer ≡ subsumesResult limits first second (length work) result))
 
-  pub short-call : roomy limits (length work) (length result) ≡ false → Gives (Refused shortBuffer) work result
-  unfolding subsumesAnswer subsumesWork subsumesResult
+  pub short-call : roomy limits (evidenceSize limits) (length work) (length result) ≡ false → Gives (Refused shortBuffer) work result
+  unfolding subsumesAnswer pairWork subsumesResult
   short-call h = (rw h, (rw h, rw h))
 
-  pub prepared-call : roomy limits (length work) (length result) ≡ true → (answer a : Prepared) (space : List ℕ) →
+  pub prepared-call : roomy limits (evidenceSize limits) (length work) (length result) ≡ true → (answer a : Prepared) (space : List ℕ) →
       answer ≡ prepareAnswer limits first second → space ≡ onPrepared answer (halvesPut limits first second work) work → answer ≡ a →
       Gives (onVerdict a (verdictAnswer limits first second)) space (onPrepared a (put result 0 (evidenceOf limits first second)) result)
-  unfolding subsumesAnswer subsumesWork subsumesResult
+  unfolding subsumesAnswer pairWork subsumesResult
   prepared-call h answer a space is written e = let same = sym is ∙ e in (rw (h, same), (written ∙ rw (h, is), rw (h, same)))
 
 -- ---- after `prepare`

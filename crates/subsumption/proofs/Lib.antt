@@ -1,6 +1,6 @@
 -- The laws of the third call, by subject.
 -- what is written is evidence
-pub mod ByteLists
+pub mod EvidenceBytes
 pub mod Writers
 pub mod Lowest
 -- the call

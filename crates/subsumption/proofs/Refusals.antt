@@ -1,10 +1,10 @@
 -- Which refusals the third call gives: 1 names the buffer, 2 to 14 one of the two pictures; there is no other.
---   subsumes-refusal   so is every refusal of the call
+--   subsumes-refusal   every refusal of the call is such a one (workspace, proofs/PairRefusals: `Known`)
 use Prim.Native.Nat.{ℕ}
 use lib.ListN.{length}
 use mathlib.Core.Bool.{Bool, false, true}
 use mathlib.Core.List.{List}
-use mathlib.Core.Path.{_≡_, refl, subst}
+use mathlib.Core.Path.{_≡_, subst}
 use Rattle.table.specs.Pick.{pick}
 use Rattle.table.specs.declared.layout.Limits.{Limits}
 use Rattle.picture.specs.declared.answer.Refusal.{Refusal}
@@ -12,9 +12,10 @@ use Rattle.normal.specs.Call.{shortBuffer}
 use Rattle.workspace.specs.Prepare.{prepareAnswer}
 use Rattle.workspace.specs.declared.prepare.Prepared.{Prepared}
 use Rattle.workspace.specs.declared.prepare.Prepared.the-variants as prepared
-use Rattle.evidence.proofs.Refusals.{Concerns, Known, Prepares, prepare-known}
-use Rattle.subsumption.specs.Call.{onVerdict, roomy, subsumesAnswer, verdictAnswer}
-use Rattle.subsumption.specs.Verdict.{evidenceOf, verdictOf}
+use Rattle.workspace.proofs.PairRefusals.{Known, Prepares, prepare-known, short-known}
+use Rattle.workspace.specs.Lent.{roomy}
+use Rattle.subsumption.specs.Call.{onVerdict, subsumesAnswer, verdictAnswer}
+use Rattle.subsumption.specs.Verdict.{evidenceOf, evidenceSize, verdictOf}
 use Rattle.subsumption.specs.declared.verdict.Verdict.{Verdict}
 use Rattle.subsumption.specs.declared.verdict.Verdict.the-variants.{No, Refused, Yes}
 
@@ -35,8 +36,8 @@ module _ (limits : Limits) (first second : List ℕ) (work result : ℕ) where
 
   room-answers : (b : Bool) → Answers (pick b (onVerdict (prepareAnswer limits first second) (verdictAnswer limits first second)) (Refused shortBuffer))
   room-answers true = pair-answers (prepareAnswer limits first second) (prepare-known limits first second)
-  room-answers false = refl
+  room-answers false = short-known
 
-  pub subsumes-refusal : (r : Refusal) → subsumesAnswer limits first second work result ≡ Refused r → Concerns (r .input) (r .number)
+  pub subsumes-refusal : (r : Refusal) → subsumesAnswer limits first second work result ≡ Refused r → Known r
   unfolding subsumesAnswer
-  subsumes-refusal r h = subst Answers h (room-answers (roomy limits work result))
+  subsumes-refusal r h = subst Answers h (room-answers (roomy limits (evidenceSize limits) work result))

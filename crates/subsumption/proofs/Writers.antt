@@ -61,7 +61,7 @@ use Rattle.table.specs.declared.layout.Limits.{Limits}
 use Rattle.evidence.specs.declared.check.Verified.the-variants.{MapTaken, RefutationTaken}
 use Rattle.workspace.specs.Prepare.{Acceptable, workSize}
 use Rattle.subsumption.specs.Verdict.{evidenceOf, evidenceSize, mapOf, refutationOf, verdictOf}
-use Rattle.subsumption.proofs.ByteLists.{bytes-map, bytes-refutation}
+use Rattle.subsumption.proofs.EvidenceBytes.{bytes-map, bytes-refutation}
 
 pub homomorphism-agrees : (S : Signature) (p q : Table S) (im new : ℕ → ℕ) → ParentsFirst S q → 0 < q .rows →
     ((i : ℕ) → i < q .rows → new i ≡ im i) → IsHomomorphism S p q im → IsHomomorphism S p q new

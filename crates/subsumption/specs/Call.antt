@@ -1,28 +1,23 @@
 -- 01, "Verdict with evidence, and its length (buffer 46,595)": the answer, and what the two buffers hold then.
---   roomy             1: the work space and the result buffer are each at least the length named
 --   verdictAnswer     yes or no, with the length of the evidence
 --   onVerdict         that comes after 14
 --   subsumesAnswer    1; first; second; 14 of each; the verdict
 --   subsumesWork      the work space: both tables once 14 is answered yes for both; else nothing written
 --   subsumesResult    the result buffer: the evidence from its first byte on, then; else nothing written
 use Prim.Native.Nat.{ℕ}
-use lib.Dec.{leb}
 use lib.ListN.{length}
-use mathlib.Core.Bool.{Bool, _&&_}
 use mathlib.Core.List.{List}
 use Rattle.table.specs.Pick.{pick}
 use Rattle.table.specs.Put.{put}
 use Rattle.table.specs.declared.layout.Limits.{Limits}
 use Rattle.normal.specs.Call.{shortBuffer}
-use Rattle.workspace.specs.Prepare.{halvesPut, onPrepared, prepareAnswer, workSize}
+use Rattle.workspace.specs.Lent.{pairWork, roomy}
+use Rattle.workspace.specs.Prepare.{onPrepared, prepareAnswer}
 use Rattle.workspace.specs.declared.prepare.Prepared.{Prepared}
 use Rattle.workspace.specs.declared.prepare.Prepared.the-variants as prepared
 use Rattle.subsumption.specs.declared.verdict.Verdict.{Verdict}
 use Rattle.subsumption.specs.declared.verdict.Verdict.the-variants.{No, Refused, Yes}
 use Rattle.subsumption.specs.Verdict.{evidenceOf, evidenceSize, verdictOf}
-
-abbrev pub roomy : Limits → ℕ → ℕ → Bool
-roomy limits work result = leb (workSize limits) work && leb (evidenceSize limits) result
 
 unfoldable pub verdictAnswer : Limits → List ℕ → List ℕ → Verdict
 verdictAnswer limits first second =
@@ -34,18 +29,15 @@ onVerdict (prepared.Refused r) answer = Refused r
 
 unfoldable pub subsumesAnswer : Limits → List ℕ → List ℕ → ℕ → ℕ → Verdict
 subsumesAnswer limits first second work result =
-    pick (roomy limits work result)
+    pick (roomy limits (evidenceSize limits) work result)
     (onVerdict (prepareAnswer limits first second) (verdictAnswer limits first second))
     (Refused shortBuffer)
 
-unfoldable pub subsumesWork : Limits → List ℕ → List ℕ → List ℕ → ℕ → List ℕ
-subsumesWork limits first second work result =
-    pick (roomy limits (length work) result)
-    (onPrepared (prepareAnswer limits first second) (halvesPut limits first second work) work)
-    work
+abbrev pub subsumesWork : Limits → List ℕ → List ℕ → List ℕ → ℕ → List ℕ
+subsumesWork limits first second work result = pairWork limits (evidenceSize limits) first second work result
 
 unfoldable pub subsumesResult : Limits → List ℕ → List ℕ → ℕ → List ℕ → List ℕ
 subsumesResult limits first second work result =
-    pick (roomy limits work (length result))
+    pick (roomy limits (evidenceSize limits) work (length result))
     (onPrepared (prepareAnswer limits first second) (put result 0 (evidenceOf limits first second)) result)
     result

@@ -17,14 +17,16 @@ ghost use Prim.Native.Nat.{ℕ};
 ghost use lib.ListN.{length};
 ghost use Rattle.table.specs.Bounds.{Bounded};
 ghost use Rattle.table.specs.Put.{put};
+ghost use Rattle.workspace.specs.Lent.{roomy};
 ghost use Rattle.workspace.specs.Tables.{TablesIn, firstIn, secondIn};
-ghost use Rattle.subsumption.specs.Call.{roomy, subsumesAnswer, subsumesResult, subsumesWork};
+ghost use Rattle.subsumption.specs.Call.{subsumesAnswer, subsumesResult, subsumesWork};
 ghost use Rattle.subsumption.specs.Tables.{Settled, evidenceIn, verdictIn};
+ghost use Rattle.subsumption.specs.Verdict.{evidenceSize};
 
 // 1: whether both buffers are long enough.
 fn has_room(limits: Limits, work: usize, result: usize) -> bool
     requires { ⌜ Bounded limits ⌝ }
-    ensures { λ r. ⌜ r ≡ roomy limits work result ⌝ }
+    ensures { λ r. ⌜ r ≡ roomy limits (evidenceSize limits) work result ⌝ }
 {
     let half = half_size(limits);
     half + half <= work && individual_place(individuals_within(limits), END_SIZE) <= result

@@ -4,7 +4,7 @@
 --   prepare-first, prepare-second     2 to 13 of the first, of the second: the number being that of the reading
 --   prepare-many-first,
 --   prepare-many-second               14 of the first, of the second
---   prepare-tables                    the rows of both normal tables
+--   prepare-tables, acceptable-tables the rows of both normal tables
 --   tables-acceptable                 tables are given in no other case, and with no other rows
 --   built-tables, built-halves        tables that were built within the limit: their rows, and that they are the normal files
 --   length-halves                     the work space keeps its length
@@ -139,6 +139,11 @@ module _ (limits : Limits) (first second : List ℕ) where
 
     pub tables-acceptable : prepareAnswer limits first second ≡ Tables p → Acceptable limits first second × (p ≡ tablesOf)
     tables-acceptable = readings-acceptable (readingOf limits first) (readingOf limits second) refl refl
+
+pub acceptable-tables : (limits : Limits) (first second : List ℕ) → Acceptable limits first second →
+    prepareAnswer limits first second ≡ Tables (tablesOf limits first second)
+acceptable-tables limits first second pair =
+    prepare-tables limits first second (pair .first-readable) (pair .second-readable) (pair .first-few) (pair .second-few)
 
 -- ---- two tables that were built within the limit
 

@@ -4,5 +4,6 @@ pub mod NormalWords
 pub mod PairWords
 pub mod VerifyWords
 pub mod SubsumesWords
+pub mod LcsWords
 pub mod EmptySubsumes
 pub mod StarredHold

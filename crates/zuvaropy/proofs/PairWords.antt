@@ -3,23 +3,25 @@
 --   Refusals        2 to 13 of the first picture, then of the second, the number being that of the reading; 14 of the first, then of the second.
 --                   P q input says what a call gives and writes where question q refuses an input
 --   refusals        so for every call that hands on what `prepareAnswer` refuses
---   concerns-zero   the word of a refusal that names an input by one of its questions has outcome 0
+--   concerns-zero   the word of a refusal that names an input by a number has outcome 0,
+--   known-zero      so that of 1 to 14 as every call on two pictures gives them
 use Prim.Native.Nat.{ℕ, _<_, _≤_}
 use native.Mathlib.Omega.{arith}
 use mathlib.Core.List.{List}
-use mathlib.Core.Path.{_≡_}
+use mathlib.Core.Logic.{inl, inr}
+use mathlib.Core.Path.{_≡_, refl}
 use Rattle.table.specs.Bounds.{Bounded, benchLimits, maxRows}
 use Rattle.picture.specs.Read.{readingOf}
 use Rattle.picture.specs.View.{Readable}
 use Rattle.picture.specs.declared.answer.Input.{Input}
-use Rattle.picture.specs.declared.answer.Input.the-variants.{Book, Buffer, Card, Evidence, First, Second}
+use Rattle.picture.specs.declared.answer.Input.the-variants.{Buffer, First, Second}
 use Rattle.picture.specs.declared.answer.Refusal.{Refusal}
 use Rattle.picture.specs.declared.read.Reading.the-variants as reading
 use Rattle.meaning.specs.NormalTable.{mergedCount}
+use Rattle.workspace.proofs.PairRefusals.{Concerns, Known}
 use Rattle.workspace.proofs.Preparations.{prepare-first, prepare-many-first, prepare-many-second, prepare-second}
 use Rattle.workspace.specs.Prepare.{prepareAnswer}
 use Rattle.workspace.specs.declared.prepare.Prepared.the-variants as prepared
-use Rattle.evidence.proofs.Refusals.{Concerns}
 use Rattle.zuvaropy.specs.Word.{cardOf, refusalWord}
 use Rattle.zuvaropy.proofs.Words.{outcome, refusal-outcome}
 
@@ -43,13 +45,12 @@ module _ (first second : List ℕ) (P : ℕ → Input → Type 0) where
         second-many = λ r t few l. h (record { number = 14; input = Second }) (prepare-many-second benchLimits first second r t few l);
       }
 
-number-small : (i : Input) (number : ℕ) → Concerns i number → (number < 256) × (cardOf i < 256)
-number-small Buffer number h = (omega arith, omega arith)
-number-small First number (a, b) = (omega arith, omega arith)
-number-small Second number (a, b) = (omega arith, omega arith)
-number-small Evidence number (a, b) = (omega arith, omega arith)
-number-small Book number h = absurd h
-number-small (Card n) number h = absurd h
+-- an input that is no card, by a number that fits its byte
+pub concerns-zero : (r : Refusal) (input : Input) (least most : ℕ) → Concerns r input least most → most < 256 → cardOf input ≡ 0 → outcome (refusalWord r) ≡ 0
+concerns-zero r input least most (is, a, b) small none =
+    refusal-outcome r (omega arith) (rw is (omega (arith, none)))
 
-pub concerns-zero : (r : Refusal) → Concerns (r .input) (r .number) → outcome (refusalWord r) ≡ 0
-concerns-zero r h = let (number, card) = number-small (r .input) (r .number) h in refusal-outcome r number card
+pub known-zero : (r : Refusal) → Known r → outcome (refusalWord r) ≡ 0
+known-zero r (inl h) = concerns-zero r Buffer 1 1 h (omega arith) refl
+known-zero r (inr (inl h)) = concerns-zero r First 2 14 h (omega arith) refl
+known-zero r (inr (inr h)) = concerns-zero r Second 2 14 h (omega arith) refl

@@ -32,10 +32,12 @@ use Rattle.picture.specs.declared.answer.Input.the-variants.{Buffer}
 use Rattle.picture.specs.declared.answer.Refusal.{Refusal}
 use Rattle.meaning.specs.NormalTable.{normalFile}
 use Rattle.normal.specs.Half.{halfOf}
+use Rattle.workspace.proofs.Lendings.{TooShort, acceptable-work, refused-work, short-work, work-kept, work-past}
 use Rattle.workspace.proofs.Preparations.{halves-same}
 use Rattle.workspace.specs.Prepare.{Acceptable, halvesPut, workSize}
+use Rattle.evidence.proofs.Verifications.{pair-work}
 use Rattle.evidence.specs.declared.check.Verified.the-variants as verified
-use Rattle.subsumption.proofs.Answers.{Answered, TooShort, acceptable-result, acceptable-subsumes, acceptable-work, answered-no, answered-yes, evidence-read, refused-result, refused-subsumes, refused-work, result-kept, result-past, short-result, short-subsumes, short-work, work-kept, work-past, work-verify}
+use Rattle.subsumption.proofs.Answers.{Answered, acceptable-result, acceptable-subsumes, answered-no, answered-yes, evidence-read, refused-result, refused-subsumes, result-kept, result-past, short-result, short-subsumes}
 use Rattle.meaning.specs.Covering.{Covers}
 use Rattle.subsumption.proofs.Conditions.{condition-2-verdict}
 use Rattle.subsumption.proofs.Refusals.{subsumes-refusal}
@@ -46,7 +48,7 @@ use Rattle.subsumption.specs.declared.verdict.Verdict.{Verdict}
 use Rattle.subsumption.specs.declared.verdict.Verdict.the-variants as verdict
 use Rattle.zuvaropy.specs.Calls.{subsumesBuffer, subsumesSpace, subsumesWord, verifySpace, verifyWord}
 use Rattle.zuvaropy.specs.Word.{outcomeNo, outcomeYes, refusalWord, verdictWord, verifiedWord}
-use Rattle.zuvaropy.proofs.PairWords.{Refusals, bench, concerns-zero, refusals}
+use Rattle.zuvaropy.proofs.PairWords.{Refusals, bench, known-zero, refusals}
 use Rattle.zuvaropy.proofs.Words.{outcome, refused, value, value-outcome, value-value}
 
 module _ (first second work result : List ℕ) where
@@ -59,17 +61,17 @@ module _ (first second work result : List ℕ) where
   abbrev pub Refuses : ℕ → Input → Type 0
   Refuses q input = Gives (refused q input) work result
 
-  pub subsumes-short : TooShort benchLimits (length work) (length result) → Refuses 1 Buffer
+  pub subsumes-short : TooShort benchLimits (evidenceSize benchLimits) (length work) (length result) → Refuses 1 Buffer
   unfolding subsumesWord subsumesSpace subsumesBuffer
   subsumes-short h = (
     ap verdictWord (short-subsumes benchLimits first second (length work) (length result) h),
-    short-work benchLimits first second work (length result) h,
+    short-work benchLimits (evidenceSize benchLimits) first second work (length result) h,
     short-result benchLimits first second (length work) result h,
   )
 
   pub subsumes-space : evidenceSize benchLimits ≤ length result → subsumesSpace first second work (length result) ≡ verifySpace first second work
   unfolding subsumesSpace verifySpace
-  subsumes-space long = work-verify benchLimits first second work (length result) long
+  subsumes-space long = pair-work benchLimits first second work (evidenceSize benchLimits) (length result) long
 
   module _ (enough : workSize benchLimits ≤ length work) (long : evidenceSize benchLimits ≤ length result) where
     pub subsumes-refuses : Refusals first second Refuses
@@ -77,7 +79,7 @@ module _ (first second work result : List ℕ) where
     subsumes-refuses =
         refusals first second Refuses (λ r e. (
           ap verdictWord (refused-subsumes benchLimits first second (length work) (length result) enough long r e),
-          refused-work benchLimits first second work (length result) enough long r e,
+          refused-work benchLimits (evidenceSize benchLimits) first second work (length result) enough long r e,
           refused-result benchLimits first second (length work) result enough long r e,
         ))
 
@@ -87,7 +89,7 @@ module _ (first second work result : List ℕ) where
       unfolding subsumesWord subsumesSpace subsumesBuffer
       subsumes-decided = (
         ap verdictWord (acceptable-subsumes benchLimits first second (length work) (length result) enough long pair),
-        acceptable-work benchLimits first second work (length result) enough long pair,
+        acceptable-work benchLimits (evidenceSize benchLimits) first second work (length result) enough long pair,
         acceptable-result benchLimits first second (length work) result enough long pair,
       )
 
@@ -100,7 +102,7 @@ module _ (first second work result : List ℕ) where
 
   pub subsumes-past : (i : ℕ) → workSize benchLimits ≤ i → getD (subsumesSpace first second work (length result)) i 0 ≡ getD work i 0
   unfolding subsumesSpace
-  subsumes-past i h = work-past benchLimits first second work (length result) i h
+  subsumes-past i h = work-past benchLimits (evidenceSize benchLimits) first second work (length result) i h
 
   pub subsumes-buffer-past : (i : ℕ) → length (evidenceOf benchLimits first second) ≤ i → getD (subsumesBuffer first second (length work) result) i 0 ≡ getD result i 0
   unfolding subsumesBuffer
@@ -109,7 +111,7 @@ module _ (first second work result : List ℕ) where
   pub subsumes-kept :
       (length (subsumesSpace first second work (length result)) ≡ length work) × (length (subsumesBuffer first second (length work) result) ≡ length result)
   unfolding subsumesSpace subsumesBuffer
-  subsumes-kept = (work-kept benchLimits first second work (length result), result-kept benchLimits first second (length work) result bench)
+  subsumes-kept = (work-kept benchLimits (evidenceSize benchLimits) first second work (length result), result-kept benchLimits first second (length work) result bench)
 
 -- ---- what a word shows
 
@@ -118,7 +120,7 @@ module _ (first second : List ℕ) (work result : ℕ) where
   answered-small b n a = omega (arith, a .length-is, evidence-size benchLimits first second bench (a .pair))
 
   refusal-zero : (r : Refusal) → subsumesAnswer benchLimits first second work result ≡ verdict.Refused r → outcome (refusalWord r) ≡ 0
-  refusal-zero r e = concerns-zero r (subsumes-refusal benchLimits first second work result r e)
+  refusal-zero r e = known-zero r (subsumes-refusal benchLimits first second work result r e)
 
   yes-word : (v : Verdict) → subsumesAnswer benchLimits first second work result ≡ v → outcome (verdictWord v) ≡ outcomeYes →
       Answered benchLimits first second work result true (value (verdictWord v))

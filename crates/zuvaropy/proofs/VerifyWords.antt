@@ -15,12 +15,13 @@ use Prim.Native.Nat.{ℕ, _<_, _≤_}
 use native.Mathlib.Omega.{arith}
 use lib.ListN.{getD, length, take}
 use mathlib.Core.List.{List, _++_}
+use mathlib.Core.Logic.{⊎-elim}
 use mathlib.Core.Path.{_∙_, _≡_, ap, refl}
 use Rattle.table.specs.Bounds.{benchLimits}
 use Rattle.ale.specs.Interpretation.{Subsumed}
 use Rattle.ale.specs.PictureSignature.{pictureSignature}
 use Rattle.picture.specs.declared.answer.Input.{Input}
-use Rattle.picture.specs.declared.answer.Input.the-variants.{Buffer}
+use Rattle.picture.specs.declared.answer.Input.the-variants.{Buffer, Evidence}
 use Rattle.picture.specs.declared.answer.Refusal.{Refusal}
 use Rattle.meaning.specs.Meaning.{pictureTree}
 use Rattle.meaning.specs.NormalTable.{normalFile}
@@ -36,7 +37,7 @@ use Rattle.evidence.specs.declared.check.Verified.{Verified}
 use Rattle.evidence.specs.declared.check.Verified.the-variants as verified
 use Rattle.zuvaropy.specs.Calls.{verifySpace, verifyWord}
 use Rattle.zuvaropy.specs.Word.{outcomeNo, outcomeYes, refusalWord, verifiedWord}
-use Rattle.zuvaropy.proofs.PairWords.{Refusals, bench, concerns-zero, refusals}
+use Rattle.zuvaropy.proofs.PairWords.{Refusals, bench, concerns-zero, known-zero, refusals}
 use Rattle.zuvaropy.proofs.Words.{outcome, refused}
 
 module _ (first second evidence work : List ℕ) where
@@ -81,7 +82,8 @@ module _ (first second evidence work : List ℕ) where
 
 module _ (first second evidence : List ℕ) (room : ℕ) where
   refusal-zero : (r : Refusal) → verifyAnswer benchLimits first second evidence room ≡ verified.Refused r → outcome (refusalWord r) ≡ 0
-  refusal-zero r e = concerns-zero r (verify-refusal benchLimits first second evidence room r e)
+  refusal-zero r e =
+      ⊎-elim (known-zero r) (λ h. concerns-zero r Evidence 16 23 h (omega arith) refl) (verify-refusal benchLimits first second evidence room r e)
 
   map-word : (v : Verified) → verifyAnswer benchLimits first second evidence room ≡ v → outcome (verifiedWord v) ≡ outcomeYes → v ≡ verified.MapTaken
   map-word verified.MapTaken e h = refl

@@ -19,9 +19,11 @@ use Rattle.picture.specs.declared.read.Reading.the-variants as reading
 use Rattle.picture.specs.Read.{readingOf, answered, answerOf}
 use Rattle.picture.specs.View.{Readable, rowCount}
 use Rattle.evidence.specs.declared.check.Verified.the-variants as verified
+use Rattle.lcs.specs.Call.{tooWide}
+use Rattle.lcs.specs.declared.common.Common.the-variants as common
 use Rattle.subsumption.specs.declared.verdict.Verdict.the-variants as verdict
 use Rattle.picture.proofs.Readables.{reading-answer, reading-number, readable-count}
-use Rattle.zuvaropy.specs.Word.{outcomeYes, inputCode, cardOf, valueWord, refusalWord, readWord, verdictWord, verifiedWord}
+use Rattle.zuvaropy.specs.Word.{outcomeYes, inputCode, cardOf, commonWord, valueWord, refusalWord, readWord, verdictWord, verifiedWord}
 use Rattle.zuvaropy.specs.Calls.{validateWord}
 
 abbrev pub outcome : ℕ → ℕ
@@ -81,6 +83,8 @@ words =
     ∷ valueWord outcomeYes 256
     ∷ verdictWord (verdict.Yes 12)
     ∷ verdictWord (verdict.No 46595)
+    ∷ commonWord (common.Length 6147)
+    ∷ commonWord (common.Refused tooWide)
     ∷ verifiedWord verified.MapTaken
     ∷ verifiedWord verified.RefutationTaken
     ∷ []
@@ -96,6 +100,8 @@ pub codes-agree : words ≡
     ∷ 0x0100000000000100
     ∷ 0x010000000000000C
     ∷ 0x020000000000B603
+    ∷ 0x0100000000001803
+    ∷ 0x000F020000000000
     ∷ 0x0100000000000000
     ∷ 0x0200000000000000
     ∷ []

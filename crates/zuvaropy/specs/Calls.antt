@@ -2,6 +2,7 @@
 --   validateWord                                  the plain test
 --   normalizeWord, normalizeBuffer                the normal table
 --   subsumesWord, subsumesSpace, subsumesBuffer   the verdict with evidence
+--   lcsWord, lcsSpace, lcsBuffer                  the common picture
 --   verifyWord, verifySpace                       the check of evidence
 use mathlib.Core.List.{List}
 use Prim.Native.Nat.{ℕ}
@@ -10,8 +11,9 @@ use Rattle.picture.specs.declared.answer.Input.the-variants.{First}
 use Rattle.picture.specs.Read.{answerOf}
 use Rattle.normal.specs.Call.{normalizeAnswer, normalizeResult}
 use Rattle.evidence.specs.Call.{verifyAnswer, verifyWork}
+use Rattle.lcs.specs.Call.{lcsAnswer, lcsResult, lcsWork}
 use Rattle.subsumption.specs.Call.{subsumesAnswer, subsumesResult, subsumesWork}
-use Rattle.zuvaropy.specs.Word.{normalizedWord, readWord, verdictWord, verifiedWord}
+use Rattle.zuvaropy.specs.Word.{commonWord, normalizedWord, readWord, verdictWord, verifiedWord}
 
 -- Test one picture; give its row count. A single picture is the first input.
 unfoldable pub validateWord : List ℕ → ℕ
@@ -37,6 +39,18 @@ subsumesSpace first second work room = subsumesWork benchLimits first second wor
 -- the result buffer: the evidence from its first byte on, or nothing written; the work space is so many bytes long
 unfoldable pub subsumesBuffer : List ℕ → List ℕ → ℕ → List ℕ → List ℕ
 subsumesBuffer first second room result = subsumesResult benchLimits first second room result
+
+-- Common picture and its length (buffer 6,147): 1 of the work space and of the result buffer, so many bytes long; first; second; 14 of each; 15.
+unfoldable pub lcsWord : List ℕ → List ℕ → ℕ → ℕ → ℕ
+lcsWord first second room space = commonWord (lcsAnswer benchLimits first second room space)
+
+-- the work space, as that of the check if the result buffer, so many bytes long, is long enough, whatever 15 answers; else nothing written
+unfoldable pub lcsSpace : List ℕ → List ℕ → List ℕ → ℕ → List ℕ
+lcsSpace first second work room = lcsWork benchLimits first second work room
+
+-- the result buffer: the common picture from its first byte on, or nothing written; the work space is so many bytes long
+unfoldable pub lcsBuffer : List ℕ → List ℕ → ℕ → List ℕ → List ℕ
+lcsBuffer first second room result = lcsResult benchLimits first second room result
 
 -- Check evidence: map taken or refutation taken: 1 of the work space, so many bytes long; first; second; 14 of each; 16 to 23.
 unfoldable pub verifyWord : List ℕ → List ℕ → List ℕ → ℕ → ℕ

@@ -12,6 +12,7 @@
 --   Case                        normal: a picture and its normal table
 --                               subsumes: the second covers the first, with our map; subsumesNot: it does not, with our refutation (01 leaves which
 --                               one it is to the program)
+--                               common: two pictures and their common picture
 --                               subsumesAll: a picture that covers every picture, with one map that is ours for each that passes 14
 --   Writes                      with buffers of these lengths the verdict and the evidence's length; in any result buffer that is long enough the
 --                               evidence
@@ -35,7 +36,7 @@ use Rattle.meaning.specs.NormalTable.{mergedCount}
 use Rattle.workspace.specs.Prepare.{workSize}
 use Rattle.homomorphism.specs.Layout.{mapTag}
 use Rattle.subsumption.specs.Verdict.{evidenceSize}
-use Rattle.zuvaropy.specs.Calls.{normalizeBuffer, normalizeWord, subsumesBuffer, subsumesWord, verifyWord}
+use Rattle.zuvaropy.specs.Calls.{lcsBuffer, lcsWord, normalizeBuffer, normalizeWord, subsumesBuffer, subsumesWord, verifyWord}
 use Rattle.zuvaropy.specs.Word.{outcomeNo, outcomeYes, valueWord}
 
 -- ---- pictures by rows
@@ -97,6 +98,7 @@ pub data Case : Type 0 where
   normal : List ℕ → List ℕ → Case
   subsumes : List ℕ → List ℕ → List ℕ → Case
   subsumesNot : List ℕ → List ℕ → List ℕ → Case
+  common : List ℕ → List ℕ → List ℕ → Case
   subsumesAll : List ℕ → List ℕ → Case
 
 abbrev pub room : ℕ
@@ -112,6 +114,7 @@ Writes first second outcome evidence =
 
 -- normal: the word has the table's length; the buffer holds the table, and past it what was lent
 -- subsumes, subsumesNot: the verdict is yes, or no, with this evidence, which the check takes, and it is so by the meaning of the two pictures
+-- common: the word has the common picture's length, any result buffer that is long enough holds it, and past it what was lent; by its meaning it covers both
 -- subsumesAll: by its meaning so of every readable picture, by the calls of each that passes 14
 abbrev pub Holds : Case → Type 0
 Holds (normal first table) =
@@ -125,6 +128,11 @@ Holds (subsumesNot first second refuting) =
     Writes first second outcomeNo refuting
     × (verifyWord first second refuting room ≡ valueWord outcomeNo 0)
     × (Subsumed pictureSignature (pictureTree benchLimits first) (pictureTree benchLimits second) → ⊥)
+Holds (common first second picture) =
+    (lcsWord first second room (pictureSize benchLimits) ≡ valueWord outcomeYes (length picture))
+    × ((result : List ℕ) → pictureSize benchLimits ≤ length result → lcsBuffer first second room result ≡ put result 0 picture)
+    × Subsumed pictureSignature (pictureTree benchLimits first) (pictureTree benchLimits picture)
+    × Subsumed pictureSignature (pictureTree benchLimits second) (pictureTree benchLimits picture)
 Holds (subsumesAll second map) =
     (first : List ℕ) → Readable benchLimits first →
     Subsumed pictureSignature (pictureTree benchLimits first) (pictureTree benchLimits second)
@@ -214,6 +222,30 @@ k8 = subsumes noneReached allFive toMarked
 abbrev pub k8-not : Case
 k8-not = subsumesNot noneReached someReached alone
 
+-- Common of {3}, some r{4} and {3,5}, some r{4,6}, some r{7}: {3}, some r{4}, some r{}, 3 rows.
+abbrev pub someFour : List ℕ
+someFour = picture (root (3 ∷ []) ∷ some 0 r (4 ∷ []) ∷ [])
+
+abbrev pub someTwo : List ℕ
+someTwo = picture (root (3 ∷ 5 ∷ []) ∷ some 0 r (4 ∷ 6 ∷ []) ∷ some 0 r (7 ∷ []) ∷ [])
+
+abbrev pub fourAndAny : List ℕ
+fourAndAny = picture (root (3 ∷ []) ∷ some 0 r (4 ∷ []) ∷ some 0 r [] ∷ [])
+
+abbrev pub k9 : Case
+k9 = common someFour someTwo fourAndAny
+
+-- Common of all r{3} and all r{5}: one empty row.
+abbrev pub allThree : List ℕ
+allThree = picture (root [] ∷ all 0 r (3 ∷ []) ∷ [])
+
+abbrev pub k10 : Case
+k10 = common allThree allFive empty
+
+-- Common of all r impossible and all r{5}: all r{5}.
+abbrev pub k11 : Case
+k11 = common noneReached allFive allFive
+
 -- all r(some s{1}), some r{2}: 4 rows, normal 5; that table's normal has 6.
 abbrev k12-five : List ℕ
 k12-five = picture (root [] ∷ all 0 r [] ∷ some 1 s (1 ∷ []) ∷ some 0 r (2 ∷ []) ∷ some 3 s (1 ∷ []) ∷ [])
@@ -239,6 +271,9 @@ starred =
     ∷ k7-not
     ∷ k8
     ∷ k8-not
+    ∷ k9
+    ∷ k10
+    ∷ k11
     ∷ k12
     ∷ k12-again
     ∷ []

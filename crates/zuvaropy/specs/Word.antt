@@ -12,6 +12,8 @@ use Rattle.normal.specs.declared.normalize.Normalized.{Normalized}
 use Rattle.normal.specs.declared.normalize.Normalized.the-variants as normalized
 use Rattle.evidence.specs.declared.check.Verified.{Verified}
 use Rattle.evidence.specs.declared.check.Verified.the-variants as verified
+use Rattle.lcs.specs.declared.common.Common.{Common}
+use Rattle.lcs.specs.declared.common.Common.the-variants as common
 use Rattle.subsumption.specs.declared.verdict.Verdict.{Verdict}
 use Rattle.subsumption.specs.declared.verdict.Verdict.the-variants as verdict
 
@@ -58,6 +60,11 @@ abbrev pub verdictWord : Verdict → ℕ
 verdictWord (verdict.Yes n) = valueWord outcomeYes n
 verdictWord (verdict.No n) = valueWord outcomeNo n
 verdictWord (verdict.Refused r) = refusalWord r
+
+-- the common picture: its length in bytes, or the refusal
+abbrev pub commonWord : Common → ℕ
+commonWord (common.Length n) = valueWord outcomeYes n
+commonWord (common.Refused r) = refusalWord r
 
 -- the check of evidence: which kind was taken, with value 0, or the refusal
 abbrev pub verifiedWord : Verified → ℕ

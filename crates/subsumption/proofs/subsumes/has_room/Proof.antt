@@ -8,8 +8,7 @@ use native.Mathlib.Omega.{arith}
 use Rattle.countermodel.proofs.Individuals.{within-most}
 use Rattle.workspace.specs.Prepare.{workSize}
 use Rattle.subsumption.specs.Verdict.{evidenceSize}
-use Rattle.subsumption.proofs.Answers.{room-no}
-use Rattle.subsumption.proofs.Decisions.{roomy-long}
+use Rattle.workspace.proofs.Lendings.{room-long, room-no}
 use borrow.Author.Needs.{needs}
 use Rattle.subsumption.proofs.subsumes.has_room.Statement.{statement}
 use Rattle.subsumption.proofs.subsumes.has_room.Tie as tie
@@ -33,14 +32,14 @@ returns c =
     let a = c .before .before .before .before .args in
     let enough : workSize (a .limits) ≤ a .work = omega (arith, c .before .before .if1 .taken, c .before .before .before .half-size .ensures) in
     let end : c .individual-place .result ≡ evidenceSize (a .limits) = omega (arith, c .individual-place .ensures, c .before .individuals-within .ensures) in
-    ap (λ n. leb n (a .result)) end ∙ sym (roomy-long (a .limits) (a .work) (a .result) enough)
+    ap (λ n. leb n (a .result)) end ∙ sym (room-long (a .limits) (evidenceSize (a .limits)) (a .work) (a .result) enough)
 
 returns-2 : tie.Need-returns-2
 returns-2 c =
     let a = c .before .before .args in
     let half = c .before .half-size in
     let short : a .work < half .result + half .result = omega (arith, c .if1 .left) in
-    lt-leb (half .result + half .result) (a .work) short ∙ sym (room-no (a .limits) (a .work) (a .result) (inl (omega (arith, short, half .ensures))))
+    lt-leb (half .result + half .result) (a .work) short ∙ sym (room-no (a .limits) (evidenceSize (a .limits)) (a .work) (a .result) (inl (omega (arith, short, half .ensures))))
 
 pub has-room-spec : {M : Type 1} → statement M
 has-room-spec =

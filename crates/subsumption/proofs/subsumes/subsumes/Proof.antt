@@ -5,7 +5,8 @@ use lib.ListN.{length}
 use mathlib.Core.Path.{_∙_, sym}
 use Rattle.workspace.specs.declared.prepare.Prepared.the-variants.{Refused, Tables}
 use Rattle.workspace.proofs.TablesIn.{prepared-in}
-use Rattle.subsumption.proofs.Answers.{room-both}
+use Rattle.workspace.proofs.Lendings.{room-both}
+use Rattle.subsumption.specs.Verdict.{evidenceSize}
 use Rattle.subsumption.proofs.Decisions.{prepared-call, prepared-decided, prepared-settled, short-call}
 use borrow.Author.Needs.{needs}
 use Rattle.subsumption.proofs.subsumes.subsumes.Statement.{statement}
@@ -25,7 +26,7 @@ prepare-requires c κs =
     let start = c .before .before .before .before .before .before .before in
     let a = start .args in
     let room = c .before .before .has-room in
-    (start .pre, room-both (a .limits) (length (now (a .work))) (length (now (a .result))) (sym (room .ensures) ∙ not-false (room .result) (c .before .if1 .left)) .0)
+    (start .pre, room-both (a .limits) (evidenceSize (a .limits)) (length (now (a .work))) (length (now (a .result))) (sym (room .ensures) ∙ not-false (room .result) (c .before .if1 .left)) .0)
 
 enum-known-pair : tie.Need-enum-known-pair
 enum-known-pair c = search needs
@@ -37,7 +38,7 @@ decide-in-requires c κs =
     let room = c .before .before .before .before .before .before .before .before .before .before .has-room in
     let prepare = c .before .before .before .before .before .before .before .prepare in
     let pair = c .before .before .before .pair .given in
-    let (enough, long) = room-both (a .limits) (length (now (a .work))) (length (now (a .result))) (sym (room .ensures) ∙ not-false (room .result) (c .before .before .before .before .before .before .before .before .before .if1 .left)) in (
+    let (enough, long) = room-both (a .limits) (evidenceSize (a .limits)) (length (now (a .work))) (length (now (a .result))) (sym (room .ensures) ∙ not-false (room .result) (c .before .before .before .before .before .before .before .before .before .if1 .left)) in (
       start .pre,
       (
         prepared-in (a .limits) (now (a .first)) (now (a .second)) (now (a .work)) (prepare .last .1 .1 .1 .0) (prepare .result) (pair .0 .0) (start .pre) enough (prepare .ensures .0) (prepare .ensures .1) (pair .1),
@@ -61,7 +62,7 @@ returns-2 c =
     let a = start .args in
     let room = c .before .before .before .before .before .before .before .before .before .before .before .before .before .has-room in
     let roomy = sym (room .ensures) ∙ not-false (room .result) (c .before .before .before .before .before .before .before .before .before .before .before .before .if1 .left) in
-    let enough = room-both (a .limits) (length (now (a .work))) (length (now (a .result))) roomy .0 in
+    let enough = room-both (a .limits) (evidenceSize (a .limits)) (length (now (a .work))) (length (now (a .result))) roomy .0 in
     let prepare = c .before .before .before .before .before .before .before .before .before .before .prepare in
     let pair = c .before .before .before .before .before .before .pair .given in
     let decide = c .before .before .decide-in in

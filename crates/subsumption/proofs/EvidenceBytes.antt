@@ -1,10 +1,7 @@
--- Laws of lists of bytes: what is written as evidence is bytes.
---   bytes-none, bytes-cons, bytes-append   no byte, one byte before others, bytes after bytes
---   bytes-number                           a number as bytes
---   bytes-end                              the end field
---   bytes-map                              a map file, whatever the images are
---   bytes-refutation                       a refutation file, if the roles are
-use Prim.Native.Nat.{_%_, _*_, _/_, _<_, _^_, suc, zero, ℕ}
+-- What is written as evidence is bytes.
+--   bytes-map          a map file, whatever the images are
+--   bytes-refutation   a refutation file, if the roles are
+use Prim.Native.Nat.{_*_, _<_, suc, zero, ℕ}
 use lib.ListN.{getD, length}
 use mathlib.Core.List.{List, [], _++_, _∷_}
 use native.Mathlib.Omega.{arith}
@@ -15,29 +12,10 @@ use Rattle.countermodel.specs.Layout.{individualLength, individualTag}
 use Rattle.countermodel.specs.Writing.{individualBytes, individualsOf, refutationFile}
 use Rattle.homomorphism.specs.Layout.{mapTag}
 use Rattle.homomorphism.specs.Map.{imageBytes, mapFile}
+use Rattle.meaning.proofs.ByteLists.{bytes-append, bytes-cons, bytes-end, bytes-none, bytes-number}
 use Rattle.table.specs.Fields.{endBytes}
-use Rattle.table.specs.Layout.{endLength, endTag, nameBytes, numberSize}
+use Rattle.table.specs.Layout.{nameBytes, numberSize}
 use Rattle.table.specs.Number.{Bytes, beBytes}
-
-pub bytes-none : Bytes []
-bytes-none i = omega arith
-
-pub bytes-cons : (n : ℕ) (s : List ℕ) → n < 256 → Bytes s → Bytes (n ∷ s)
-bytes-cons n s l h zero = l
-bytes-cons n s l h (suc i) = h i
-
-pub bytes-append : (s t : List ℕ) → Bytes s → Bytes t → Bytes (s ++ t)
-bytes-append [] t h k = k
-bytes-append (n ∷ s) t h k = bytes-cons n (s ++ t) (h 0) (bytes-append s t (λ i. h (suc i)) k)
-
-pub bytes-number : (k n : ℕ) → Bytes (beBytes k n)
-unfolding beBytes
-bytes-number zero n = bytes-none
-bytes-number (suc k) n = bytes-cons (n / 256 ^ k % 256) (beBytes k n) (omega arith) (bytes-number k n)
-
-pub bytes-end : Bytes endBytes
-unfolding endBytes
-bytes-end = bytes-cons endTag (beBytes numberSize endLength) (omega arith) (bytes-number numberSize endLength)
 
 -- ---- a map
 
