@@ -15,6 +15,8 @@ pub mod Copies
 -- the rows that are paired
 pub mod Pairings
 pub mod Grafts
+-- the call as the code makes it
+pub mod Calls
 -- the condition
 pub mod Conditions
 -- worked cases, computed

@@ -1,6 +1,7 @@
 -- What a function that adds rows to a table under construction has done. Nobody has to believe these.
 --   Room               what it needs: the table is within the limit, and the lent part has room up to it
 --   Grown              the rows of a forest were counted up to the limit and one more, and within it they stand after those that were there
+--   Built              the rows of a tree were counted so, and within the limit they stand at the start
 --   Pushed, Entered    one row more; the same if there is room for one
 --   stays, isDropped   a row that is kept whatever hangs from it; one that was written and is dropped
 use Prim.Native.Nat.{_+_, _<_, _≤_, ℕ}
@@ -15,9 +16,10 @@ use Rattle.table.specs.Layout.{kindForAll, «place»}
 use Rattle.table.specs.NameSet.{setOf}
 use Rattle.table.specs.Put.{put}
 use Rattle.table.specs.declared.builder.Builder.{Builder}
-use Rattle.ale.specs.Encoding.{encodeForest}
+use Rattle.table.specs.declared.layout.Limits.{Limits}
+use Rattle.ale.specs.Encoding.{encode, encodeForest}
 use Rattle.ale.specs.PictureSignature.{pictureSignature}
-use Rattle.ale.specs.Tree.{Forest, sizes}
+use Rattle.ale.specs.Tree.{Forest, Tree, size, sizes}
 use Rattle.meaning.specs.File.{markCode, rowsFrom}
 use Rattle.normal.specs.Grown.{bare, capped, prefix}
 use Rattle.normal.specs.declared.label.Label.{Label}
@@ -34,6 +36,11 @@ pub record Grown (limit parent : ℕ) (b : Builder) (out : List ℕ) (f : Forest
   pub written :
       b .rows + sizes pictureSignature f ≤ limit →
       prefix (r .rows) end ≡ prefix (b .rows) out ++ rowsFrom (b .rows) (encodeForest pictureSignature f parent (b .rows))
+
+pub record Built (limits : Limits) (t : Tree pictureSignature) (out : List ℕ) (r : Builder) (end : List ℕ) : Type 0 where
+  pub count : r .rows ≡ capped (limits .rows) (size pictureSignature t)
+  pub same : length end ≡ length out
+  pub bytes-are : size pictureSignature t ≤ limits .rows → prefix (r .rows) end ≡ rowsFrom 0 (encode pictureSignature t)
 
 pub record Pushed (b : Builder) (out : List ℕ) (edge : Edge) (label : Label) (r : Builder) (end : List ℕ) : Type 0 where
   pub one-more : r .rows ≡ b .rows + 1

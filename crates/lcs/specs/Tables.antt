@@ -5,20 +5,31 @@
 --   pairsBelow   its successors, if neither is marked
 --   pairsFrom    row c of s, with row e of t and its later siblings, by the same kind and role
 --   Paired       what is asked of them: those of t stand no earlier than c in the order of edges
+--   Trims        what is asked of both tables
+--   commonFileIn, commonIn   the common picture of two normal tables as a file, and the answer; 15
 use Prim.Native.Nat.{_<_, ℕ}
+use lib.Dec.{leb}
+use lib.ListN.{length}
 use mathlib.Core.Bool.{false}
 use mathlib.Core.List.{List}
 use mathlib.Core.Path.{_≡_}
 use Rattle.table.specs.Fields.{kindOf, roleOf}
+use Rattle.table.specs.Pick.{pick}
+use Rattle.table.specs.declared.layout.Limits.{Limits}
 use Rattle.ale.proofs.PairWalks.{KeysFrom}
 use Rattle.ale.proofs.Pairs.{pairForest}
+use Rattle.ale.specs.Encoding.{encode}
 use Rattle.ale.specs.Forest.{dropped}
 use Rattle.ale.specs.PictureSignature.{pictureSignature}
 use Rattle.ale.specs.Product.{pairEach, product}
-use Rattle.ale.specs.Tree.{Forest, Kind, Tree, successorsOf}
+use Rattle.ale.specs.Tree.{Forest, Kind, Tree, size, successorsOf}
+use Rattle.meaning.specs.File.{fileOf}
 use Rattle.meaning.specs.Meaning.{kindAt}
 use Rattle.homomorphism.specs.Search.{treeAt}
+use Rattle.lcs.specs.Call.{tooWide}
 use Rattle.lcs.specs.Siblings.{Trim, TrimAll, forestFrom, keyAt}
+use Rattle.lcs.specs.declared.common.Common.{Common}
+use Rattle.lcs.specs.declared.common.Common.the-variants.{Length, Refused}
 
 pub record Kept (k : Kind) (t : Tree pictureSignature) : Type 0 where
   pub trim : Trim t
@@ -42,3 +53,14 @@ pub record Paired (s t : List ℕ) (rows depth c e : ℕ) : Type 0 where
   pub first-kept : Kept (kindAt (kindOf s c)) (treeAt s depth c)
   pub second-trim : TrimAll (forestFrom t rows depth e)
   pub onward : KeysFrom pictureSignature (keyAt s c) (forestFrom t rows depth e)
+
+pub record Trims (s t : List ℕ) (depth : ℕ) : Type 0 where
+  pub first-trim : Trim (treeAt s depth 0)
+  pub second-trim : Trim (treeAt t depth 0)
+
+module _ (limits : Limits) (s t : List ℕ) where
+  unfoldable pub commonFileIn : List ℕ
+  commonFileIn = fileOf (encode pictureSignature (productAt s t (limits .depth) 0 0))
+
+  unfoldable pub commonIn : Common
+  commonIn = pick (leb (size pictureSignature (productAt s t (limits .depth) 0 0)) (limits .rows)) (Length (length commonFileIn)) (Refused tooWide)

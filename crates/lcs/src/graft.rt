@@ -10,22 +10,29 @@ use crate::node::leave;
 use homomorphism::label::label_at;
 use normal::node::Edge;
 use normal::rows::LINKS;
+use normal::rows::fill_links;
 use table::builder::Builder;
+use table::layout::KIND_ROOT;
+use table::layout::Limits;
 use table::layout::MAX_ROWS;
 use table::number::wide;
 use table::row::kind;
 use table::row::role;
 ghost use mathlib.Core.Path.{_≡_};
-ghost use Prim.Native.Nat.{ℕ, _<_};
+ghost use Prim.Native.Nat.{ℕ, _≤_, _<_};
+ghost use lib.ListN.{length};
+ghost use Rattle.table.specs.Bounds.{Bounded};
+ghost use Rattle.table.specs.Layout.{«place»};
 ghost use Rattle.ale.specs.Forest.{consReduced};
 ghost use Rattle.ale.specs.PictureSignature.{pictureSignature};
 ghost use Rattle.ale.specs.Tree.{nil};
 ghost use Rattle.meaning.specs.File.{codeAt};
 ghost use Rattle.meaning.specs.Meaning.{kindAt};
+ghost use Rattle.normal.specs.Rows.{Checked};
 ghost use Rattle.homomorphism.specs.Search.{LinkedTable, treeAt};
-ghost use Rattle.lcs.specs.Grown.{Grown, Room};
+ghost use Rattle.lcs.specs.Grown.{Built, Grown, Room};
 ghost use Rattle.lcs.specs.Siblings.{Trim, keyAt};
-ghost use Rattle.lcs.specs.Tables.{Hung, Kept, Paired, pairsBelow, pairsFrom, productAt};
+ghost use Rattle.lcs.specs.Tables.{Hung, Kept, Paired, Trims, pairsBelow, pairsFrom, productAt};
 
 // The pair of rows u and w, and what hangs from it.
 fn graft(
@@ -184,4 +191,42 @@ fn graft_each(
         v = wide(others[MAX_ROWS + v]) as usize;
     }
     grown
+}
+
+// Builds the product of two normal tables in a scratch table, from its first byte on.
+pub fn build(
+    first: &[u8],
+    n: usize,
+    second: &[u8],
+    m: usize,
+    limits: Limits,
+    scratch: &mut [u8],
+) -> Builder
+    requires { ⌜ (Checked (now first) n) × ((Checked (now second) m) × ((Trims (now first) (now second) (limits .depth)) × ((Bounded limits) × («place» (limits .rows) 0 ≤ length (now scratch))))) ⌝ }
+    ensures { λ r. ⌜ Built limits (productAt (now (first .entry)) (now (second .entry)) (limits .depth) 0 0) (now (scratch .entry)) r (now (scratch .exit)) ⌝ }
+{
+    let mut links = [0u8; LINKS];
+    fill_links(first, n, &mut links);
+    let mut others = [0u8; LINKS];
+    fill_links(second, m, &mut others);
+    let root = Edge {
+        parent: 0,
+        kind: KIND_ROOT,
+        role: 0,
+    };
+    graft(
+        first,
+        n,
+        &links,
+        0,
+        second,
+        m,
+        &others,
+        0,
+        limits.depth,
+        limits.rows,
+        scratch,
+        Builder::new(),
+        root,
+    )
 }

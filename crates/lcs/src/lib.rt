@@ -3,4 +3,5 @@ pub mod common;
 pub mod copy;
 pub mod edge;
 pub mod graft;
+pub mod lcs;
 pub mod node;

@@ -3,7 +3,6 @@
 --   evidence-in, verdict-in              and what they decide is what the definition says of the pictures
 --   map-fits, mapped                     a map has room; it is there where the search said yes
 --   decided-yes, decided-no              the answer and the evidence over what the search said
---   of-parts                             what is true of two tables is true of the parts that are lent, which are the same lists
 --   Gives, short-call, prepared-call     the answer and both buffers: 1 is answered no, or the reading and 14 decide
 --   prepared-settled, prepared-decided   after `prepare` has given the pair
 use Prim.Native.Nat.{_+_, _≤_, ℕ}
@@ -19,7 +18,7 @@ use Rattle.ale.specs.RowMap.{image}
 use Rattle.countermodel.proofs.Individuals.{within-most}
 use Rattle.countermodel.specs.Refuting.{againstTree}
 use Rattle.countermodel.specs.Writing.{RefutationRoom, refutationFile}
-use Rattle.workspace.proofs.TablesIn.{prepared-first, prepared-pair, prepared-second}
+use Rattle.workspace.proofs.TablesIn.{prepared-pair, prepared-tables}
 use Rattle.workspace.specs.Tables.{firstIn, secondIn}
 use Rattle.homomorphism.proofs.Maps.{length-mapFile}
 use Rattle.homomorphism.specs.Layout.{imagePlace}
@@ -135,9 +134,6 @@ module _ (s t : List ℕ) (depth : ℕ) where
       unfolding verdictIn evidenceIn
       decided-no said long written = let maps = sym is ∙ said in (rw (maps, long), rw maps written)
 
-pub of-parts : (P : List ℕ → List ℕ → Type 0) (s f t g : List ℕ) → s ≡ f → t ≡ g → P f g → P s t
-of-parts P s f t g d e h = subst (λ x. P x t) (sym d) (subst (λ y. P f y) (sym e) h)
-
 -- ---- the call by its tests
 
 module _ (limits : Limits) (first second work result : List ℕ) where
@@ -160,10 +156,7 @@ module _ (limits : Limits) (first second work result : List ℕ) where
 
 module _ (limits : Limits) (first second old work : List ℕ) (answer : Prepared) (pair : Pair) (bounded : Bounded limits) (enough : workSize limits ≤ length old) (is : answer ≡ prepareAnswer limits first second) (written : work ≡ onPrepared answer (halvesPut limits first second old) old) (tables : answer ≡ Tables pair) where
   of-tables : (P : List ℕ → List ℕ → Type 0) → P (normalFile limits first) (normalFile limits second) → P (firstIn pair work) (secondIn limits pair work)
-  of-tables P =
-      of-parts P (firstIn pair work) (normalFile limits first) (secondIn limits pair work) (normalFile limits second)
-      (prepared-first limits first second old work answer pair bounded enough is written tables)
-      (prepared-second limits first second old work answer pair bounded enough is written tables)
+  of-tables = prepared-tables limits first second old work answer pair bounded enough is written tables
 
   accepted : Acceptable limits first second
   accepted = prepared-pair limits first second old work answer pair bounded enough is written tables

@@ -1,9 +1,11 @@
 -- The two tables in the work space, as they are lent to what reads them.
+--   of-parts                    what is true of two tables is true of the parts that are lent, which are the same lists
 --   first-part, second-part     the tables as they are lent from the work space
 --   tables-in                   once both tables are written they are there, each as the code needs it
 --   prepared-pair               after `prepare` has given the pair, it is acceptable,
 --   prepared-first,
---   prepared-second, prepared-in   and the tables are the normal files, each as the code needs it
+--   prepared-second, prepared-in   and the tables are the normal files, each as the code needs it;
+--   prepared-tables             so what is true of both normal files is true of them
 use Prim.Native.Nat.{ℕ, _+_, _-_, _≤_}
 use native.Mathlib.Omega.{arith}
 use lib.ListN.{drop, length, take}
@@ -22,6 +24,9 @@ use Rattle.workspace.specs.declared.prepare.Pair.{Pair}
 use Rattle.workspace.specs.declared.prepare.Prepared.{Prepared}
 use Rattle.workspace.specs.declared.prepare.Prepared.the-variants.{Tables}
 use Rattle.workspace.proofs.Preparations.{halves-first, halves-second, length-halves, tables-acceptable, tablesOf}
+
+pub of-parts : (P : List ℕ → List ℕ → Type 0) (s f t g : List ℕ) → s ≡ f → t ≡ g → P f g → P s t
+of-parts P s f t g d e h = subst (λ x. P x t) (sym d) (subst (λ y. P f y) (sym e) h)
 
 module _ (limits : Limits) (pair : Pair) (work : List ℕ) where
   pub first-part : (n : ℕ) → n ≡ place (pair .first) endSize → take n work ≡ firstIn pair work
@@ -80,3 +85,7 @@ module _ (limits : Limits) (first second old work : List ℕ) (answer : Prepared
 
   pub prepared-in : TablesIn limits work pair
   prepared-in = as-written (λ q w. TablesIn limits w q) (tables-in limits first second old bounded prepared-pair enough)
+
+  pub prepared-tables : (P : List ℕ → List ℕ → Type 0) → P (normalFile limits first) (normalFile limits second) → P (firstIn pair work) (secondIn limits pair work)
+  prepared-tables P =
+      of-parts P (firstIn pair work) (normalFile limits first) (secondIn limits pair work) (normalFile limits second) prepared-first prepared-second

@@ -5,6 +5,8 @@ use crate::word::refusal_word;
 use crate::word::value_word;
 use evidence::check::Verified;
 use evidence::verify::verify;
+use lcs::common::Common;
+use lcs::lcs::lcs;
 use normal::normalize::Normalized;
 use normal::normalize::normalize;
 use picture::answer::Answer;
@@ -15,7 +17,7 @@ use subsumption::verdict::Verdict;
 use table::layout::Limits;
 ghost use mathlib.Core.Path.{_≡_};
 ghost use lib.ListN.{length};
-ghost use Rattle.zuvaropy.specs.Calls.{validateWord, normalizeWord, normalizeBuffer, subsumesBuffer, subsumesSpace, subsumesWord, verifySpace, verifyWord};
+ghost use Rattle.zuvaropy.specs.Calls.{lcsBuffer, lcsSpace, lcsWord, validateWord, normalizeWord, normalizeBuffer, subsumesBuffer, subsumesSpace, subsumesWord, verifySpace, verifyWord};
 
 mod word;
 
@@ -56,6 +58,23 @@ pub extern "C" fn zuvaropy_subsumes(
         Verdict::Yes(n) => value_word(YES, n as u64),
         Verdict::No(n) => value_word(NO, n as u64),
         Verdict::Refused(refusal) => refusal_word(refusal),
+    }
+}
+
+// The common picture of two pictures, their least common subsumer, is written into the result buffer, and its length given. Once 14 is answered yes for
+// both, the normal tables stand in the work space, also where 15 is answered no.
+#[no_mangle]
+pub extern "C" fn zuvaropy_lcs(
+    first: &[u8],
+    second: &[u8],
+    work: &mut [u8],
+    result: &mut [u8],
+) -> u64
+    ensures { λ r. ⌜ (r ≡ lcsWord (now (first .entry)) (now (second .entry)) (length (now (work .entry))) (length (now (result .entry)))) × ((now (work .exit) ≡ lcsSpace (now (first .entry)) (now (second .entry)) (now (work .entry)) (length (now (result .entry)))) × (now (result .exit) ≡ lcsBuffer (now (first .entry)) (now (second .entry)) (length (now (work .entry))) (now (result .entry)))) ⌝ }
+{
+    match lcs(first, second, Limits::bench(), work, result) {
+        Common::Length(n) => value_word(YES, n as u64),
+        Common::Refused(refusal) => refusal_word(refusal),
     }
 }
 

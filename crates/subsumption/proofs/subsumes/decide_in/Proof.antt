@@ -7,10 +7,9 @@ use lib.Seq.{length-take-le}
 use mathlib.Core.Path.{_≡_, sym}
 use Rattle.table.specs.Put.{put}
 use Rattle.normal.specs.Rows.{Checked}
-use Rattle.workspace.proofs.TablesIn.{first-part, second-part}
+use Rattle.workspace.proofs.TablesIn.{first-part, of-parts, second-part}
 use Rattle.workspace.specs.Tables.{firstIn, secondIn}
 use Rattle.subsumption.specs.Tables.{Settled, evidenceIn, verdictIn}
-use Rattle.subsumption.proofs.Decisions.{of-parts}
 use borrow.Author.Needs.{needs}
 use Rattle.subsumption.proofs.subsumes.decide_in.Statement.{statement}
 use Rattle.subsumption.proofs.subsumes.decide_in.Tie as tie
