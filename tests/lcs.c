@@ -60,6 +60,13 @@ void lcs_check(struct pair *pair, uint64_t wanted, unsigned long at)
         CHECK_WORD(lcs_room(pair, ZUVAROPY_WORK_BYTES, ZUVAROPY_MAX_PICTURE_BYTES, normalize_fills[i], at), wanted, at);
 }
 
+void lcs_check_rows(struct pair *pair, unsigned int rows, unsigned long at)
+{
+    CHECK_WORD(lcs_any(pair, at),
+               rows <= ZUVAROPY_MAX_ROWS ? word_length(rows) : word_second(ZUVAROPY_QUESTION_COMMON), at);
+    CHECK(reference_lcs_kept() == rows);
+}
+
 unsigned int lcs_subsumes(const struct picture *first, const struct picture *second)
 {
     static uint8_t space[ZUVAROPY_WORK_BYTES], evidence[ZUVAROPY_MAX_EVIDENCE_BYTES];

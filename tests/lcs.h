@@ -29,6 +29,9 @@ uint64_t lcs_any(struct pair *pair, unsigned long at);
 /* The same with several fills; the word must be `wanted`. */
 void lcs_check(struct pair *pair, uint64_t wanted, unsigned long at);
 
+/* A common picture of so many rows; refused by 15 if there are too many. */
+void lcs_check_rows(struct pair *pair, unsigned int rows, unsigned long at);
+
 /* The outcome of zuvaropy_subsumes: does the second picture subsume the first? */
 unsigned int lcs_subsumes(const struct picture *first, const struct picture *second);
 

@@ -1,21 +1,14 @@
 /*
  * The limit of 256 rows, which is of what is left after dropping: products up to
  * it and one over it, made of existential restrictions, of value restrictions
- * and of subtrees that stand for an impossible side; products that are larger
- * only before dropping; and pictures as deep as allowed.
+ * and of subtrees that stand for an impossible side, and products that are
+ * larger only before dropping.
  */
-
-#define _POSIX_C_SOURCE 200112L /* alarm */
 
 #include "check.h"
 #include "lcs.h"
 #include "lcs_reference.h"
 #include "rows.h"
-
-#include <unistd.h>
-
-/* Long enough for everything here, and short beside a product that is made more than once at each depth. */
-#define SECONDS 100
 
 #define R 8
 #define S 9
@@ -23,13 +16,6 @@
 #define MAX_DEPTH ZUVAROPY_MAX_DEPTH
 
 static struct pair pair;
-
-/* A common picture of so many rows, which is refused if there are too many. */
-static void check_rows(unsigned int rows, unsigned long at)
-{
-    CHECK_WORD(lcs_any(&pair, at), rows <= MAX_ROWS ? word_length(rows) : word_second(ZUVAROPY_QUESTION_COMMON), at);
-    CHECK(reference_lcs_kept() == rows);
-}
 
 static void begin(struct picture *p)
 {
@@ -79,7 +65,7 @@ static void check_fans(unsigned int first, unsigned int second)
     hang(&pair.first, 0, first, ZUVAROPY_KIND_EXISTS, R);
     hang(&pair.second, 0, second, ZUVAROPY_KIND_EXISTS, R);
     end();
-    check_rows(1 + first * second, 1000 * first + second);
+    lcs_check_rows(&pair, 1 + first * second, 1000 * first + second);
 }
 
 static void test_fans(void)
@@ -120,12 +106,12 @@ static void test_dropped(void)
             hang_all(&pair.first, 15, chains, edges, NAME(1));
             hang_all(&pair.second, 17, chains, edges, NAME(2));
             end();
-            check_rows(MAX_ROWS, 100 * edges + chains);
+            lcs_check_rows(&pair, MAX_ROWS, 100 * edges + chains);
             CHECK(reference_lcs_paired() == MAX_ROWS + 255 * chains * edges);
             hang_all(&pair.first, 16, chains, edges, NAME(1));
             hang_all(&pair.second, 16, chains, edges, NAME(2));
             end();
-            check_rows(MAX_ROWS + 1, 100 * edges + chains);
+            lcs_check_rows(&pair, MAX_ROWS + 1, 100 * edges + chains);
         }
 }
 
@@ -139,7 +125,7 @@ static void check_late(unsigned int pairs, unsigned int edges, int shared)
     hang_chain(&pair.first, picture_rows(&pair.first) - 1, edges, 0, NAME(1));
     hang_chain(&pair.second, picture_rows(&pair.second) - 1, edges, 0, NAME(shared ? 1 : 2));
     end();
-    check_rows(1 + pairs + (shared ? edges : 0), 100 * pairs + edges);
+    lcs_check_rows(&pair, 1 + pairs + (shared ? edges : 0), 100 * pairs + edges);
 }
 
 static void test_late(void)
@@ -169,7 +155,7 @@ static void check_beside(unsigned int pairs, unsigned int depth, unsigned int ro
     }
     hang_pairs(pairs, role);
     end();
-    check_rows(1 + pairs + depth, 100 * pairs + depth);
+    lcs_check_rows(&pair, 1 + pairs + depth, 100 * pairs + depth);
 }
 
 static void test_beside(void)
@@ -209,7 +195,7 @@ static void check_subtrees(unsigned int first, unsigned int second)
     hang_none(&pair.first, 0, 4);
     hang_subtree(&pair.second, 0, second, 4);
     end();
-    check_rows(1 + first + second, 1000 * first + second);
+    lcs_check_rows(&pair, 1 + first + second, 1000 * first + second);
 }
 
 /* So do as many as there are pairs of existential restrictions. */
@@ -224,7 +210,7 @@ static void check_copies(unsigned int first, unsigned int second, unsigned int r
     for (i = 0; i < second; i++)
         hang_subtree(&pair.second, hang(&pair.second, 0, 1, ZUVAROPY_KIND_EXISTS, R), rows, S);
     end();
-    check_rows(1 + first * second * (1 + rows), 1000 * first + second);
+    lcs_check_rows(&pair, 1 + first * second * (1 + rows), 1000 * first + second);
 }
 
 static void test_subtrees(void)
@@ -250,12 +236,12 @@ static void test_root(void)
     picture_fan(&pair.first, MAX_ROWS);
     picture_end(&pair.first);
     rows_picture(&pair.second, ROWS(ROOT_NONE));
-    check_rows(MAX_ROWS, 0);
+    lcs_check_rows(&pair, MAX_ROWS, 0);
     pair.second = pair.first;
     rows_picture(&pair.first, ROWS(ROOT_NONE));
-    check_rows(MAX_ROWS, 1);
+    lcs_check_rows(&pair, MAX_ROWS, 1);
     rows_picture(&pair.second, ROWS(ROOT_NONE));
-    check_rows(1, 2);
+    lcs_check_rows(&pair, 1, 2);
 }
 
 /* Value restrictions by 32 roles, as many as allowed, in both: they meet one to one. Without names in common nothing
@@ -276,70 +262,17 @@ static void test_values(void)
 {
     make_values(&pair.first, NAME(1));
     make_values(&pair.second, NAME(1));
-    check_rows(MAX_ROWS, 0);
+    lcs_check_rows(&pair, MAX_ROWS, 0);
     make_values(&pair.second, NAME(2));
-    check_rows(1, 1);
+    lcs_check_rows(&pair, 1, 1);
     picture_value(&pair.second, 1)[ZUVAROPY_WANTED_AT + 7] = 2;
-    check_rows(2, 2);
+    lcs_check_rows(&pair, 2, 2);
     picture_value(&pair.second, MAX_ROWS - 1)[ZUVAROPY_WANTED_AT + 7] = 2; /* below row 7 */
-    check_rows(4, 3);
-}
-
-/* Every mix of kinds, 12 edges deep: a chain has itself in common with itself; without a name at the end, what is
- * left ends with the last existential restriction. */
-static void make_chain(struct picture *p, unsigned int all, uint64_t wanted)
-{
-    picture_kinds(p, MAX_DEPTH, all);
-    picture_label(p, wanted, 0, 0);
-    picture_end(p);
-}
-
-static void test_deep(void)
-{
-    unsigned int kinds, left;
-
-    for (kinds = 0; kinds < 1u << MAX_DEPTH; kinds++) {
-        make_chain(&pair.first, kinds, NAME(5));
-        make_chain(&pair.second, kinds, NAME(5));
-        check_rows(1 + MAX_DEPTH, kinds);
-        make_chain(&pair.second, kinds, NAME(6));
-        for (left = MAX_DEPTH; left > 0 && (kinds >> (left - 1) & 1); left--)
-            ;
-        check_rows(1 + left, kinds);
-        make_chain(&pair.second, kinds ^ 1u, NAME(5));
-        check_rows(1, kinds);
-    }
-}
-
-/* Full binary trees: at each depth four times as many pairs as at the one above. */
-static void make_binary(struct picture *p, unsigned int depth)
-{
-    unsigned int row;
-
-    begin(p);
-    for (row = 1; row < (2u << depth) - 1; row++)
-        picture_row(p, (row - 1) / 2, ZUVAROPY_KIND_EXISTS, R);
-    picture_end(p);
-}
-
-static void test_binary(void)
-{
-    unsigned int first, second, least, i, rows;
-
-    for (first = 0; first <= 7; first++)
-        for (second = 0; second <= 7; second++) {
-            make_binary(&pair.first, first);
-            make_binary(&pair.second, second);
-            least = first < second ? first : second;
-            for (rows = i = 1; i <= least; i++)
-                rows = 1 + 4 * rows;
-            check_rows(rows, 8 * first + second);
-        }
+    lcs_check_rows(&pair, 4, 3);
 }
 
 int main(void)
 {
-    alarm(SECONDS);
     test_fans();
     test_dropped();
     test_late();
@@ -347,7 +280,5 @@ int main(void)
     test_subtrees();
     test_root();
     test_values();
-    test_deep();
-    test_binary();
-    return check_summary("lcs, large");
+    return check_summary("lcs, limit");
 }
