@@ -20,7 +20,7 @@ static const struct {
     {{ROWS(ROOT(NAME(3), 0), SOME(0, R, NAME(4), 0))},
      {ROWS(ROOT(NAME(3) | NAME(5), 0), SOME(0, R, NAME(4) | NAME(6), 0), SOME(0, R, NAME(7), 0))},
      {ROWS(ROOT(NAME(3), 0), SOME(0, R, NAME(4), 0), SOME(0, R, 0, 0))}},
-    /* 1, 2: a value restriction that says nothing is dropped; what an impossible one has in common with another is that. */
+    /* 1, 2: a value restriction that says nothing is dropped; an impossible one has all of any other in common. */
     {{ROWS(ROOT(0, 0), ALL(0, R, NAME(3), 0))}, {ROWS(ROOT(0, 0), ALL(0, R, NAME(5), 0))}, {ROWS(ROOT(0, 0))}},
     {{ROWS(ROOT(0, 0), ALL_NONE(0, R))},
      {ROWS(ROOT(0, 0), ALL(0, R, NAME(5), 0))},
@@ -62,14 +62,16 @@ static const struct {
     /* 18 to 21: by role, the value restriction first, then by the first's row and the second's; depth first. */
     {{ROWS(ROOT(0, 0), SOME(0, R, NAME(0) | NAME(1), 0), SOME(0, R, NAME(2) | NAME(3), 0))},
      {ROWS(ROOT(0, 0), SOME(0, R, NAME(0) | NAME(2), 0), SOME(0, R, NAME(1) | NAME(3), 0))},
-     {ROWS(ROOT(0, 0), SOME(0, R, NAME(0), 0), SOME(0, R, NAME(1), 0), SOME(0, R, NAME(2), 0), SOME(0, R, NAME(3), 0))}},
+     {ROWS(ROOT(0, 0), SOME(0, R, NAME(0), 0), SOME(0, R, NAME(1), 0), SOME(0, R, NAME(2), 0),
+           SOME(0, R, NAME(3), 0))}},
     {{ROWS(ROOT(0, 0), SOME(0, 31, NAME(1), 0), SOME(0, 0, NAME(2), 0), ALL(0, 31, NAME(3), 0), ALL(0, 0, NAME(4), 0))},
      {ROWS(ROOT(0, 0), ALL(0, 31, NAME(3), 0), SOME(0, 31, NAME(1), 0), ALL(0, 0, NAME(4), 0), SOME(0, 0, NAME(2), 0))},
      {ROWS(ROOT(0, 0), ALL(0, 0, NAME(4), 0), SOME(0, 0, NAME(2) | NAME(4), 0), ALL(0, 31, NAME(3), 0),
            SOME(0, 31, NAME(1) | NAME(3), 0))}},
     {{ROWS(ROOT(0, 0), SOME(0, R, NAME(1), 0), SOME(1, S, NAME(2), 0), SOME(0, R, NAME(3), 0), SOME(3, S, NAME(4), 0))},
      {ROWS(ROOT(0, 0), SOME(0, R, NAME(1) | NAME(3), 0), SOME(1, S, NAME(2) | NAME(4), 0))},
-     {ROWS(ROOT(0, 0), SOME(0, R, NAME(1), 0), SOME(1, S, NAME(2), 0), SOME(0, R, NAME(3), 0), SOME(3, S, NAME(4), 0))}},
+     {ROWS(ROOT(0, 0), SOME(0, R, NAME(1), 0), SOME(1, S, NAME(2), 0), SOME(0, R, NAME(3), 0),
+           SOME(3, S, NAME(4), 0))}},
     {{ROWS(ROOT(0, 0), SOME(0, R, 0, 0), SOME(0, S, 0, 0), SOME(1, R, NAME(1), 0), SOME(3, S, NAME(2), 0))},
      {ROWS(ROOT(0, 0), SOME(0, R, 0, 0), SOME(1, R, NAME(1), 0), SOME(2, S, NAME(2), 0), SOME(0, S, 0, 0))},
      {ROWS(ROOT(0, 0), SOME(0, R, 0, 0), SOME(1, R, NAME(1), 0), SOME(2, S, NAME(2), 0), SOME(0, S, 0, 0))}},
@@ -189,7 +191,7 @@ static void test_bytes(void)
     CHECK(i == sizeof work);
 }
 
-/* With itself a picture has itself in common, with the empty one nothing, and with an impossible one its normal table. */
+/* A picture has itself in common with itself, nothing with the empty one, its normal table with an impossible one. */
 static void test_every(void)
 {
     static struct picture table;

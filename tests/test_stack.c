@@ -94,7 +94,7 @@ static void check_call(const char *name, void (*call)(void), unsigned int outcom
         printf("  %s took %lu bytes of stack\n", name, (unsigned long)bytes);
 }
 
-/* Each call on the pair, with the outcomes of those on two pictures; the evidence that is checked is what was written. */
+/* Each call on the pair, with the outcomes of those on two pictures; the evidence checked is what was written. */
 static void check_calls(unsigned int verdict, unsigned int common)
 {
     check_call("validate", validate, ZUVAROPY_OUTCOME_YES, ZUVAROPY_VALIDATE_STACK_BYTES);
