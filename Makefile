@@ -56,11 +56,15 @@ bench: library
 	@$(CC) $(CFLAGS) -Iinclude -Itests bench/verify.c bench/inputs.c bench/audit.c bench/merge.c bench/scan.c \
 	    bench/timing.c tests/picture.c tests/rows.c tests/random.c tests/evidence.c tests/witness.c \
 	    tests/normal_reference.c tests/reference.c tests/check.c $(LIBRARY) -o build/bench/verify
-	@rustc --edition 2021 -O -C panic=abort -D warnings bench/subsumes.rs -C link-arg=$(LIBRARY) -o build/bench/subsumes
+	@for call in subsumes lcs; do \
+	    rustc --edition 2021 -O -C panic=abort -D warnings bench/$$call.rs -C link-arg=$(LIBRARY) \
+	        -o build/bench/$$call || exit; \
+	done
 	@build/bench/validate
 	@build/bench/normalize
 	@build/bench/subsumes
 	@build/bench/verify
+	@build/bench/lcs
 
 clean:
 	rm -rf build target
