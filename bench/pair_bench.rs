@@ -140,10 +140,7 @@ impl PairBench {
 
 pub fn heading(call: &str, note: &str) {
     let title = format!("{call}, ns per call");
-    println!(
-        "{title:<28} {note:>7} {:>5} {:>6} {:>12} {:>12} {:>8}",
-        "first", "second", "library", "Rust", "ratio"
-    );
+    println!("{title:<28} {note:>7} {:>5} {:>6} {:>12} {:>12} {:>8}", "first", "second", "library", "Rust", "ratio");
 }
 
 /// Rows at the beginning of a buffer.

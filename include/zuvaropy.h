@@ -129,8 +129,9 @@ extern "C" {
 #define ZUVAROPY_MAX_EVIDENCE_BYTES             ZUVAROPY_REFUTATION_BYTES(ZUVAROPY_MAX_INDIVIDUALS)
 
 /*
- * The stack that each call takes at most, in bytes: measured on pictures as deep
- * as allowed, and rounded up. This is tested and not proved.
+ * The stack that each call takes at most, in bytes: measured by
+ * tests/test_stack.c on pictures as deep as allowed, and rounded up. This is
+ * tested and not proved.
  */
 #define ZUVAROPY_VALIDATE_STACK_BYTES   512
 #define ZUVAROPY_NORMALIZE_STACK_BYTES  (17 * 1024)
@@ -483,7 +484,7 @@ uint64_t zuvaropy_verify(const uint8_t *first, size_t first_len, const uint8_t *
  *
  * The call takes at most ZUVAROPY_LCS_STACK_BYTES of stack. Beyond making the
  * two normal tables its time grows at most as the rows of the one times the
- * rows of the other: two rows are paired at most once.
+ * rows of the other.
  *
  * The common picture is a picture, and can be given to any call. The one of the
  * same two in the other order has the same instances, but need not be the same

@@ -98,7 +98,7 @@ static const struct {
     {{ROWS(ROOT(0, 0), ALL(0, R, 0, 0), ALL(1, R, NAME(1), 0), ALL(1, S, NAME(2), 0), SOME(0, S, 0, 0))},
      {ROWS(ROOT(0, 0), ALL(0, R, 0, 0), ALL(1, R, NAME(3), 0), ALL(1, S, NAME(2), 0), SOME(0, S, 0, 0))},
      {ROWS(ROOT(0, 0), ALL(0, R, 0, 0), ALL(1, S, NAME(2), 0), SOME(0, S, 0, 0))}},
-    /* 29 to 35: an impossible side gives way to the other side's whole subtree. */
+    /* 29 to 37: an impossible side gives way to the other side's whole subtree. */
     {{ROWS(ROOT_NONE)},
      {ROWS(ROOT(NAME(1), NAME(2)), SOME(0, R, NAME(3), 0), ALL(1, S, NAME(4), 0))},
      {ROWS(ROOT(NAME(1), NAME(2)), SOME(0, R, NAME(3), 0), ALL(1, S, NAME(4), 0))}},
@@ -118,7 +118,16 @@ static const struct {
     {{ROWS(ROOT(0, 0), ALL(0, R, 0, 0), ALL_NONE(1, S))},
      {ROWS(ROOT(0, 0), ALL_NONE(0, R))},
      {ROWS(ROOT(0, 0), ALL(0, R, 0, 0), ALL_NONE(1, S))}},
-    /* 36, 37: a picture with itself; of two existential restrictions there are four pairs. */
+    {{ROWS(ROOT(0, 0), SOME(0, R, NAME(1), 0), SOME(0, R, NAME(2), 0), ALL_NONE(0, S))},
+     {ROWS(ROOT(0, 0), SOME(0, R, NAME(1), 0), SOME(0, R, NAME(2), 0), ALL(0, S, NAME(3), 0), SOME(3, R, NAME(4), 0),
+           SOME(4, S, NAME(5), 0), SOME(3, S, 0, 0))},
+     {ROWS(ROOT(0, 0), SOME(0, R, NAME(1), 0), SOME(0, R, 0, 0), SOME(0, R, 0, 0), SOME(0, R, NAME(2), 0),
+           ALL(0, S, NAME(3), 0), SOME(5, R, NAME(4), 0), SOME(6, S, NAME(5), 0), SOME(5, S, 0, 0))}},
+    {{ROWS(ROOT(0, 0), ALL(0, R, NAME(1), 0), ALL(1, R, NAME(1), 0), ALL(0, S, 0, 0), SOME(3, R, 0, NAME(2)),
+           ALL(4, S, NAME(3), 0))},
+     {ROWS(ROOT(0, 0), ALL(0, R, NAME(2), 0), ALL(1, R, NAME(2), 0), ALL_NONE(0, S))},
+     {ROWS(ROOT(0, 0), ALL(0, S, 0, 0), SOME(1, R, 0, NAME(2)), ALL(2, S, NAME(3), 0))}},
+    /* 38, 39: a picture with itself; of two existential restrictions there are four pairs. */
     {{ROWS(ROOT(0, 0), ALL(0, R, 0, 0), SOME(1, S, NAME(1), 0), SOME(0, R, NAME(2), 0))},
      {ROWS(ROOT(0, 0), ALL(0, R, 0, 0), SOME(1, S, NAME(1), 0), SOME(0, R, NAME(2), 0))},
      {ROWS(ROOT(0, 0), ALL(0, R, 0, 0), SOME(1, S, NAME(1), 0), SOME(0, R, NAME(2), 0), SOME(3, S, NAME(1), 0))}},
