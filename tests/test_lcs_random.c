@@ -1,7 +1,7 @@
 /*
  * The library and the reference agree on the common pictures of pairs made at
  * random, and these agree with the verdicts: a common picture subsumes both, is
- * subsumed by what subsumes both, and is the same the other way round. The seed
+ * subsumed by what subsumes both, and says the same the other way round. The seed
  * is fixed: every run tests the same pictures.
  */
 
