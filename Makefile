@@ -3,7 +3,7 @@
 # make test   prove everything, then run the C tests, the comparison with the Rust implementation and the
 #             tests of the verdict program; the last line is 'N passed, M failed'
 # make demo   validate the sample pictures, print their normal tables, ask which subsumes which, check the
-#             sample evidence, and run the verdict program
+#             sample evidence, print common pictures, and run the verdict program
 # make bench  time the library beside the same calls hand-written in C and in Rust
 # make clean  remove what the others made
 
@@ -33,16 +33,19 @@ gate: tools
 	@mkdir -p build
 	@CC='$(CC)' sh tests/gate.sh; echo $$? >build/gate.status
 
+EXAMPLES = validate normalize subsumes verify lcs
+
 demo: library program
 	@mkdir -p build/examples
-	@$(CC) $(CFLAGS) -Iinclude examples/validate.c examples/input.c $(LIBRARY) -o build/examples/validate
-	@$(CC) $(CFLAGS) -Iinclude examples/normalize.c examples/input.c $(LIBRARY) -o build/examples/normalize
-	@$(CC) $(CFLAGS) -Iinclude examples/subsumes.c examples/input.c $(LIBRARY) -o build/examples/subsumes
-	@$(CC) $(CFLAGS) -Iinclude examples/verify.c examples/input.c $(LIBRARY) -o build/examples/verify
+	@for example in $(EXAMPLES); do \
+	    $(CC) $(CFLAGS) -Iinclude examples/$$example.c examples/input.c examples/rows.c $(LIBRARY) \
+	        -o build/examples/$$example || exit; \
+	done
 	@build/examples/validate samples/*.pic
 	@build/examples/normalize samples/*.pic
 	@sh samples/subsumes.sh build/examples/subsumes build/examples/verify
 	@sh samples/verify.sh build/examples/verify
+	@sh samples/lcs.sh build/examples/lcs
 	@sh samples/verdict.sh $(PROGRAM)
 
 bench: library
@@ -53,11 +56,15 @@ bench: library
 	@$(CC) $(CFLAGS) -Iinclude -Itests bench/verify.c bench/inputs.c bench/audit.c bench/merge.c bench/scan.c \
 	    bench/timing.c tests/picture.c tests/rows.c tests/random.c tests/evidence.c tests/witness.c \
 	    tests/normal_reference.c tests/reference.c tests/check.c $(LIBRARY) -o build/bench/verify
-	@rustc --edition 2021 -O -C panic=abort -D warnings bench/subsumes.rs -C link-arg=$(LIBRARY) -o build/bench/subsumes
+	@for call in subsumes lcs; do \
+	    rustc --edition 2021 -O -C panic=abort -D warnings bench/$$call.rs -C link-arg=$(LIBRARY) \
+	        -o build/bench/$$call || exit; \
+	done
 	@build/bench/validate
 	@build/bench/normalize
 	@build/bench/subsumes
 	@build/bench/verify
+	@build/bench/lcs
 
 clean:
 	rm -rf build target

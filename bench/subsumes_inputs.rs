@@ -1,43 +1,16 @@
 //! Pairs of pictures whose verdict is timed: each maker gives the first and the second tree.
 
-use super::reference::table::{KIND_EXISTS, KIND_FORALL, MAX_DEPTH, MAX_ROWS};
+use super::pair_bench::Pair;
+use super::parts::{card, coded, hang, DEPTH};
+use super::reference::table::{KIND_EXISTS, KIND_FORALL, MAX_ROWS};
 use super::rng::Rng;
-use super::trees::{all, chain, root, some, spread, Node, Tree};
-
-pub type Pair = (Tree, Tree);
+use super::trees::{chain, root, some, spread, Node};
 
 const R: u8 = 8;
 const S: u8 = 9;
-const DEPTH: usize = MAX_DEPTH as usize;
-
-/// Labels of which none carries another: eight names, each wanted or excluded.
-fn coded(node: Node, code: usize) -> Node {
-    let wanted = code as u64 & 0xFF;
-    Node { wanted, excluded: wanted ^ 0xFF, ..node }
-}
 
 /// A label that no coded one carries.
 const ABSENT: u64 = 1 << 63;
-
-/// A card: up to so many edges deep, four roles, one node in four a value restriction.
-fn card(rows: usize, depth: usize, rng: &mut Rng) -> Tree {
-    let mut tree = vec![root()];
-    let mut depths = vec![0];
-    for number in 1..rows {
-        let mut parent = rng.below(number);
-        while depths[parent] == depth {
-            parent = rng.below(number);
-        }
-        depths.push(depths[parent] + 1);
-        let (role, name) = (rng.below(4) as u8, 1 << rng.below(32));
-        let mut node = if rng.chance(1, 4) { all(parent, role, name) } else { some(parent, role, name) };
-        if rng.chance(1, 4) {
-            node.excluded = 1 << (32 + rng.below(32));
-        }
-        tree.push(node);
-    }
-    tree
-}
 
 /// A card and the same with fewer names and without its last rows.
 pub fn card_yes(rows: usize, depth: usize, rng: &mut Rng) -> Pair {
@@ -99,16 +72,6 @@ pub fn deep_no() -> Pair {
     let (first, mut second) = deep_yes();
     second.last_mut().expect("a tree has a root").wanted |= ABSENT;
     (first, second)
-}
-
-/// A chain below the root, its last node coded.
-fn hang(tree: &mut Tree, kind: u8, role: u8, code: usize) {
-    let from = tree.len();
-    for (at, node) in chain(DEPTH, kind, role, 0)[1..].iter().enumerate() {
-        tree.push(Node { parent: if at == 0 { 0 } else { from + at - 1 }, ..*node });
-    }
-    let last = tree.len() - 1;
-    tree[last] = coded(tree[last], code);
 }
 
 /// Chains of value restrictions, each by a role of its own.

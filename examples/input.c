@@ -17,6 +17,7 @@ static const char *const question_text[] = {
     [ZUVAROPY_QUESTION_DEPTH] = "is the depth at most 12?",
     [ZUVAROPY_QUESTION_IMPOSSIBLE] = "is the impossible byte 0 or 1?",
     [ZUVAROPY_QUESTION_MERGED] = "has the merged table at most 256 rows?",
+    [ZUVAROPY_QUESTION_COMMON] = "has the common picture at most 256 rows?",
 };
 
 static const char *const input_name[] = {

@@ -51,6 +51,15 @@ family() {
     row 0 $all $pet 1 0 0
 }
 
+# A woman who is a doctor and has only dogs as pets, whose children do not smoke, and with a child who has a dog.
+friend() {
+    row 0 $root 0 0 $((woman + doctor)) 0
+    row 0 $all $child 0 0 $smoker
+    row 0 $some $child 0 0 0
+    row 2 $some $pet 0 $dog 0
+    row 0 $all $pet 0 $dog 0
+}
+
 # A chain of so many edges.
 chain() {
     row 0 $root 0 0 0 0
@@ -100,6 +109,7 @@ apart() {
 }
 
 { family; end; } >"$folder/family.pic"
+{ friend; end; } >"$folder/friend.pic"
 { row 0 $root 0 0 0 0; end; } >"$folder/top.pic"     # what everything is an instance of
 { none; end; } >"$folder/none.pic"                   # what nothing is an instance of
 { family; bytes 16 0 21 0 1 2; } >"$folder/cut.pic"  # a sixth row, cut off

@@ -82,7 +82,7 @@ count() {
 
 # What the tests share is built once. Without a part of it no test builds, and each says so.
 for source in check area picture rows random pages reference normal_reference normalize evidence verify_reference \
-    witness verify subsumes second_unit; do
+    witness verify subsumes lcs_reference lcs second_unit; do
     $c -c "tests/$source.c" -o "$out/$source.o"
 done
 for source in tests/test_*.c; do
@@ -120,8 +120,8 @@ samples() {
 example() {
     example=$1
     shift
-    $c "examples/$example.c" examples/input.c "$archive" -o "$out/$example" && "$@" >"$out/$example.log" &&
-        diff "samples/$example.stdout" "$out/$example.log"
+    $c "examples/$example.c" examples/input.c examples/rows.c "$archive" -o "$out/$example" &&
+        "$@" >"$out/$example.log" && diff "samples/$example.stdout" "$out/$example.log"
 }
 
 # The files that the verdict programs are run on are samples.
@@ -153,7 +153,7 @@ readme() {
 demo() {
     awk '/^`make demo` ends with$/ { at = 1; next } at && /^```$/ { if (at++ == 2) exit; next } at == 2' README.md \
         >"$out/demo.log" &&
-        (cd samples && cat validate.stdout normalize.stdout subsumes.stdout verify.stdout verdict.stdout) |
+        (cd samples && cat validate.stdout normalize.stdout subsumes.stdout verify.stdout lcs.stdout verdict.stdout) |
         diff - "$out/demo.log"
 }
 
@@ -167,6 +167,7 @@ one 'example validate' example validate "$out/validate" samples/*.pic
 one 'example normalize' example normalize "$out/normalize" samples/*.pic
 one 'example verify' example verify sh samples/verify.sh "$out/verify"
 one 'example subsumes' example subsumes sh samples/subsumes.sh "$out/subsumes" "$out/verify"
+one 'example lcs' example lcs sh samples/lcs.sh "$out/lcs"
 one 'readme, validate' readme 1 'a picture of 2 rows'
 one 'readme, yes' readme 2 'yes, with a map of 12 bytes
   row 0 goes to row 0
@@ -175,6 +176,7 @@ one 'readme, yes' readme 2 'yes, with a map of 12 bytes
 checked: taken' samples/both.pic samples/each.pic
 one 'readme, no' readme 2 'no, with a refutation of 45 bytes
 checked: taken' samples/each.pic samples/both.pic
+one 'readme, common' readme 3 'a common picture of 5 rows' samples/family.pic samples/friend.pic
 one 'readme, demo' demo
 
 count verdict sh tests/verdict.sh "$verdict"

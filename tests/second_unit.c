@@ -28,3 +28,9 @@ uint64_t second_unit_verify(const uint8_t *first, size_t first_len, const uint8_
 {
     return zuvaropy_verify(first, first_len, second, second_len, evidence, evidence_len, work, work_len);
 }
+
+uint64_t second_unit_lcs(const uint8_t *first, size_t first_len, const uint8_t *second, size_t second_len,
+                         uint8_t *work, size_t work_len, uint8_t *result, size_t result_len)
+{
+    return zuvaropy_lcs(first, first_len, second, second_len, work, work_len, result, result_len);
+}

@@ -13,5 +13,7 @@ uint64_t second_unit_subsumes(const uint8_t *first, size_t first_len, const uint
                               uint8_t *work, size_t work_len, uint8_t *result, size_t result_len);
 uint64_t second_unit_verify(const uint8_t *first, size_t first_len, const uint8_t *second, size_t second_len,
                             const uint8_t *evidence, size_t evidence_len, uint8_t *work, size_t work_len);
+uint64_t second_unit_lcs(const uint8_t *first, size_t first_len, const uint8_t *second, size_t second_len,
+                         uint8_t *work, size_t work_len, uint8_t *result, size_t result_len);
 
 #endif

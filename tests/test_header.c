@@ -94,6 +94,7 @@ static void test_codes(void)
     CHECK(ZUVAROPY_QUESTION_DEPTH == 12);
     CHECK(ZUVAROPY_QUESTION_IMPOSSIBLE == 13);
     CHECK(ZUVAROPY_QUESTION_MERGED == 14);
+    CHECK(ZUVAROPY_QUESTION_COMMON == 15);
     CHECK(ZUVAROPY_QUESTION_FORM == 16);
     CHECK(ZUVAROPY_QUESTION_IMAGE == 17);
     CHECK(ZUVAROPY_QUESTION_ROOT_IMAGE == 18);
@@ -260,6 +261,40 @@ static void test_verify(void)
     CHECK(next_work == work + 1);
 }
 
+static void test_lcs(void)
+{
+    uint64_t (*function)(const uint8_t *, size_t, const uint8_t *, size_t, uint8_t *, size_t, uint8_t *, size_t) =
+        zuvaropy_lcs;
+    const size_t length = sizeof bytes, room = sizeof result;
+    const uint64_t one_row = (uint64_t)1 << 56 | ZUVAROPY_PICTURE_BYTES(1);
+    const uint64_t no_buffer = (uint64_t)1 << 48;
+    const uint64_t no_first = (uint64_t)2 << 48 | (uint64_t)1 << 40, no_second = (uint64_t)2 << 48 | (uint64_t)2 << 40;
+    const uint8_t *next = bytes, *next_second = bytes;
+    uint8_t *next_work = work, *next_result = result;
+
+    make_picture();
+    CHECK_WORD(zuvaropy_lcs(bytes, length, bytes, length, work, sizeof work, result, room), one_row, 0);
+    CHECK(memcmp(work, bytes, length) == 0);
+    CHECK(memcmp(work + ZUVAROPY_SECOND_TABLE_AT, bytes, length) == 0);
+    CHECK(memcmp(result, bytes, length) == 0);
+    CHECK_WORD((zuvaropy_lcs)(bytes, length, bytes, length, work, sizeof work, result, room), one_row, 0);
+    CHECK_WORD(function(bytes, length, bytes, length, work, sizeof work, result, room), one_row, 0);
+    CHECK_WORD(second_unit_lcs(bytes, length, bytes, length, work, sizeof work, result, room), one_row, 0);
+
+    CHECK_WORD(zuvaropy_lcs(bytes, length, bytes, length, NULL, 0, result, room), no_buffer, 0);
+    CHECK_WORD(zuvaropy_lcs(bytes, length, bytes, length, work, sizeof work, NULL, 0), no_buffer, 0);
+    CHECK_WORD(zuvaropy_lcs(NULL, 0, bytes, length, work, sizeof work, result, room), no_first, 0);
+    CHECK_WORD(zuvaropy_lcs(bytes, length, NULL, 0, work, sizeof work, result, room), no_second, 0);
+    CHECK_WORD(zuvaropy_lcs(NULL, 0, NULL, 0, NULL, 0, NULL, 0), no_buffer, 0);
+
+    /* The macro evaluates its arguments once. */
+    zuvaropy_lcs(next++, 0, next_second++, 0, next_work++, 0, next_result++, 0);
+    CHECK(next == bytes + 1);
+    CHECK(next_second == bytes + 1);
+    CHECK(next_work == work + 1);
+    CHECK(next_result == result + 1);
+}
+
 int main(void)
 {
     test_sizes();
@@ -270,6 +305,7 @@ int main(void)
     test_normalize();
     test_subsumes();
     test_verify();
+    test_lcs();
 #ifdef __cplusplus
     return check_summary("header as C++");
 #else

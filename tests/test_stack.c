@@ -76,6 +76,14 @@ static void verify(void)
                            in.evidence.length, work, sizeof work);
 }
 
+static void lcs(void)
+{
+    static uint8_t common[ZUVAROPY_MAX_PICTURE_BYTES];
+
+    word = zuvaropy_lcs(in.first.bytes, in.first.length, in.second.bytes, in.second.length, work, sizeof work, common,
+                        sizeof common);
+}
+
 static void check_call(const char *name, void (*call)(void), unsigned int outcome, size_t most)
 {
     const size_t bytes = taken(call);
@@ -86,13 +94,14 @@ static void check_call(const char *name, void (*call)(void), unsigned int outcom
         printf("  %s took %lu bytes of stack\n", name, (unsigned long)bytes);
 }
 
-/* Each call on the pair; the evidence that is checked is what was written. */
-static void check_calls(unsigned int verdict)
+/* Each call on the pair, with the outcomes of those on two pictures; the evidence checked is what was written. */
+static void check_calls(unsigned int verdict, unsigned int common)
 {
     check_call("validate", validate, ZUVAROPY_OUTCOME_YES, ZUVAROPY_VALIDATE_STACK_BYTES);
     check_call("normalize", normalize, ZUVAROPY_OUTCOME_YES, ZUVAROPY_NORMALIZE_STACK_BYTES);
     check_call("subsumes", subsumes, verdict, ZUVAROPY_SUBSUMES_STACK_BYTES);
     check_call("verify", verify, verdict, ZUVAROPY_VERIFY_STACK_BYTES);
+    check_call("lcs", lcs, common, ZUVAROPY_LCS_STACK_BYTES);
 }
 
 /* A chain with a name at its end. */
@@ -109,14 +118,26 @@ static void check_chain(unsigned int edges, unsigned int all)
 {
     make_chain(&in.first, edges, all, NAME(0));
     in.second = in.first;
-    check_calls(ZUVAROPY_OUTCOME_YES);
+    check_calls(ZUVAROPY_OUTCOME_YES, ZUVAROPY_OUTCOME_YES);
     make_chain(&in.second, edges, all, NAME(1));
-    check_calls(ZUVAROPY_OUTCOME_NO);
+    check_calls(ZUVAROPY_OUTCOME_NO, ZUVAROPY_OUTCOME_YES);
     picture_value(&in.second, 0)[ZUVAROPY_WANTED_AT] = 1;
-    check_calls(ZUVAROPY_OUTCOME_NO);
+    check_calls(ZUVAROPY_OUTCOME_NO, ZUVAROPY_OUTCOME_YES);
     rows_picture(&in.first, ROWS(ROOT(0, 0)));
     make_chain(&in.second, edges, all, NAME(1));
-    check_calls(ZUVAROPY_OUTCOME_NO);
+    check_calls(ZUVAROPY_OUTCOME_NO, ZUVAROPY_OUTCOME_YES);
+}
+
+/* What is below an impossible row is copied: from the root, and from halfway down. */
+static void check_impossible(unsigned int edges, unsigned int all)
+{
+    rows_picture(&in.first, ROWS(ROOT_NONE));
+    make_chain(&in.second, edges, all, NAME(1));
+    check_calls(ZUVAROPY_OUTCOME_YES, ZUVAROPY_OUTCOME_YES);
+    picture_kinds(&in.first, edges / 2, all);
+    picture_label(&in.first, 0, 0, 1);
+    picture_end(&in.first);
+    check_calls(ZUVAROPY_OUTCOME_YES, ZUVAROPY_OUTCOME_YES);
 }
 
 static void test_chains(void)
@@ -125,19 +146,21 @@ static void test_chains(void)
     unsigned int edges, i;
 
     for (edges = 0; edges <= ZUVAROPY_MAX_DEPTH; edges += 4)
-        for (i = 0; i < sizeof kinds / sizeof kinds[0]; i++)
+        for (i = 0; i < sizeof kinds / sizeof kinds[0]; i++) {
             check_chain(edges, kinds[i]);
+            check_impossible(edges, kinds[i]);
+        }
 }
 
-/* As many rows as allowed, and many individuals. */
+/* As many rows as allowed, many individuals, and more common rows than allowed. */
 static void test_fan(void)
 {
     picture_fan(&in.first, ZUVAROPY_MAX_ROWS);
     picture_end(&in.first);
     in.second = in.first;
-    check_calls(ZUVAROPY_OUTCOME_YES);
+    check_calls(ZUVAROPY_OUTCOME_YES, ZUVAROPY_OUTCOME_REFUSAL);
     make_chain(&in.second, ZUVAROPY_MAX_DEPTH, ~1u, NAME(1));
-    check_calls(ZUVAROPY_OUTCOME_NO);
+    check_calls(ZUVAROPY_OUTCOME_NO, ZUVAROPY_OUTCOME_YES);
 }
 
 static void nothing(void)

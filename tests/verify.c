@@ -132,5 +132,5 @@ uint64_t word_of_pictures(unsigned int first, unsigned int second)
 
 int word_writes(uint64_t word)
 {
-    return zuvaropy_outcome(word) != ZUVAROPY_OUTCOME_REFUSAL || zuvaropy_question(word) >= ZUVAROPY_QUESTION_FORM;
+    return zuvaropy_outcome(word) != ZUVAROPY_OUTCOME_REFUSAL || zuvaropy_question(word) >= ZUVAROPY_QUESTION_COMMON;
 }

@@ -1,7 +1,7 @@
 //! One pair of pictures given to the library and to the reference, and what came back compared.
 
 use super::reference::table::{MAX_BYTES, ROW_BYTES};
-use super::reference::{answer, outcome, value, MAX_EVIDENCE_BYTES, NO, WORK_BYTES, YES};
+use super::reference::{answer, outcome, question, value, Input, MAX_EVIDENCE_BYTES, NO, WORK_BYTES, YES};
 use super::rng::Rng;
 use super::tally::Tally;
 use super::{damage, library, pairs, reference};
@@ -118,6 +118,7 @@ impl Comparison {
         let shape = format!("{:?}", pair.shape);
         self.subject = Subject { seed, shape, first: pair.first, second: pair.second, evidence: Vec::new() };
         self.single(rng);
+        self.common(rng);
         let Some((ours, theirs)) = self.verdict(rng) else {
             self.verify(vec![0], rng);
             return;
@@ -144,6 +145,39 @@ impl Comparison {
         let actual = library::normalize(&picture, &mut self.result.actual);
         self.check_word("normalize", expected, actual);
         self.check(self.result.agree(), "normalize, result", expected, actual);
+    }
+
+    /// The common picture.
+    fn common(&mut self, rng: &mut Rng) {
+        let (first, second) = (&self.subject.first, &self.subject.second);
+        self.noise.lend(&mut self.work, WORK_BYTES, rng);
+        self.noise.lend(&mut self.result, MAX_BYTES, rng);
+        let expected = reference::lcs(first, second, &mut self.work.expected, &mut self.result.expected);
+        let actual = library::lcs(first, second, &mut self.work.actual, &mut self.result.actual);
+        self.tally.common(expected);
+        self.check_word("lcs", expected, actual);
+        self.check(self.work.agree(), "lcs, work space", expected, actual);
+        self.check(self.result.agree(), "lcs, result", expected, actual);
+        if outcome(expected) != YES {
+            self.check(self.result.untouched(), "lcs refused, result", expected, actual);
+            let written = question(expected) == 15;
+            self.check(written != self.work.untouched(), "lcs refused, work space", expected, actual);
+            return;
+        }
+        let length = value(actual).min(self.result.actual.len());
+        let common = self.result.actual[..length].to_vec();
+        self.check_word("lcs, picture", answer(YES, length / ROW_BYTES), library::validate(&common));
+        self.subsuming(&common);
+    }
+
+    /// A common picture subsumes both, unless its merged table is too large.
+    fn subsuming(&mut self, common: &[u8]) {
+        let (mut work, mut result) = (vec![0; WORK_BYTES], vec![0; MAX_EVIDENCE_BYTES]);
+        let too_large = reference::refusal(Input::Second, 14);
+        for specific in [self.subject.first.clone(), self.subject.second.clone()] {
+            let word = library::subsumes(&specific, common, &mut work, &mut result);
+            self.check(word == too_large || outcome(word) == YES, "lcs subsumes", answer(YES, 0), word);
+        }
     }
 
     /// The verdict; the evidence of both sides, unless a picture was refused.

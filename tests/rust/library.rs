@@ -23,6 +23,16 @@ extern "C" {
         work: *mut u8,
         work_len: usize,
     ) -> u64;
+    fn zuvaropy_lcs(
+        first: *const u8,
+        first_len: usize,
+        second: *const u8,
+        second_len: usize,
+        work: *mut u8,
+        work_len: usize,
+        result: *mut u8,
+        result_len: usize,
+    ) -> u64;
 }
 
 // The pointer of a slice is never null, and a slice lent for writing overlaps no other.
@@ -61,6 +71,21 @@ pub fn verify(first: &[u8], second: &[u8], evidence: &[u8], work: &mut [u8]) -> 
             evidence.len(),
             work.as_mut_ptr(),
             work.len(),
+        )
+    }
+}
+
+pub fn lcs(first: &[u8], second: &[u8], work: &mut [u8], result: &mut [u8]) -> u64 {
+    unsafe {
+        zuvaropy_lcs(
+            first.as_ptr(),
+            first.len(),
+            second.as_ptr(),
+            second.len(),
+            work.as_mut_ptr(),
+            work.len(),
+            result.as_mut_ptr(),
+            result.len(),
         )
     }
 }

@@ -1,8 +1,9 @@
-//! Pairs of pictures at random. Names and roles are few, so that one often subsumes the other.
+//! Pairs of pictures at random, of several shapes.
 
+use super::draw::{draw, draw_large, Draw};
 use super::reference::table::{KIND_EXISTS, KIND_FORALL};
 use super::rng::Rng;
-use super::trees::{all, chain, encode, root, some, spread, Node, Tree};
+use super::trees::{all, chain, encode, root, some, spread, Tree};
 use super::weaken::weaken;
 
 #[derive(Clone, Copy, Debug)]
@@ -18,10 +19,12 @@ pub enum Shape {
     Merging,
     Growing,
     Brush,
+    Meeting,
+    Marked,
 }
 
 /// Each with how often it is taken.
-const SHAPES: [(Shape, usize); 11] = [
+const SHAPES: [(Shape, usize); 13] = [
     (Shape::Weaker, 16),
     (Shape::Near, 16),
     (Shape::Apart, 8),
@@ -33,6 +36,8 @@ const SHAPES: [(Shape, usize); 11] = [
     (Shape::Merging, 2),
     (Shape::Growing, 2),
     (Shape::Brush, 1),
+    (Shape::Meeting, 4),
+    (Shape::Marked, 4),
 ];
 
 pub struct Pair {
@@ -41,81 +46,6 @@ pub struct Pair {
     pub subsumes: bool,
     pub first: Vec<u8>,
     pub second: Vec<u8>,
-}
-
-/// What the nodes of a tree are drawn from. Chances are of 16.
-#[derive(Clone, Copy)]
-struct Draw {
-    nodes: usize,
-    depth: usize,
-    roles: usize,
-    first_role: usize,
-    names: usize,
-    first_name: usize,
-    forall: usize,
-    deep: usize,
-    named: usize,
-    impossible: usize,
-}
-
-fn draw(rng: &mut Rng) -> Draw {
-    let most = rng.pick(&[2, 4, 8, 8, 16, 16, 30, 60]);
-    Draw {
-        nodes: 1 + rng.below(most),
-        depth: rng.pick(&[1, 2, 3, 4, 12]),
-        roles: 1 + rng.below(3),
-        first_role: rng.below(30),
-        names: 1 + rng.below(4),
-        first_name: rng.below(61),
-        forall: rng.pick(&[0, 2, 5, 8, 13]),
-        deep: rng.pick(&[0, 4, 12]),
-        named: rng.pick(&[2, 6, 10]),
-        impossible: rng.pick(&[0, 0, 0, 1, 2]),
-    }
-}
-
-impl Draw {
-    fn name(&self, rng: &mut Rng) -> u64 {
-        1 << (self.first_name + rng.below(self.names))
-    }
-
-    fn role(&self, rng: &mut Rng) -> u8 {
-        (self.first_role + rng.below(self.roles)) as u8
-    }
-
-    fn label(&self, node: &mut Node, rng: &mut Rng) {
-        for _ in 0..2 {
-            if rng.chance(self.named, 16) {
-                node.wanted |= self.name(rng);
-            }
-        }
-        if rng.chance(self.named, 48) {
-            node.excluded |= self.name(rng) & !node.wanted;
-        }
-        // Mostly no clash: a root that is inconsistent hides the rest.
-        if rng.chance(1, 200) {
-            node.excluded |= node.wanted;
-        }
-        node.impossible = rng.chance(self.impossible, 128);
-    }
-
-    fn tree(&self, rng: &mut Rng) -> Tree {
-        let mut tree = vec![root()];
-        let mut depths = vec![0];
-        self.label(&mut tree[0], rng);
-        for number in 1..self.nodes {
-            let mut parent = if rng.chance(self.deep, 16) { number - 1 } else { rng.below(number) };
-            if depths[parent] == self.depth {
-                parent = 0;
-            }
-            depths.push(depths[parent] + 1);
-            let role = self.role(rng);
-            let mut node = if rng.chance(self.forall, 16) { all(parent, role, 0) } else { some(parent, role, 0) };
-            self.label(&mut node, rng);
-            tree.push(node);
-        }
-        tree
-    }
 }
 
 /// One change that may make the tree say more, or something else.
@@ -132,13 +62,6 @@ fn change(tree: &mut Tree, draw: &Draw, rng: &mut Rng) {
         6 => tree.push(all(number, draw.role(rng), name)),
         _ => tree[number].wanted |= name,
     }
-}
-
-/// Rows up to the limit and one over it, with few value restrictions, so that most have a merged table.
-fn draw_large(rng: &mut Rng) -> Draw {
-    let from = rng.pick(&[60, 150, 216]);
-    let nodes = if rng.chance(1, 4) { 255 + rng.below(3) } else { from + rng.below(40) };
-    Draw { nodes, forall: rng.pick(&[0, 0, 1]), impossible: 0, names: 3, ..draw(rng) }
 }
 
 /// Up to so many successors of few sorts, each with one of its own.
@@ -190,6 +113,59 @@ fn brush(rng: &mut Rng, draw: &Draw) -> (Tree, Tree) {
     (first, second)
 }
 
+/// About as many pairs of existential restrictions as a common picture may have rows. Most of the value restrictions
+/// below them have nothing in common.
+fn meeting(rng: &mut Rng, draw: &Draw) -> (Tree, Tree) {
+    let count = 12 + rng.below(6);
+    let other_count = 256 / count - rng.below(3);
+    let (edges, chains) = rng.pick(&[(1, 1), (2, 1), (2, 3), (5, 2), (11, 1)]);
+    let role = draw.first_role as u8;
+    (hung(rng, role, count, edges, chains, 1), hung(rng, role, other_count, edges, chains, 2))
+}
+
+/// So many existential restrictions with chains of value restrictions below each, the ends of which have this name. A
+/// node of a chain in between seldom excludes another.
+fn hung(rng: &mut Rng, role: u8, count: usize, edges: usize, chains: u8, name: u64) -> Tree {
+    let mut tree = vec![root()];
+    for _ in 0..count {
+        let top = tree.len();
+        tree.push(some(0, role, 0));
+        for role in 0..chains {
+            let from = tree.len();
+            tree.extend((0..edges).map(|at| all(if at == 0 { top } else { from + at - 1 }, role, 0)));
+            tree[from + edges - 1].wanted = name;
+            tree[from + rng.below(edges)].excluded = u64::from(rng.chance(1, 200)) << 9;
+        }
+    }
+    tree
+}
+
+/// Value restrictions below the root and below existential ones, some of them impossible on one side or on both, with
+/// subtrees of their own on each.
+fn marked(rng: &mut Rng, draw: &Draw) -> (Tree, Tree) {
+    let mut first = vec![root()];
+    let values = 1 + rng.below(6);
+    first.extend((0..values).map(|role| all(0, role as u8, draw.name(rng))));
+    for _ in 0..rng.below(8) {
+        let parent = first.len();
+        first.push(some(0, 8, draw.name(rng)));
+        first.push(all(parent, 9, draw.name(rng)));
+    }
+    let mut second = first.clone();
+    for tree in [&mut first, &mut second] {
+        for node in tree.iter_mut() {
+            node.impossible = node.kind == KIND_FORALL && rng.chance(1, 3);
+        }
+        tree[0].impossible = rng.chance(1, 30);
+        for _ in 0..rng.pick(&[1, 5, 40, 100]) {
+            let parent = 1 + rng.below(tree.len() - 1);
+            let node = if rng.chance(1, 8) { all } else { some };
+            tree.push(node(parent, draw.role(rng), draw.name(rng)));
+        }
+    }
+    (first, second)
+}
+
 fn trees(shape: Shape, rng: &mut Rng) -> (Tree, Tree) {
     let draw = match shape {
         Shape::Large | Shape::LargeNear => draw_large(rng),
@@ -201,6 +177,8 @@ fn trees(shape: Shape, rng: &mut Rng) -> (Tree, Tree) {
         Shape::Merging => spread(rng.pick(&[14, 15, 16, 16]), 12 + rng.below(4), 8),
         Shape::Growing => growing(rng, &draw),
         Shape::Brush => return brush(rng, &draw),
+        Shape::Meeting => return meeting(rng, &draw),
+        Shape::Marked => return marked(rng, &draw),
         _ => draw.tree(rng),
     };
     let second = match shape {
@@ -215,7 +193,7 @@ fn trees(shape: Shape, rng: &mut Rng) -> (Tree, Tree) {
         Shape::Chains => chains(rng, &draw),
         Shape::Merging => spread(rng.below(17), rng.below(16), 8),
         Shape::Growing => growing(rng, &draw),
-        Shape::Identical | Shape::Brush => first.clone(),
+        Shape::Identical | Shape::Brush | Shape::Meeting | Shape::Marked => first.clone(),
     };
     (first, second)
 }

@@ -9,6 +9,7 @@
 
 mod compare;
 mod damage;
+mod draw;
 mod library;
 mod pairs;
 #[path = "reference.rs"] // its modules are beside it

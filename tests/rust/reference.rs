@@ -6,6 +6,7 @@
 //! | `normalize` | length of its normal table                                 |
 //! | `subsumes`  | verdict and length of its evidence                         |
 //! | `verify`    | which evidence was taken                                   |
+//! | `lcs`       | length of the common picture                               |
 //!
 //! Pictures are read once, into rows linked by number. Nothing is allocated: all is in the buffers lent, or on the
 //! stack.
@@ -14,6 +15,7 @@ pub mod countermodel;
 pub mod evidence;
 pub mod field;
 pub mod homomorphism;
+pub mod lcs;
 pub mod normal;
 pub mod table;
 
@@ -117,6 +119,22 @@ pub fn verify(first: &[u8], second: &[u8], evidence: &[u8], work: &mut [u8]) -> 
         Ok(Taken::Map) => answer(YES, 0),
         Ok(Taken::Refutation) => answer(NO, 0),
         Err(question) => refusal(Input::Evidence, question),
+    }
+}
+
+/// The common picture: the least common subsumer of both.
+pub fn lcs(first: &[u8], second: &[u8], work: &mut [u8], result: &mut [u8]) -> u64 {
+    if work.len() < WORK_BYTES || result.len() < MAX_BYTES {
+        return refusal(Input::Buffer, 1);
+    }
+    let mut first_normal = Table::EMPTY;
+    let mut second_normal = Table::EMPTY;
+    if let Err(refusal) = prepare(first, second, &mut first_normal, &mut second_normal, work) {
+        return refusal;
+    }
+    match lcs::write(&first_normal, &second_normal, result) {
+        Ok(length) => answer(YES, length),
+        Err(lcs::TooLarge) => refusal(Input::Second, 15),
     }
 }
 

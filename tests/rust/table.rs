@@ -77,6 +77,16 @@ impl Row {
         self.impossible || self.wanted | self.excluded != 0
     }
 
+    /// Writes the field of the row, as the one of this number. Row 0 has no edge.
+    #[inline]
+    pub fn write(&self, number: usize, parent: u8, field: &mut [u8]) {
+        let (kind, role) = if number == 0 { (KIND_ROOT, 0) } else { (self.edge.kind(), self.edge.role()) };
+        field::head(field, TAG_ROW, VALUE_BYTES);
+        field[3..8].copy_from_slice(&[0, parent, kind, role, u8::from(self.impossible)]);
+        field[8..16].copy_from_slice(&self.wanted.to_be_bytes());
+        field[16..24].copy_from_slice(&self.excluded.to_be_bytes());
+    }
+
     /// Does the image carry the row's names and mark, or is it impossible? One test for both sets of names: which of
     /// them fails is hard to foresee.
     pub fn label_maps(&self, image: &Row) -> bool {
@@ -169,13 +179,7 @@ impl Table {
     pub fn write(&self, file: &mut [u8]) -> usize {
         let mut fields = file.chunks_exact_mut(ROW_BYTES);
         for (number, row) in self.rows[..self.count].iter().enumerate() {
-            let field = fields.next().expect("a table fits its buffer");
-            let kind = if number == 0 { KIND_ROOT } else { row.edge.kind() };
-            let role = if number == 0 { 0 } else { row.edge.role() };
-            field::head(field, TAG_ROW, VALUE_BYTES);
-            field[3..8].copy_from_slice(&[0, row.parent, kind, role, u8::from(row.impossible)]);
-            field[8..16].copy_from_slice(&row.wanted.to_be_bytes());
-            field[16..24].copy_from_slice(&row.excluded.to_be_bytes());
+            row.write(number, row.parent, fields.next().expect("a table fits its buffer"));
         }
         let end = self.count * ROW_BYTES;
         field::head(&mut file[end..], TAG_END, 0);

@@ -1,0 +1,41 @@
+#include "rows.h"
+
+#include <stdio.h>
+
+/* The numbers of the names of a set, if there are any. */
+static void print_names(const char *what, const uint8_t *set)
+{
+    unsigned int name, printed = 0;
+
+    for (name = 0; name < ZUVAROPY_NAMES; name++)
+        if (set[ZUVAROPY_NAME_SET_BYTES - 1 - name / 8] >> name % 8 & 1)
+            printf("%s %u", printed++ == 0 ? what : "", name);
+}
+
+static void print_edge(const uint8_t *value)
+{
+    const unsigned int parent = value[ZUVAROPY_PARENT_AT] * 256u + value[ZUVAROPY_PARENT_AT + 1];
+    const unsigned int kind = value[ZUVAROPY_KIND_AT];
+
+    if (kind == ZUVAROPY_KIND_ROOT)
+        printf("root");
+    else
+        printf("%s %u below row %u", kind == ZUVAROPY_KIND_FORALL ? "all" : "some", value[ZUVAROPY_ROLE_AT], parent);
+}
+
+static void print_row(unsigned int row, const uint8_t *value)
+{
+    printf("  row %u: ", row);
+    print_edge(value);
+    print_names("; wanted", value + ZUVAROPY_WANTED_AT);
+    print_names("; excluded", value + ZUVAROPY_EXCLUDED_AT);
+    printf("%s\n", value[ZUVAROPY_IMPOSSIBLE_AT] ? "; impossible" : "");
+}
+
+void rows_print(const uint8_t *picture, unsigned int rows)
+{
+    unsigned int row;
+
+    for (row = 0; row < rows; row++)
+        print_row(row, picture + (size_t)row * ZUVAROPY_ROW_BYTES + ZUVAROPY_HEAD_BYTES);
+}

@@ -1,0 +1,11 @@
+/* Printing the rows of a picture. */
+
+#ifndef ROWS_H
+#define ROWS_H
+
+#include "zuvaropy.h"
+
+/* A line for each of so many rows of a picture that was not refused. */
+void rows_print(const uint8_t *picture, unsigned int rows);
+
+#endif
