@@ -1,5 +1,5 @@
 // Runs the cases of paper 01 that are too large to compute in a proof: of the reader, each question at least once and a good
-// picture cut at every byte, and of the normal-table writer. A line for each: what the picture is, and the answer.
+// picture cut at every byte, of the normal-table writer, and of the common picture. A line for each: what the picture is, and the answer.
 mod make;
 mod tell;
 
@@ -12,6 +12,7 @@ use crate::make::set;
 use crate::make::shared;
 use crate::make::small;
 use crate::tell::tell;
+use crate::tell::tell_common;
 use crate::tell::tell_cut;
 use crate::tell::tell_nested;
 use crate::tell::tell_normal;
@@ -162,6 +163,24 @@ fn nestings() {
     }
 }
 
+// The common picture of two pictures of so many rows, all under the root by one role.
+fn common_counted(label: &[u8], one: usize, other: usize) {
+    let mut s = [0u8; SPACE];
+    let a = rows(&mut s, one, false);
+    let n = end(&mut s, a);
+    let mut t = [0u8; SPACE];
+    let b = rows(&mut t, other, false);
+    let m = end(&mut t, b);
+    tell_common(label, &s, n, &t, m);
+}
+
+// 15: each some-successor of the first is paired with each of the second.
+fn commons() {
+    common_counted(b"15 some r with 17 some r", 16, 18);
+    common_counted(b"16 some r with 16 some r", 17, 17);
+    common_counted(b"255 some r with one empty row", 256, 1);
+}
+
 fn main() {
     sizes();
     heads();
@@ -170,4 +189,5 @@ fn main() {
     normals();
     merged();
     nestings();
+    commons();
 }

@@ -1,4 +1,6 @@
-// What reading a picture and writing its normal table answer, as a line.
+// What reading a picture, writing its normal table and writing the common picture of two answer, as a line.
+use lcs::common::Common;
+use lcs::lcs::lcs;
 use libc::STDOUT_FILENO;
 use normal::normalize::Normalized;
 use normal::normalize::normalize;
@@ -12,6 +14,9 @@ use table::layout::ROW_SIZE;
 
 // The length laid down for a result buffer.
 const RESULT: usize = ROW_SIZE * MAX_ROWS + END_SIZE;
+
+// That of a work space: two halves.
+const WORK: usize = 2 * RESULT;
 
 fn tell_answer(s: &[u8]) {
     match read(s, Limits::bench(), Input::First) {
@@ -86,4 +91,35 @@ pub fn tell_short(label: &[u8], s: &[u8], n: usize) {
     io::write_all(STDOUT_FILENO, b"normal table, into 6146 bytes, of ");
     io::write_all(STDOUT_FILENO, label);
     tell_first_normal(s, n, &mut out);
+}
+
+fn tell_least(first: &[u8], second: &[u8]) {
+    let mut work = [0u8; WORK];
+    let mut out = [0u8; RESULT];
+    match lcs(first, second, Limits::bench(), &mut work, &mut out) {
+        Common::Length(n) => {
+            io::write_all(STDOUT_FILENO, b": length ");
+            io::print_decimal(STDOUT_FILENO, n as u64);
+        }
+        Common::Refused(refusal) => {
+            io::write_all(STDOUT_FILENO, b": refused ");
+            io::print_decimal(STDOUT_FILENO, refusal.number as u64);
+        }
+    }
+    io::write_all(STDOUT_FILENO, b"\n");
+}
+
+// The pictures are the first n bytes of s and the first m of t.
+fn tell_first_least(s: &[u8], n: usize, t: &[u8], m: usize) {
+    if n <= s.len() {
+        if m <= t.len() {
+            tell_least(&s[..n], &t[..m]);
+        }
+    }
+}
+
+pub fn tell_common(label: &[u8], s: &[u8], n: usize, t: &[u8], m: usize) {
+    io::write_all(STDOUT_FILENO, b"common picture of ");
+    io::write_all(STDOUT_FILENO, label);
+    tell_first_least(s, n, t, m);
 }

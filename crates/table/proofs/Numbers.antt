@@ -1,5 +1,6 @@
 -- Laws of numbers of several bytes, the high byte first.
---   be-add, be-join                   a number is its upper and its lower bytes
+--   be-add                            a number is its upper and its lower bytes
+--   be-more                           one byte more
 --   be-two                            a number of two bytes
 --   be-same                           bytes that agree are the same number, also at another place
 --   be-bound                          a number of k bytes is below 256 ^ k
@@ -30,8 +31,9 @@ pub be-two : (s : List ℕ) (at : ℕ) → be s at 2 ≡ getD s at 0 * 256 + get
 unfolding be
 be-two s at = rw add-zero (omega arith)
 
-pub be-join : (s : List ℕ) (at m k x y : ℕ) → x ≡ be s at m → y ≡ be s (at + m) k → x * 256 ^ k + y ≡ be s at (m + k)
-be-join s at m k x y p q = rw (p, q) (sym (be-add s at m k))
+pub be-more : (s : List ℕ) (at k x r : ℕ) → x ≡ be s at k → r ≡ x * 256 + getD s (at + k) 0 → r ≡ be s at (suc k)
+unfolding be
+be-more s at k x r p q = q ∙ ap (λ (n : ℕ). n * 256 + getD s (at + k) 0) p
 
 pub be-same : (s t : List ℕ) (a b k : ℕ) → ((i : ℕ) → i < k → getD s (a + i) 0 ≡ getD t (b + i) 0) → be s a k ≡ be t b k
 unfolding be
