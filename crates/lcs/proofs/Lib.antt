@@ -1,4 +1,6 @@
 -- The laws of the common picture, by subject.
+-- worked cases, computed; first, so that what a definition may not say is a case that fails
+pub mod CommonCases
 -- what is written is a picture, and its covering
 pub mod Commons
 -- the call
@@ -19,5 +21,3 @@ pub mod Grafts
 pub mod Calls
 -- the condition
 pub mod Conditions
--- worked cases, computed
-pub mod CommonCases

@@ -204,7 +204,7 @@ graft-graft-pairs-requires t c κs =
     let label = c .before .before .before .before .before .before .common-label in
     let possible = ne-eqb (one .result .bottom) 1 (c .before .before .before .before .before .before .before .before .before .if1 .left) in
     let other = ne-eqb (two .result .bottom) 1 (c .before .before .before .before .before .before .before .if2 .left) in
-    let room-or : (a .limit ≤ a .table .rows → stays (a .edge) (label .result) ≡ false) = (λ full. ⊎-elim (λ w. sym (w .1 .ensures) ∙ w .2 .left) (λ w. absurd (omega (arith, w .left))) (c .before .before .before .before .before .if3 .came)) in
+    let room-or : (a .limit ≤ a .table .rows → stays (a .edge) (label .result) ≡ false) = (λ full. ⊎-elim {C = stays (a .edge) (label .result) ≡ false} (λ w. sym (w .1 .ensures) ∙ w .2 .left) (λ w. absurd (omega (arith, w .left))) (c .before .before .before .before .before .if3 .came)) in
     let enter = c .before .before .before .enter in
     let room = entered-room (a .limit) (a .table) (now (a .out)) (a .edge) (label .result) (labelIntersection pictureSignature ((pictureTable (now (a .first))) .label (a .u)) ((pictureTable (now (a .second))) .label (a .w)))
     (common-is (one .result) (two .result) (label .result) _ _ (one .ensures) (two .ensures) (label .ensures .0) (label .ensures .1 .0) (label .ensures .1 .1)) (pre .1 .1 .1 .1 .1) (pre .1 .1 .1 .1 .0) (enter .result) (enter .last .0) (enter .ensures) in
@@ -244,7 +244,7 @@ graft-returns-4 t c =
     let label = c .before .before .before .before .before .before .before .before .before .before .common-label in
     let possible = ne-eqb (one .result .bottom) 1 (c .before .before .before .before .before .before .before .before .before .before .before .before .before .if1 .left) in
     let other = ne-eqb (two .result .bottom) 1 (c .before .before .before .before .before .before .before .before .before .before .before .if2 .left) in
-    let room-or : (a .limit ≤ a .table .rows → stays (a .edge) (label .result) ≡ false) = (λ full. ⊎-elim (λ w. sym (w .1 .ensures) ∙ w .2 .left) (λ w. absurd (omega (arith, w .left))) (c .before .before .before .before .before .before .before .before .before .if3 .came)) in
+    let room-or : (a .limit ≤ a .table .rows → stays (a .edge) (label .result) ≡ false) = (λ full. ⊎-elim {C = stays (a .edge) (label .result) ≡ false} (λ w. sym (w .1 .ensures) ∙ w .2 .left) (λ w. absurd (omega (arith, w .left))) (c .before .before .before .before .before .before .before .before .before .if3 .came)) in
     let enter = c .before .before .before .before .before .before .before .enter in
     let pairs = c .before .before .before .graft-pairs in
     let leave = c .leave in
