@@ -2,12 +2,12 @@
 --   common-few, common-many             15: the length of the common picture, or the refusal
 --   short-lcs                           1 is answered no
 --   refused-lcs, acceptable-lcs         a refusal by the reading or 14 is the call's; else 15 decides
---   common-lcs, wide-lcs                the common picture has at most the rows of the limit, and its length is given, or it has more
---   refused-wide, wide-exactly          15 refuses exactly then, and such a pair is refused by nothing else
+--   common-lcs, large-lcs                the common picture has at most the rows of the limit, and its length is given, or it has more
+--   refused-large, large-exactly          15 refuses exactly then, and such a pair is refused by nothing else
 --   Answered, answered-length           a length is answered in no other case, and no other length
 --   refusal-result                      a refusal, whichever it is, leaves the result buffer
 --   short-result, refused-result,
---   wide-result, common-result          the result buffer then; the work space is that of every call on two pictures (workspace, proofs/Lendings)
+--   large-result, common-result          the result buffer then; the work space is that of every call on two pictures (workspace, proofs/Lendings)
 --   result-past, result-kept            bytes past the common picture keep their contents, whatever the answer; so does the result buffer's length
 --   common-read                         the result buffer's bytes up to the reported length are the common picture
 use Prim.Native.Nat.{_+_, _-_, _<_, _≤_, ℕ}
@@ -34,7 +34,7 @@ use Rattle.workspace.specs.Lent.{roomy}
 use Rattle.workspace.specs.Prepare.{Acceptable, prepareAnswer, workSize}
 use Rattle.workspace.specs.declared.prepare.Prepared.{Prepared}
 use Rattle.workspace.specs.declared.prepare.Prepared.the-variants as prepared
-use Rattle.lcs.specs.Call.{commonAnswer, lcsAnswer, lcsResult, onCommon, onTables, tooWide}
+use Rattle.lcs.specs.Call.{commonAnswer, lcsAnswer, lcsResult, onCommon, onTables, tooLarge}
 use Rattle.lcs.specs.Product.{lcsCount, lcsFile}
 use Rattle.lcs.specs.declared.common.Common.{Common}
 use Rattle.lcs.specs.declared.common.Common.the-variants.{Length, Refused}
@@ -47,16 +47,16 @@ module _ (limits : Limits) (first second : List ℕ) where
   unfolding commonAnswer
   common-few few = rw (le-leb (lcsCount limits first second) (limits .rows) few)
 
-  pub common-many : limits .rows < lcsCount limits first second → commonAnswer limits first second ≡ Refused tooWide
+  pub common-many : limits .rows < lcsCount limits first second → commonAnswer limits first second ≡ Refused tooLarge
   unfolding commonAnswer
   common-many many = rw (lt-leb (lcsCount limits first second) (limits .rows) many)
 
   -- the answer where the test is b
-  length-few : (n : ℕ) (b : Bool) (m : ℕ) → pick b (Length m) (Refused tooWide) ≡ Length n → (b ≡ true) × (n ≡ m)
+  length-few : (n : ℕ) (b : Bool) (m : ℕ) → pick b (Length m) (Refused tooLarge) ≡ Length n → (b ≡ true) × (n ≡ m)
   length-few n true m e = (refl, cc)
   length-few n false m e = absurd (let z : _≡_ {A = ℕ} 0 1 = cc in omega arith)
 
-  refused-many : (r : Refusal) (b : Bool) (m : ℕ) → pick b (Length m) (Refused tooWide) ≡ Refused r → (b ≡ false) × (r ≡ tooWide)
+  refused-many : (r : Refusal) (b : Bool) (m : ℕ) → pick b (Length m) (Refused tooLarge) ≡ Refused r → (b ≡ false) × (r ≡ tooLarge)
   refused-many r true m e = absurd (let z : _≡_ {A = ℕ} 0 1 = cc in omega arith)
   refused-many r false m e = (refl, cc)
 
@@ -92,20 +92,20 @@ module _ (limits : Limits) (first second : List ℕ) (work result : ℕ) where
           lcsAnswer limits first second work result ≡ Length (length (lcsFile limits first second))
       common-lcs few = acceptable-lcs ∙ common-few limits first second few
 
-      pub wide-lcs : limits .rows < lcsCount limits first second → lcsAnswer limits first second work result ≡ Refused tooWide
-      wide-lcs many = acceptable-lcs ∙ common-many limits first second many
+      pub large-lcs : limits .rows < lcsCount limits first second → lcsAnswer limits first second work result ≡ Refused tooLarge
+      large-lcs many = acceptable-lcs ∙ common-many limits first second many
 
       -- such a pair is refused by nothing else
-      pub refused-wide : (r : Refusal) → lcsAnswer limits first second work result ≡ Refused r →
-          (limits .rows < lcsCount limits first second) × (r ≡ tooWide)
+      pub refused-large : (r : Refusal) → lcsAnswer limits first second work result ≡ Refused r →
+          (limits .rows < lcsCount limits first second) × (r ≡ tooLarge)
       unfolding commonAnswer
-      refused-wide r h =
+      refused-large r h =
           let n = lcsCount limits first second in
           let (many, is) = refused-many limits first second r (leb n (limits .rows)) (length (lcsFile limits first second)) (sym acceptable-lcs ∙ h) in
           (leb-false n (limits .rows) many, is)
 
-      pub wide-exactly : (lcsAnswer limits first second work result ≡ Refused tooWide) ↔ (limits .rows < lcsCount limits first second)
-      wide-exactly = (λ h. refused-wide tooWide h .0, wide-lcs)
+      pub large-exactly : (lcsAnswer limits first second work result ≡ Refused tooLarge) ↔ (limits .rows < lcsCount limits first second)
+      large-exactly = (λ h. refused-large tooLarge h .0, large-lcs)
 
   pub answered-length : (n : ℕ) → lcsAnswer limits first second work result ≡ Length n → Answered n
   unfolding lcsAnswer commonAnswer
@@ -144,8 +144,8 @@ module _ (limits : Limits) (first second : List ℕ) (work : ℕ) (result : List
     refused-result r h = refusal-result r (refused-lcs limits first second work (length result) enough long r h)
 
     module _ (pair : Acceptable limits first second) where
-      pub wide-result : limits .rows < lcsCount limits first second → lcsResult limits first second work result ≡ result
-      wide-result many = refusal-result tooWide (wide-lcs limits first second work (length result) enough long pair many)
+      pub large-result : limits .rows < lcsCount limits first second → lcsResult limits first second work result ≡ result
+      large-result many = refusal-result tooLarge (large-lcs limits first second work (length result) enough long pair many)
 
       pub common-result : lcsCount limits first second ≤ limits .rows → lcsResult limits first second work result ≡ put result 0 (lcsFile limits first second)
       common-result few =

@@ -40,7 +40,7 @@ use Rattle.workspace.specs.Tables.{firstIn, secondIn}
 use Rattle.workspace.specs.declared.prepare.Pair.{Pair}
 use Rattle.workspace.specs.declared.prepare.Prepared.{Prepared}
 use Rattle.workspace.specs.declared.prepare.Prepared.the-variants as prepared
-use Rattle.lcs.specs.Call.{commonAnswer, lcsAnswer, lcsResult, lcsWork, onCommon, onTables, tooWide}
+use Rattle.lcs.specs.Call.{commonAnswer, lcsAnswer, lcsResult, lcsWork, onCommon, onTables, tooLarge}
 use Rattle.lcs.specs.Grown.{Built, Grown}
 use Rattle.lcs.specs.Product.{lcsCount, lcsFile, lcsTree}
 use Rattle.lcs.specs.Siblings.{Trim}
@@ -65,7 +65,7 @@ module _ (limits : Limits) (s t : List ℕ) (b : Builder) (scratch mid : List �
   abbrev made : Tree pictureSignature
   made = productAt s t (limits .depth) 0 0
 
-  pub made-many : (out : List ℕ) → limits .rows < b .rows → (Refused tooWide ≡ commonIn limits s t) × (out ≡ onCommon (Refused tooWide) (commonFileIn limits s t) out)
+  pub made-many : (out : List ℕ) → limits .rows < b .rows → (Refused tooLarge ≡ commonIn limits s t) × (out ≡ onCommon (Refused tooLarge) (commonFileIn limits s t) out)
   unfolding commonIn
   made-many out many = (rw (lt-leb (size pictureSignature made) (limits .rows) (omega (arith, built .count))), refl)
 

@@ -35,11 +35,11 @@ use Rattle.table.specs.Bounds.{Bounded, benchLimits, pictureSize}
 use Rattle.table.specs.Number.{Bytes}
 use Rattle.table.specs.declared.layout.Limits.{Limits}
 use Rattle.workspace.specs.Prepare.{Acceptable, workSize}
-use Rattle.lcs.specs.Call.{lcsAnswer, lcsResult, tooWide}
+use Rattle.lcs.specs.Call.{lcsAnswer, lcsResult, tooLarge}
 use Rattle.lcs.specs.Product.{lcsCount, lcsFile, lcsTree}
 use Rattle.lcs.specs.declared.common.Common.{Common}
 use Rattle.lcs.specs.declared.common.Common.the-variants.{Length, Refused}
-use Rattle.lcs.proofs.Answers.{answered-length, common-lcs, common-read, refused-wide, wide-exactly, wide-lcs}
+use Rattle.lcs.proofs.Answers.{answered-length, common-lcs, common-read, refused-large, large-exactly, large-lcs}
 use Rattle.lcs.proofs.Commons.{lcs-bytes, lcs-covers-first, lcs-covers-second, lcs-least, lcs-readable, lcs-reads, lcs-size}
 
 abbrev pub SaysLength : Common → Type 0
@@ -67,14 +67,14 @@ pub record Condition2Common (limits : Limits) (first second : List ℕ) : Type 0
       LeastCommon limits first second n (written limits first second work result n)
   -- "it is refused only when the product laid down in the papers exceeds 256 rows"; and then it is, by 15, which names the second.
   pub refused-only : (work result : ℕ) → workSize limits ≤ work → pictureSize limits ≤ result →
-      (r : Refusal) → lcsAnswer limits first second work result ≡ Refused r → (limits .rows < lcsCount limits first second) × (r ≡ tooWide)
+      (r : Refusal) → lcsAnswer limits first second work result ≡ Refused r → (limits .rows < lcsCount limits first second) × (r ≡ tooLarge)
   pub refused-exactly : (work result : ℕ) → workSize limits ≤ work → pictureSize limits ≤ result →
-      (lcsAnswer limits first second work result ≡ Refused tooWide) ↔ (limits .rows < lcsCount limits first second)
+      (lcsAnswer limits first second work result ≡ Refused tooLarge) ↔ (limits .rows < lcsCount limits first second)
   pub given-exactly : (work result : ℕ) → workSize limits ≤ work → pictureSize limits ≤ result →
       SaysLength (lcsAnswer limits first second work result) ↔ (lcsCount limits first second ≤ limits .rows)
   -- nothing else is answered
   pub one : (work result : ℕ) → workSize limits ≤ work → pictureSize limits ≤ result →
-      SaysLength (lcsAnswer limits first second work result) ⊎ (lcsAnswer limits first second work result ≡ Refused tooWide)
+      SaysLength (lcsAnswer limits first second work result) ⊎ (lcsAnswer limits first second work result ≡ Refused tooLarge)
 
 -- the picture that the call writes is one
 common-least : (limits : Limits) → Bounded limits → (first second : List ℕ) → Acceptable limits first second →
@@ -103,13 +103,13 @@ condition-2-common limits bounded first second pair =
           let a = answered-length limits first second work (length result) n h in
           subst (λ e. LeastCommon limits first second n e) (sym (common-read limits first second work result n h))
           (common-least limits bounded first second pair (a .few) n (a .length-is));
-      refused-only = λ work result enough long r h. refused-wide limits first second work result enough long pair r h;
-      refused-exactly = λ work result enough long. wide-exactly limits first second work result enough long pair;
+      refused-only = λ work result enough long r h. refused-large limits first second work result enough long pair r h;
+      refused-exactly = λ work result enough long. large-exactly limits first second work result enough long pair;
       given-exactly = λ work result enough long.
           (λ (n, h). answered-length limits first second work result n h .few, says-length work result enough long);
       one = λ work result enough long. by-test (leb count (limits .rows))
           (λ few. inl (says-length work result enough long (leb-true count (limits .rows) few)))
-          (λ many. inr (wide-lcs limits first second work result enough long pair (leb-false count (limits .rows) many)));
+          (λ many. inr (large-lcs limits first second work result enough long pair (leb-false count (limits .rows) many)));
     }
 
 pub product-rows : (limits : Limits) (first second : List ℕ) →

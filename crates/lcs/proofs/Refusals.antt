@@ -20,7 +20,7 @@ use Rattle.workspace.specs.Lent.{roomy}
 use Rattle.workspace.specs.Prepare.{prepareAnswer}
 use Rattle.workspace.specs.declared.prepare.Prepared.{Prepared}
 use Rattle.workspace.specs.declared.prepare.Prepared.the-variants as prepared
-use Rattle.lcs.specs.Call.{commonAnswer, lcsAnswer, onTables, tooWide}
+use Rattle.lcs.specs.Call.{commonAnswer, lcsAnswer, onTables, tooLarge}
 use Rattle.lcs.specs.Product.{lcsCount, lcsFile}
 use Rattle.lcs.specs.declared.common.Common.{Common}
 use Rattle.lcs.specs.declared.common.Common.the-variants.{Length, Refused}
@@ -33,7 +33,7 @@ Answers (Length n) = Unit
 Answers (Refused r) = Named r
 
 module _ (limits : Limits) (first second : List ℕ) (work result : ℕ) where
-  common-answers : (b : Bool) (n : ℕ) → Answers (pick b (Length n) (Refused tooWide))
+  common-answers : (b : Bool) (n : ℕ) → Answers (pick b (Length n) (Refused tooLarge))
   common-answers true n = tt
   common-answers false n = inr (refl, omega arith, omega arith)
 

@@ -1,10 +1,10 @@
 -- 01, "Common picture and its length (buffer 6,147)": the answer, and what the two buffers hold then.
---   tooWide      15 is answered no: it names the second
---   onTables     what comes after 14
---   commonAnswer 15, and then the length of the common picture
---   lcsAnswer    1; first; second; 14 of each; 15
---   lcsWork      the work space: both tables once 14 is answered yes for both, whatever 15 says; else nothing written
---   lcsResult    the result buffer: the common picture from its first byte on where 15 is answered yes; else nothing written
+--   tooLarge              15 is answered no: it names the second
+--   onTables              what comes after 14
+--   commonAnswer          15, and then the length of the common picture
+--   lcsAnswer             1; first; second; 14 of each; 15
+--   lcsWork               the work space: both tables once 14 is answered yes for both, whatever 15 says; else nothing written
+--   onCommon, lcsResult   the result buffer: the common picture from its first byte on where a length is answered; else nothing written
 use Prim.Native.Nat.{ℕ}
 use lib.Dec.{leb}
 use lib.ListN.{length}
@@ -24,15 +24,15 @@ use Rattle.lcs.specs.Product.{lcsCount, lcsFile}
 use Rattle.lcs.specs.declared.common.Common.{Common}
 use Rattle.lcs.specs.declared.common.Common.the-variants.{Length, Refused}
 
-abbrev pub tooWide : Refusal
-tooWide = record { number = 15; input = Second }
+abbrev pub tooLarge : Refusal
+tooLarge = record { number = 15; input = Second }
 
 abbrev pub onTables : Prepared → Common → Common
 onTables (prepared.Tables pair) answer = answer
 onTables (prepared.Refused r) answer = Refused r
 
 unfoldable pub commonAnswer : Limits → List ℕ → List ℕ → Common
-commonAnswer limits first second = pick (leb (lcsCount limits first second) (limits .rows)) (Length (length (lcsFile limits first second))) (Refused tooWide)
+commonAnswer limits first second = pick (leb (lcsCount limits first second) (limits .rows)) (Length (length (lcsFile limits first second))) (Refused tooLarge)
 
 unfoldable pub lcsAnswer : Limits → List ℕ → List ℕ → ℕ → ℕ → Common
 lcsAnswer limits first second work result =

@@ -26,7 +26,7 @@ use Rattle.ale.specs.Tree.{Forest, Kind, Tree, size, successorsOf}
 use Rattle.meaning.specs.File.{fileOf}
 use Rattle.meaning.specs.Meaning.{kindAt}
 use Rattle.homomorphism.specs.Search.{treeAt}
-use Rattle.lcs.specs.Call.{tooWide}
+use Rattle.lcs.specs.Call.{tooLarge}
 use Rattle.lcs.specs.Siblings.{Trim, TrimAll, forestFrom, keyAt}
 use Rattle.lcs.specs.declared.common.Common.{Common}
 use Rattle.lcs.specs.declared.common.Common.the-variants.{Length, Refused}
@@ -63,4 +63,4 @@ module _ (limits : Limits) (s t : List ℕ) where
   commonFileIn = fileOf (encode pictureSignature (productAt s t (limits .depth) 0 0))
 
   unfoldable pub commonIn : Common
-  commonIn = pick (leb (size pictureSignature (productAt s t (limits .depth) 0 0)) (limits .rows)) (Length (length commonFileIn)) (Refused tooWide)
+  commonIn = pick (leb (size pictureSignature (productAt s t (limits .depth) 0 0)) (limits .rows)) (Length (length commonFileIn)) (Refused tooLarge)

@@ -1,4 +1,5 @@
 // A row of a table with what hangs from it, as it stands there, after the rows of another: what a pair with a marked side comes to.
+use crate::node::beyond;
 use crate::node::push_row;
 use homomorphism::label::label_at;
 use normal::node::Edge;
@@ -34,7 +35,7 @@ pub fn copy_tree(
 {
     let at = table.rows;
     if limit <= at {
-        return Builder { rows: limit + 1 };
+        return beyond(limit);
     }
     let entered = push_row(out, table, edge, label_at(t, v), limit);
     copy_below(t, m, links, v, depth, limit, out, entered, at)

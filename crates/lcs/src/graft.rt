@@ -3,6 +3,7 @@
 use crate::copy::copy_tree;
 use crate::edge::edge_key;
 use crate::edge::seek;
+use crate::node::beyond;
 use crate::node::common_label;
 use crate::node::enter;
 use crate::node::is_kept;
@@ -65,7 +66,7 @@ fn graft(
     let at = table.rows;
     if limit <= at {
         if is_kept(edge, label) {
-            return Builder { rows: limit + 1 };
+            return beyond(limit);
         }
     }
     let entered = enter(out, table, edge, label, limit);

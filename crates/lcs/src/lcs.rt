@@ -11,25 +11,16 @@ use table::layout::place;
 use workspace::prepare::Pair;
 use workspace::prepare::Prepared;
 use workspace::prepare::half_size;
+use workspace::prepare::has_room;
 use workspace::prepare::prepare;
 ghost use mathlib.Core.Path.{_≡_};
 ghost use Prim.Native.Nat.{ℕ, _≤_};
 ghost use lib.ListN.{length};
 ghost use Rattle.table.specs.Bounds.{Bounded, pictureSize};
 ghost use Rattle.normal.specs.Rows.{Checked};
-ghost use Rattle.workspace.specs.Lent.{roomy};
 ghost use Rattle.workspace.specs.Tables.{TablesIn, firstIn, secondIn};
 ghost use Rattle.lcs.specs.Call.{lcsAnswer, lcsResult, lcsWork, onCommon};
 ghost use Rattle.lcs.specs.Tables.{Trims, commonFileIn, commonIn};
-
-// 1: whether both buffers are long enough.
-fn has_room(limits: Limits, work: usize, result: usize) -> bool
-    requires { ⌜ Bounded limits ⌝ }
-    ensures { λ r. ⌜ r ≡ roomy limits (pictureSize limits) work result ⌝ }
-{
-    let half = half_size(limits);
-    half + half <= work && half <= result
-}
 
 // 15, and the common picture of two normal tables. Nothing is written before 15 is answered yes.
 fn write_common(
@@ -78,7 +69,7 @@ pub fn lcs(
     requires { ⌜ Bounded limits ⌝ }
     ensures { λ r. ⌜ (r ≡ lcsAnswer limits (now (first .entry)) (now (second .entry)) (length (now (work .entry))) (length (now (result .entry)))) × ((now (work .exit) ≡ lcsWork limits (now (first .entry)) (now (second .entry)) (now (work .entry)) (length (now (result .entry)))) × (now (result .exit) ≡ lcsResult limits (now (first .entry)) (now (second .entry)) (length (now (work .entry))) (now (result .entry)))) ⌝ }
 {
-    if !has_room(limits, work.len(), result.len()) {
+    if !has_room(limits, half_size(limits), work.len(), result.len()) {
         return Common::Refused(Refusal {
             number: 1,
             input: Input::Buffer,

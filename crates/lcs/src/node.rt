@@ -10,9 +10,7 @@ ghost use mathlib.Core.Path.{_≡_};
 ghost use mathlib.Core.Bool.{false};
 ghost use Prim.Native.Nat.{ℕ, _+_, _≤_, _<_};
 ghost use lib.Dec.{eqb};
-ghost use lib.ListN.{length};
 ghost use Rattle.table.specs.Bounds.{maxRows};
-ghost use Rattle.table.specs.Layout.{«place»};
 ghost use Rattle.table.specs.NameSet.{intersection, setOf};
 ghost use Rattle.table.specs.Pick.{pick};
 ghost use Rattle.meaning.specs.File.{markCode};
@@ -29,6 +27,14 @@ pub fn common_label(a: Label, b: Label) -> Label
         excluded: excluded.intersection(b.excluded),
         bottom: 0,
     }
+}
+
+// A count beyond the limit, where a row more would have to stand: none is written any more, and the answer is 15.
+pub fn beyond(limit: usize) -> Builder
+    requires { ⌜ limit ≤ maxRows ⌝ }
+    ensures { λ r. ⌜ r .rows ≡ limit + 1 ⌝ }
+{
+    Builder { rows: limit + 1 }
 }
 
 // The impossible byte of a label.

@@ -11,26 +11,16 @@ use table::layout::place;
 use workspace::prepare::Pair;
 use workspace::prepare::Prepared;
 use workspace::prepare::half_size;
+use workspace::prepare::has_room;
 use workspace::prepare::prepare;
 ghost use mathlib.Core.Path.{_≡_};
 ghost use Prim.Native.Nat.{ℕ};
 ghost use lib.ListN.{length};
 ghost use Rattle.table.specs.Bounds.{Bounded};
 ghost use Rattle.table.specs.Put.{put};
-ghost use Rattle.workspace.specs.Lent.{roomy};
 ghost use Rattle.workspace.specs.Tables.{TablesIn, firstIn, secondIn};
 ghost use Rattle.subsumption.specs.Call.{subsumesAnswer, subsumesResult, subsumesWork};
 ghost use Rattle.subsumption.specs.Tables.{Settled, evidenceIn, verdictIn};
-ghost use Rattle.subsumption.specs.Verdict.{evidenceSize};
-
-// 1: whether both buffers are long enough.
-fn has_room(limits: Limits, work: usize, result: usize) -> bool
-    requires { ⌜ Bounded limits ⌝ }
-    ensures { λ r. ⌜ r ≡ roomy limits (evidenceSize limits) work result ⌝ }
-{
-    let half = half_size(limits);
-    half + half <= work && individual_place(individuals_within(limits), END_SIZE) <= result
-}
 
 // The verdict on the tables in the work space.
 fn decide_in(work: &[u8], pair: Pair, limits: Limits, result: &mut [u8]) -> Verdict
@@ -56,7 +46,8 @@ pub fn subsumes(
     requires { ⌜ Bounded limits ⌝ }
     ensures { λ r. ⌜ (r ≡ subsumesAnswer limits (now (first .entry)) (now (second .entry)) (length (now (work .entry))) (length (now (result .entry)))) × ((now (work .exit) ≡ subsumesWork limits (now (first .entry)) (now (second .entry)) (now (work .entry)) (length (now (result .entry)))) × (now (result .exit) ≡ subsumesResult limits (now (first .entry)) (now (second .entry)) (length (now (work .entry))) (now (result .entry)))) ⌝ }
 {
-    if !has_room(limits, work.len(), result.len()) {
+    let size = individual_place(individuals_within(limits), END_SIZE);
+    if !has_room(limits, size, work.len(), result.len()) {
         return Verdict::Refused(Refusal {
             number: 1,
             input: Input::Buffer,

@@ -21,6 +21,7 @@ ghost use Rattle.table.specs.Put.{put};
 ghost use Rattle.normal.specs.Grown.{prefix};
 ghost use Rattle.normal.specs.Half.{halfOf};
 ghost use Rattle.normal.specs.Rows.{Checked};
+ghost use Rattle.workspace.specs.Lent.{roomy};
 ghost use Rattle.workspace.specs.Prepare.{mergedAsked, halvesPut, onPrepared, prepareAnswer, workSize};
 
 // The rows of the two normal tables.
@@ -40,6 +41,15 @@ pub fn half_size(limits: Limits) -> usize
     ensures { λ r. ⌜ r ≡ pictureSize limits ⌝ }
 {
     place(limits.rows, END_SIZE)
+}
+
+// 1, of a call that is lent a result buffer too: whether the work space and that buffer, of which so many bytes are asked, are long enough.
+pub fn has_room(limits: Limits, size: usize, work: usize, result: usize) -> bool
+    requires { ⌜ Bounded limits ⌝ }
+    ensures { λ r. ⌜ r ≡ roomy limits size work result ⌝ }
+{
+    let half = half_size(limits);
+    half + half <= work && size <= result
 }
 
 // A table under construction into each half: the lower part of the work space is lent, then the upper one.

@@ -3,7 +3,7 @@
 --   Gives, Refuses              the word and both buffers; the word of a refusal, and nothing written
 --   lcs-short                   1: the work space is shorter than two halves, or the result buffer than 6,147 bytes
 --   lcs-refuses                 2 to 13 of the first picture, then of the second; 14 of the first, then of the second (PairWords)
---   lcs-wide                    15: the common picture has more than 256 rows; both normal tables stand in the work space, nothing in the result buffer
+--   lcs-large                    15: the common picture has more than 256 rows; both normal tables stand in the work space, nothing in the result buffer
 --   lcs-common                  else its length; both normal tables stand in the work space, the common picture in the result buffer
 --   lcs-space                   the work space is then, with 15 as without, as the check of evidence leaves it,
 --   lcs-space-same              and its two halves do not depend on what stood there; nor does the word, by its definition
@@ -20,7 +20,7 @@ use mathlib.Core.Logic.{_↔_, ⊎-elim}
 use mathlib.Core.Path.{_∙_, _≡_, ap, refl, subst, sym}
 use native.Mathlib.Omega.{arith}
 use Rattle.evidence.proofs.Verifications.{pair-work}
-use Rattle.lcs.proofs.Answers.{Answered, answered-length, common-lcs, common-result, refused-lcs, refused-result, result-kept, result-past, short-lcs, short-result, wide-lcs, wide-result}
+use Rattle.lcs.proofs.Answers.{Answered, answered-length, common-lcs, common-result, refused-lcs, refused-result, result-kept, result-past, short-lcs, short-result, large-lcs, large-result}
 use Rattle.lcs.proofs.Commons.{lcs-size}
 use Rattle.lcs.proofs.Conditions.{LeastCommon, SaysLength, condition-2-common}
 use Rattle.lcs.proofs.Refusals.{lcs-refusal}
@@ -77,12 +77,12 @@ module _ (first second work result : List ℕ) where
         ))
 
     module _ (pair : Acceptable benchLimits first second) where
-      pub lcs-wide : maxRows < lcsCount benchLimits first second → Gives (refused 15 Second) (halvesPut benchLimits first second work) result
+      pub lcs-large : maxRows < lcsCount benchLimits first second → Gives (refused 15 Second) (halvesPut benchLimits first second work) result
       unfolding lcsWord lcsSpace lcsBuffer
-      lcs-wide many = (
-        ap commonWord (wide-lcs benchLimits first second (length work) (length result) enough long pair many),
+      lcs-large many = (
+        ap commonWord (large-lcs benchLimits first second (length work) (length result) enough long pair many),
         acceptable-work benchLimits (pictureSize benchLimits) first second work (length result) enough long pair,
-        wide-result benchLimits first second (length work) result enough long pair many,
+        large-result benchLimits first second (length work) result enough long pair many,
       )
 
       pub lcs-common : lcsCount benchLimits first second ≤ maxRows →
@@ -149,8 +149,8 @@ module _ (first second : List ℕ) (work result : ℕ) where
       ap (λ a. outcome (commonWord a)) e ∙ value-outcome outcomeYes n (answered-small n (answered-length benchLimits first second work result n e))
 
   module _ (enough : workSize benchLimits ≤ work) (long : pictureSize benchLimits ≤ result) (pair : Acceptable benchLimits first second) where
-    wide-word : SaysLength (lcsAnswer benchLimits first second work result) → lcsWord first second work result ≡ refused 15 Second → ⊥
-    wide-word (n, e) h = omega (arith, ap outcome h, length-yes n e)
+    large-word : SaysLength (lcsAnswer benchLimits first second work result) → lcsWord first second work result ≡ refused 15 Second → ⊥
+    large-word (n, e) h = omega (arith, ap outcome h, length-yes n e)
 
     pub lcs-exactly :
         ((outcome (lcsWord first second work result) ≡ outcomeYes) ↔ (lcsCount benchLimits first second ≤ maxRows))
@@ -163,7 +163,7 @@ module _ (first second : List ℕ) (work result : ℕ) where
             λ few. let (n, e) = c .given-exactly work result enough long .1 few in length-yes n e,
           ),
           (
-            λ h. ⊎-elim (λ says. absurd (wide-word says h)) (λ e. c .refused-exactly work result enough long .0 e) (c .one work result enough long),
+            λ h. ⊎-elim (λ says. absurd (large-word says h)) (λ e. c .refused-exactly work result enough long .0 e) (c .one work result enough long),
             λ many. ap commonWord (c .refused-exactly work result enough long .1 many),
           ),
         )

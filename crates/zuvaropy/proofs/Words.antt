@@ -19,7 +19,7 @@ use Rattle.picture.specs.declared.read.Reading.the-variants as reading
 use Rattle.picture.specs.Read.{readingOf, answered, answerOf}
 use Rattle.picture.specs.View.{Readable, rowCount}
 use Rattle.evidence.specs.declared.check.Verified.the-variants as verified
-use Rattle.lcs.specs.Call.{tooWide}
+use Rattle.lcs.specs.Call.{tooLarge}
 use Rattle.lcs.specs.declared.common.Common.the-variants as common
 use Rattle.subsumption.specs.declared.verdict.Verdict.the-variants as verdict
 use Rattle.picture.proofs.Readables.{reading-answer, reading-number, readable-count}
@@ -84,7 +84,7 @@ words =
     ∷ verdictWord (verdict.Yes 12)
     ∷ verdictWord (verdict.No 46595)
     ∷ commonWord (common.Length 6147)
-    ∷ commonWord (common.Refused tooWide)
+    ∷ commonWord (common.Refused tooLarge)
     ∷ verifiedWord verified.MapTaken
     ∷ verifiedWord verified.RefutationTaken
     ∷ []

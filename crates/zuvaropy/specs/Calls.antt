@@ -30,27 +30,27 @@ normalizeBuffer picture result = normalizeResult benchLimits picture result
 -- Verdict with evidence, and its length (buffer 46,595): 1 of the work space and of the result buffer, so many bytes long; first; second; 14 of each;
 -- yes or no.
 unfoldable pub subsumesWord : List ℕ → List ℕ → ℕ → ℕ → ℕ
-subsumesWord first second room space = verdictWord (subsumesAnswer benchLimits first second room space)
+subsumesWord first second work result = verdictWord (subsumesAnswer benchLimits first second work result)
 
 -- the work space, as that of the check if the result buffer, so many bytes long, is long enough, else nothing written
 unfoldable pub subsumesSpace : List ℕ → List ℕ → List ℕ → ℕ → List ℕ
-subsumesSpace first second work room = subsumesWork benchLimits first second work room
+subsumesSpace first second work result = subsumesWork benchLimits first second work result
 
 -- the result buffer: the evidence from its first byte on, or nothing written; the work space is so many bytes long
 unfoldable pub subsumesBuffer : List ℕ → List ℕ → ℕ → List ℕ → List ℕ
-subsumesBuffer first second room result = subsumesResult benchLimits first second room result
+subsumesBuffer first second work result = subsumesResult benchLimits first second work result
 
 -- Common picture and its length (buffer 6,147): 1 of the work space and of the result buffer, so many bytes long; first; second; 14 of each; 15.
 unfoldable pub lcsWord : List ℕ → List ℕ → ℕ → ℕ → ℕ
-lcsWord first second room space = commonWord (lcsAnswer benchLimits first second room space)
+lcsWord first second work result = commonWord (lcsAnswer benchLimits first second work result)
 
 -- the work space, as that of the check if the result buffer, so many bytes long, is long enough, whatever 15 answers; else nothing written
 unfoldable pub lcsSpace : List ℕ → List ℕ → List ℕ → ℕ → List ℕ
-lcsSpace first second work room = lcsWork benchLimits first second work room
+lcsSpace first second work result = lcsWork benchLimits first second work result
 
 -- the result buffer: the common picture from its first byte on, or nothing written; the work space is so many bytes long
 unfoldable pub lcsBuffer : List ℕ → List ℕ → ℕ → List ℕ → List ℕ
-lcsBuffer first second room result = lcsResult benchLimits first second room result
+lcsBuffer first second work result = lcsResult benchLimits first second work result
 
 -- Check evidence: map taken or refutation taken: 1 of the work space, so many bytes long; first; second; 14 of each; 16 to 23.
 unfoldable pub verifyWord : List ℕ → List ℕ → List ℕ → ℕ → ℕ

@@ -29,6 +29,7 @@ use Rattle.lcs.proofs.copy.copy_tree.Reads as copy-tree
 use Rattle.lcs.proofs.copy.copy_tree.Kinds as copy-tree-kinds
 use Rattle.lcs.proofs.copy.+copy_below+copy_tree.Lts-copy_tree as copy-tree-lts
 use Rattle.homomorphism.proofs.label.label_at.Reads as label-at-reads
+use Rattle.lcs.proofs.node.beyond.Reads as beyond-reads
 use Rattle.lcs.proofs.node.push_row.Reads as push-row-reads
 use Rattle.table.proofs.number.wide.Reads as wide-reads
 use Rattle.table.proofs.row.kind.Reads as kind-reads
@@ -58,14 +59,15 @@ abbrev copy-below-claims : ℕ → copy-below-lts.Claims
 copy-below-claims t = (wide-reads.Asked, wide-reads.Learnt, kind-reads.Asked, kind-reads.Learnt, role-reads.Asked, role-reads.Learnt, copy-tree-below t, copy-tree.Post)
 
 abbrev copy-tree-claims : ℕ → copy-tree-lts.Claims
-copy-tree-claims t = (label-at-reads.Asked, label-at-reads.Learnt, push-row-reads.Asked, push-row-reads.Learnt, copy-below-below t, copy-below.Post)
+copy-tree-claims t = (beyond-reads.Asked, beyond-reads.Learnt, label-at-reads.Asked, label-at-reads.Learnt, push-row-reads.Asked, push-row-reads.Learnt, copy-below-below t, copy-below.Post)
 
 abbrev copy-below-Inv-loop : copy-below-lts.InvT-loop
 copy-below-Inv-loop t m links v depth limit out₀ parent grown₀ c₀ out grown c =
     (c < m) × Onward limit parent grown₀ out₀ (successorsOf pictureSignature (treeAt t depth v)) (forestFrom t m (depth - 1) c) grown out
 
 abbrev copy-below-μ-loop : copy-below-lts.MeasureT-loop
-copy-below-μ-loop t m links v depth limit out₀ parent grown₀ c₀ out grown c = pick (eqb c 0) 0 (m + 1 - c)
+copy-below-μ-loop t m links v depth limit out₀ parent grown₀ c₀ out grown c =
+    pick (eqb c 0) 0 (m + 1 - c)
 
 copy-below-returns : (t : ℕ) → copy-below-lts.Need-returns (copy-below-claims t) (copy-below-at t) copy-below.Post copy-below-Inv-loop copy-below-μ-loop
 copy-below-returns t c =
@@ -77,7 +79,6 @@ copy-below-returns t c =
 copy-below-element-copy-out-wide : (t : ℕ) → copy-below-lts.Need-element-copy-out-wide (copy-below-claims t) (copy-below-at t) copy-below.Post copy-below-Inv-loop copy-below-μ-loop
 copy-below-element-copy-out-wide t c =
     let st = c .before .before .before in
-    let a = st .args in
     let pre = st .pre .1 in
     omega (arith, pre .1 .0, pre .0 .checked .most)
 
@@ -99,7 +100,6 @@ copy-below-kind-requires t c κs =
     let a = st .args in
     let pre = st .pre .1 in
     let l = c .before .loop in
-    let z = c .loop-test .taken in
     checked-has (now (a .t)) (a .m) (l .c) (pre .0 .checked) (l .inv .0)
 
 copy-below-role-requires : (t : ℕ) → copy-below-lts.Need-role-requires (copy-below-claims t) (copy-below-at t) copy-below.Post copy-below-Inv-loop copy-below-μ-loop
@@ -108,14 +108,10 @@ copy-below-role-requires t c κs =
     let a = st .args in
     let pre = st .pre .1 in
     let l = c .before .before .loop in
-    let z = c .before .loop-test .taken in
     checked-has (now (a .t)) (a .m) (l .c) (pre .0 .checked) (l .inv .0)
 
 copy-below-sub-copy-tree : (t : ℕ) → copy-below-lts.Need-sub-copy-tree (copy-below-claims t) (copy-below-at t) copy-below.Post copy-below-Inv-loop copy-below-μ-loop
 copy-below-sub-copy-tree t c =
-    let st = c .before .before .before .before .before .before .before .before .before in
-    let a = st .args in
-    let pre = st .pre .1 in
     omega (arith, c .before .before .before .before .before .before .if1 .left)
 
 copy-below-copy-tree-requires : (t : ℕ) → copy-below-lts.Need-copy-tree-requires (copy-below-claims t) (copy-below-at t) copy-below.Post copy-below-Inv-loop copy-below-μ-loop
@@ -133,11 +129,7 @@ copy-below-copy-tree-requires t c κs =
 
 copy-below-same-length : (t : ℕ) → copy-below-lts.Need-same-length (copy-below-claims t) (copy-below-at t) copy-below.Post copy-below-Inv-loop copy-below-μ-loop
 copy-below-same-length t c =
-    let st = c .before .before .before .before .before .before .before .before .before .before .before .before .before .before .before in
-    let a = st .args in
-    let pre = st .pre .1 in
     let l = c .before .before .before .before .before .before .before .before .before .loop in
-    let z = c .before .before .before .before .before .before .before .before .loop-test .taken in
     c .before .before .before .before .copy-tree .ensures .same ∙ l .inv .1 .same
 
 copy-below-returns-2 : (t : ℕ) → copy-below-lts.Need-returns-2 (copy-below-claims t) (copy-below-at t) copy-below.Post copy-below-Inv-loop copy-below-μ-loop
@@ -159,19 +151,15 @@ copy-below-returns-2 t c =
 copy-below-add-wide : (t : ℕ) → copy-below-lts.Need-add-wide (copy-below-claims t) (copy-below-at t) copy-below.Post copy-below-Inv-loop copy-below-μ-loop
 copy-below-add-wide t c =
     let st = c .before .before .before .before .before .before .before .before .before .before .before .before .before .before .before in
-    let a = st .args in
     let pre = st .pre .1 in
     let l = c .before .before .before .before .before .before .before .before .before .loop in
-    let z = c .before .before .before .before .before .before .before .before .loop-test .taken in
     omega (arith, l .inv .0, pre .0 .checked .most)
 
 copy-below-element-copy-out-wide-2 : (t : ℕ) → copy-below-lts.Need-element-copy-out-wide-2 (copy-below-claims t) (copy-below-at t) copy-below.Post copy-below-Inv-loop copy-below-μ-loop
 copy-below-element-copy-out-wide-2 t c =
     let st = c .before .before .before .before .before .before .before .before .before .before .before .before .before .before .before in
-    let a = st .args in
     let pre = st .pre .1 in
     let l = c .before .before .before .before .before .before .before .before .before .loop in
-    let z = c .before .before .before .before .before .before .before .before .loop-test .taken in
     omega (arith, l .inv .0, pre .0 .checked .most)
 
 copy-below-wide-requires-2 : (t : ℕ) → copy-below-lts.Need-wide-requires-2 (copy-below-claims t) (copy-below-at t) copy-below.Post copy-below-Inv-loop copy-below-μ-loop
@@ -198,12 +186,10 @@ copy-below-loop-again t c =
     let copy = c .before .before .before .before .before .before .copy-tree in
     let next = c .wide2 .result in
     let parts = rows-parts (now (a .t)) (now (a .links)) (a .m) (a .depth - 1) (l .c) (pre .0) z (l .inv .0) (kind .result) (role .result) next (kind .ensures) (role .ensures) (c .wide2 .ensures .0) in
-    let below : next < a .m = omega (arith, c .wide2 .ensures .0, next-below (now (a .t)) (now (a .links)) (a .m) (pre .0) (l .c) z (l .inv .0)) in (
-      below,
-      onward-next (a .limit) (a .parent) (a .table) (now (a .out)) (successorsOf pictureSignature (treeAt (now (a .t)) (a .depth) (a .v))) (forestFrom (now (a .t)) (a .m) (a .depth - 1) (l .c))
-          (cons (kindAt (kind .result)) (role .result) (treeAt (now (a .t)) (a .depth - 1) (l .c)) nil) (forestFrom (now (a .t)) (a .m) (a .depth - 1) next) parts
-          (l .grown) (copy .result) (l .out) (copy .last .1 .1 .1 .1 .1 .1 .0) (l .inv .1) (copy .ensures) (c .before .before .if2 .left),
-    )
+    let below : next < a .m = omega (arith, c .wide2 .ensures .0, next-below (now (a .t)) (now (a .links)) (a .m) (pre .0) (l .c) z (l .inv .0)) in
+    (below, onward-next (a .limit) (a .parent) (a .table) (now (a .out)) (successorsOf pictureSignature (treeAt (now (a .t)) (a .depth) (a .v))) (forestFrom (now (a .t)) (a .m) (a .depth - 1) (l .c))
+    (cons (kindAt (kind .result)) (role .result) (treeAt (now (a .t)) (a .depth - 1) (l .c)) nil) (forestFrom (now (a .t)) (a .m) (a .depth - 1) next) parts
+    (l .grown) (copy .result) (l .out) (copy .last .1 .1 .1 .1 .1 .1 .0) (l .inv .1) (copy .ensures) (c .before .before .if2 .left))
 
 copy-below-same-length-2 : (t : ℕ) → copy-below-lts.Need-same-length-2 (copy-below-claims t) (copy-below-at t) copy-below.Post copy-below-Inv-loop copy-below-μ-loop
 copy-below-same-length-2 t c = c .before .loop .inv .1 .same
@@ -216,19 +202,17 @@ copy-below-returns-3 t c =
     let l = c .before .loop in
     copy-end (now (a .t)) (now (a .links)) (a .m) (a .v) (a .depth) (a .limit) (a .parent) (pre .0) (a .table) (now (a .out)) (l .c) (l .grown) (l .out) (c .loop-test .left) (l .inv .1)
 
-copy-tree-add-t13 : (t : ℕ) → copy-tree-lts.Need-add-t13 (copy-tree-claims t) (copy-tree-at t) copy-tree.Post
-copy-tree-add-t13 t c =
+copy-tree-beyond-requires : (t : ℕ) → copy-tree-lts.Need-beyond-requires (copy-tree-claims t) (copy-tree-at t) copy-tree.Post
+copy-tree-beyond-requires t c κs =
     let st = c .before .before .before in
-    let a = st .args in
     let pre = st .pre .1 in
-    omega (arith, pre .1 .1 .0 .limit-most)
+    pre .1 .1 .0 .limit-most
 
 copy-tree-returns : (t : ℕ) → copy-tree-lts.Need-returns (copy-tree-claims t) (copy-tree-at t) copy-tree.Post
 copy-tree-returns t c =
-    let st = c .before .before .before in
+    let st = c .before .before .before .before in
     let a = st .args in
-    let pre = st .pre .1 in
-    copy-over (now (a .t)) (a .depth) (a .v) (a .limit) (a .table) (now (a .out)) (a .edge) _ (c .if1 .taken) refl
+    copy-over (now (a .t)) (a .depth) (a .v) (a .limit) (a .table) (now (a .out)) (a .edge) (c .beyond .result) (c .before .if1 .taken) (c .beyond .ensures)
 
 copy-tree-label-at-requires : (t : ℕ) → copy-tree-lts.Need-label-at-requires (copy-tree-claims t) (copy-tree-at t) copy-tree.Post
 copy-tree-label-at-requires t c κs =
@@ -240,7 +224,6 @@ copy-tree-label-at-requires t c κs =
 copy-tree-push-row-requires : (t : ℕ) → copy-tree-lts.Need-push-row-requires (copy-tree-claims t) (copy-tree-at t) copy-tree.Post
 copy-tree-push-row-requires t c κs =
     let st = c .before .before .before .before .before in
-    let a = st .args in
     let pre = st .pre .1 in
     (pre .1 .1 .0, c .before .before .if1 .left)
 
@@ -314,7 +297,7 @@ pub +copy-below+copy-tree-spec : {M : Type 1} → statement M
     λ t. copy-tree-lts.spec (copy-tree-claims t)
     (copy-tree-at t)
     copy-tree.Post
-    (copy-tree-add-t13 t)
+    (copy-tree-beyond-requires t)
     (copy-tree-returns t)
     (copy-tree-label-at-requires t)
     (copy-tree-push-row-requires t)

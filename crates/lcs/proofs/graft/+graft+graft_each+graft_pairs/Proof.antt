@@ -41,6 +41,7 @@ use Rattle.homomorphism.proofs.label.label_at.Reads as label-at-reads
 use Rattle.lcs.proofs.copy.copy_tree.Reads as copy-tree-reads
 use Rattle.lcs.proofs.edge.edge_key.Reads as edge-key-reads
 use Rattle.lcs.proofs.edge.seek.Reads as seek-reads
+use Rattle.lcs.proofs.node.beyond.Reads as beyond-reads
 use Rattle.lcs.proofs.node.common_label.Reads as common-label-reads
 use Rattle.lcs.proofs.node.enter.Reads as enter-reads
 use Rattle.lcs.proofs.node.is_kept.Reads as is-kept-reads
@@ -79,7 +80,7 @@ abbrev graft-pairs-below : ℕ → In 5 graft-pairs-kinds.ps
 graft-pairs-below t = and 5 graft-pairs-kinds.ps (falls 5 graft-pairs-kinds.ps _<_ μ-graft-pairs t) graft-pairs.Pre
 
 abbrev graft-claims : ℕ → graft-lts.Claims
-graft-claims t = (label-at-reads.Asked, label-at-reads.Learnt, copy-tree-reads.Asked, copy-tree-reads.Learnt, common-label-reads.Asked, common-label-reads.Learnt, is-kept-reads.Asked, is-kept-reads.Learnt, enter-reads.Asked, enter-reads.Learnt, graft-pairs-below t, graft-pairs.Post, leave-reads.Asked, leave-reads.Learnt)
+graft-claims t = (label-at-reads.Asked, label-at-reads.Learnt, copy-tree-reads.Asked, copy-tree-reads.Learnt, common-label-reads.Asked, common-label-reads.Learnt, is-kept-reads.Asked, is-kept-reads.Learnt, beyond-reads.Asked, beyond-reads.Learnt, enter-reads.Asked, enter-reads.Learnt, graft-pairs-below t, graft-pairs.Post, leave-reads.Asked, leave-reads.Learnt)
 
 abbrev graft-each-claims : ℕ → graft-each-lts.Claims
 graft-each-claims t = (kind-reads.Asked, kind-reads.Learnt, role-reads.Asked, role-reads.Learnt, edge-key-reads.Asked, edge-key-reads.Learnt, graft-below t, graft.Post, wide-reads.Asked, wide-reads.Learnt)
@@ -120,7 +121,6 @@ graft-label-at-requires-2 t c κs =
 graft-copy-tree-requires : (t : ℕ) → graft-lts.Need-copy-tree-requires (graft-claims t) (graft-at t) graft.Post
 graft-copy-tree-requires t c κs =
     let st = c .before .before .before .before .before .before .before .before in
-    let a = st .args in
     let pre = st .pre .1 in
     (pre .1 .0, (pre .1 .1 .0 .1, pre .1 .1 .1 .1))
 
@@ -133,7 +133,6 @@ graft-returns t c =
     let a = st .args in
     let pre = st .pre .1 in
     let one = c .before .before .before .before .before .before .before .label-at in
-    let two = c .before .before .before .before .before .before .label-at2 in
     let copy = c .before .before .copy-tree in
     let marked = sym (one .ensures .bottom-is) ∙ eq-eqb (one .result .bottom) 1 (c .before .before .before .before .if1 .taken) in
     grown-same (a .limit) (a .edge .parent) (a .table) (copy .result) (now (a .out)) (copy .last .1 .1 .1 .1 .1 .1 .0) _ _
@@ -142,7 +141,6 @@ graft-returns t c =
 graft-copy-tree-requires-2 : (t : ℕ) → graft-lts.Need-copy-tree-requires-2 (graft-claims t) (graft-at t) graft.Post
 graft-copy-tree-requires-2 t c κs =
     let st = c .before .before .before .before .before .before .before .before .before .before in
-    let a = st .args in
     let pre = st .pre .1 in
     (pre .0, (pre .1 .1 .0 .0, pre .1 .1 .1 .1))
 
@@ -168,29 +166,27 @@ graft-common-label-requires t c κs = search needs
 graft-is-kept-requires : (t : ℕ) → graft-lts.Need-is-kept-requires (graft-claims t) (graft-at t) graft.Post
 graft-is-kept-requires t c κs = search needs
 
-graft-add-t26 : (t : ℕ) → graft-lts.Need-add-t26 (graft-claims t) (graft-at t) graft.Post
-graft-add-t26 t c =
+graft-beyond-requires : (t : ℕ) → graft-lts.Need-beyond-requires (graft-claims t) (graft-at t) graft.Post
+graft-beyond-requires t c κs =
     let st = c .before .before .before .before .before .before .before .before .before .before .before .before .before in
-    let a = st .args in
     let pre = st .pre .1 in
-    omega (arith, pre .1 .1 .1 .1 .0 .limit-most)
+    pre .1 .1 .1 .1 .0 .limit-most
 
 graft-returns-3 : (t : ℕ) → graft-lts.Need-returns-3 (graft-claims t) (graft-at t) graft.Post
 graft-returns-3 t c =
-    let st = c .before .before .before .before .before .before .before .before .before .before .before .before .before in
+    let st = c .before .before .before .before .before .before .before .before .before .before .before .before .before .before in
     let a = st .args in
     let pre = st .pre .1 in
-    let one = c .before .before .before .before .before .before .before .before .before .label-at in
-    let two = c .before .before .before .before .before .before .before .before .label-at2 in
-    let label = c .before .before .before .common-label in
-    let possible = ne-eqb (one .result .bottom) 1 (c .before .before .before .before .before .before .if1 .left) in
-    let other = ne-eqb (two .result .bottom) 1 (c .before .before .before .before .if2 .left) in
-    graft-full (now (a .first)) (now (a .second)) (a .depth) (a .u) (a .w) (a .limit) (a .table) (now (a .out)) (a .edge) (pre .1 .1 .1 .1 .0) (pre .1 .1 .1 .1 .1) (one .result) (two .result) (label .result) (one .ensures) (two .ensures) possible other (label .ensures .0) (label .ensures .1 .0) (label .ensures .1 .1) _ (c .before .before .if3 .taken) (sym (c .before .is-kept .ensures) ∙ c .if4 .taken) refl
+    let one = c .before .before .before .before .before .before .before .before .before .before .label-at in
+    let two = c .before .before .before .before .before .before .before .before .before .label-at2 in
+    let label = c .before .before .before .before .common-label in
+    let possible = ne-eqb (one .result .bottom) 1 (c .before .before .before .before .before .before .before .if1 .left) in
+    let other = ne-eqb (two .result .bottom) 1 (c .before .before .before .before .before .if2 .left) in
+    graft-full (now (a .first)) (now (a .second)) (a .depth) (a .u) (a .w) (a .limit) (a .table) (now (a .out)) (a .edge) (pre .1 .1 .1 .1 .0) (pre .1 .1 .1 .1 .1) (one .result) (two .result) (label .result) (one .ensures) (two .ensures) possible other (label .ensures .0) (label .ensures .1 .0) (label .ensures .1 .1) (c .beyond .result) (c .before .before .before .if3 .taken) (sym (c .before .before .is-kept .ensures) ∙ c .before .if4 .taken) (c .beyond .ensures)
 
 graft-enter-requires : (t : ℕ) → graft-lts.Need-enter-requires (graft-claims t) (graft-at t) graft.Post
 graft-enter-requires t c κs =
     let st = c .before .before .before .before .before .before .before .before .before .before .before .before in
-    let a = st .args in
     let pre = st .pre .1 in
     pre .1 .1 .1 .1 .0
 
@@ -202,8 +198,6 @@ graft-graft-pairs-requires t c κs =
     let one = c .before .before .before .before .before .before .before .before .before .before .before .before .label-at in
     let two = c .before .before .before .before .before .before .before .before .before .before .before .label-at2 in
     let label = c .before .before .before .before .before .before .common-label in
-    let possible = ne-eqb (one .result .bottom) 1 (c .before .before .before .before .before .before .before .before .before .if1 .left) in
-    let other = ne-eqb (two .result .bottom) 1 (c .before .before .before .before .before .before .before .if2 .left) in
     let room-or : (a .limit ≤ a .table .rows → stays (a .edge) (label .result) ≡ false) = (λ full. ⊎-elim {C = stays (a .edge) (label .result) ≡ false} (λ w. sym (w .1 .ensures) ∙ w .2 .left) (λ w. absurd (omega (arith, w .left))) (c .before .before .before .before .before .if3 .came)) in
     let enter = c .before .before .before .enter in
     let room = entered-room (a .limit) (a .table) (now (a .out)) (a .edge) (label .result) (labelIntersection pictureSignature ((pictureTable (now (a .first))) .label (a .u)) ((pictureTable (now (a .second))) .label (a .w)))
@@ -215,7 +209,6 @@ graft-graft-pairs-requires t c κs =
 graft-leave-requires : (t : ℕ) → graft-lts.Need-leave-requires (graft-claims t) (graft-at t) graft.Post
 graft-leave-requires t c κs =
     let st = c .before .before .before .before .before .before .before .before .before .before .before .before .before .before .before .before .before .before .before in
-    let a = st .args in
     let pre = st .pre .1 in
     (pre .1 .1 .1 .1 .0 .within, pre .1 .1 .1 .1 .0 .limit-most)
 
@@ -227,8 +220,6 @@ graft-same-length-3 t c =
     let one = c .before .before .before .before .before .before .before .before .before .before .before .before .before .before .before .before .label-at in
     let two = c .before .before .before .before .before .before .before .before .before .before .before .before .before .before .before .label-at2 in
     let label = c .before .before .before .before .before .before .before .before .before .before .common-label in
-    let possible = ne-eqb (one .result .bottom) 1 (c .before .before .before .before .before .before .before .before .before .before .before .before .before .if1 .left) in
-    let other = ne-eqb (two .result .bottom) 1 (c .before .before .before .before .before .before .before .before .before .before .before .if2 .left) in
     let enter = c .before .before .before .before .before .before .before .enter in
     c .before .before .before .graft-pairs .ensures .same
     ∙ entered-length (a .limit) (a .table) (now (a .out)) (a .edge) (label .result) (labelIntersection pictureSignature ((pictureTable (now (a .first))) .label (a .u)) ((pictureTable (now (a .second))) .label (a .w)))
@@ -278,17 +269,12 @@ graft-each-edge-key-requires t c κs =
     let pre = st .pre .1 in
     let l = c .before .loop in
     let inv = l .inv in
-    let z = c .loop-test .taken in
     checked-has (now (a .second)) (a .m) (l .v) (pre .1 .0 .checked) (inv .below)
 
 graft-each-same-length : (t : ℕ) → graft-each-lts.Need-same-length (graft-each-claims t) (graft-each-at t) graft-each.Post graft-each-Inv-loop graft-each-μ-loop
 graft-each-same-length t c =
-    let st = c .before .before .before .before .before .before .before .before .before in
-    let a = st .args in
-    let pre = st .pre .1 in
     let l = c .before .before .before .loop in
     let inv = l .inv in
-    let z = c .before .before .loop-test .taken in
     inv .onward .same
 
 graft-each-returns : (t : ℕ) → graft-each-lts.Need-returns (graft-each-claims t) (graft-each-at t) graft-each.Post graft-each-Inv-loop graft-each-μ-loop
@@ -311,7 +297,6 @@ graft-each-graft-requires t c κs =
     let inv = l .inv in
     let z = c .before .before .before .loop-test .taken in
     let kind = c .before .before .before .before .before .before .kind in
-    let role = c .before .before .before .before .before .role in
     let key = c .before .before .edge-key in
     let same = sym (key .ensures) ∙ c .before .if1 .left ∙ pre .1 .1 .1 .0 .0 in
     let one = subst (λ k. Kept (kindAt k) (treeAt (now (a .first)) (a .depth) (a .c))) (sym (kind .ensures)) (pre .1 .1 .1 .0 .1 .first-kept) in
@@ -322,12 +307,8 @@ graft-each-graft-requires t c κs =
 
 graft-each-same-length-2 : (t : ℕ) → graft-each-lts.Need-same-length-2 (graft-each-claims t) (graft-each-at t) graft-each.Post graft-each-Inv-loop graft-each-μ-loop
 graft-each-same-length-2 t c =
-    let st = c .before .before .before .before .before .before .before .before .before .before .before .before .before .before .before in
-    let a = st .args in
-    let pre = st .pre .1 in
     let l = c .before .before .before .before .before .before .before .before .before .loop in
     let inv = l .inv in
-    let z = c .before .before .before .before .before .before .before .before .loop-test .taken in
     c .before .before .before .before .graft .ensures .same ∙ inv .onward .same
 
 graft-each-returns-2 : (t : ℕ) → graft-each-lts.Need-returns-2 (graft-each-claims t) (graft-each-at t) graft-each.Post graft-each-Inv-loop graft-each-μ-loop
@@ -348,21 +329,17 @@ graft-each-returns-2 t c =
 graft-each-add-wide : (t : ℕ) → graft-each-lts.Need-add-wide (graft-each-claims t) (graft-each-at t) graft-each.Post graft-each-Inv-loop graft-each-μ-loop
 graft-each-add-wide t c =
     let st = c .before .before .before .before .before .before .before .before .before .before .before .before .before .before .before in
-    let a = st .args in
     let pre = st .pre .1 in
     let l = c .before .before .before .before .before .before .before .before .before .loop in
     let inv = l .inv in
-    let z = c .before .before .before .before .before .before .before .before .loop-test .taken in
     omega (arith, inv .below, pre .1 .0 .checked .most)
 
 graft-each-element-copy-out-wide : (t : ℕ) → graft-each-lts.Need-element-copy-out-wide (graft-each-claims t) (graft-each-at t) graft-each.Post graft-each-Inv-loop graft-each-μ-loop
 graft-each-element-copy-out-wide t c =
     let st = c .before .before .before .before .before .before .before .before .before .before .before .before .before .before .before in
-    let a = st .args in
     let pre = st .pre .1 in
     let l = c .before .before .before .before .before .before .before .before .before .loop in
     let inv = l .inv in
-    let z = c .before .before .before .before .before .before .before .before .loop-test .taken in
     omega (arith, inv .below, pre .1 .0 .checked .most)
 
 graft-each-wide-requires : (t : ℕ) → graft-each-lts.Need-wide-requires (graft-each-claims t) (graft-each-at t) graft-each.Post graft-each-Inv-loop graft-each-μ-loop
@@ -416,7 +393,6 @@ graft-pairs-returns t c =
 graft-pairs-element-copy-out-wide : (t : ℕ) → graft-pairs-lts.Need-element-copy-out-wide (graft-pairs-claims t) (graft-pairs-at t) graft-pairs.Post graft-pairs-Inv-loop graft-pairs-μ-loop
 graft-pairs-element-copy-out-wide t c =
     let st = c .before .before .before .before in
-    let a = st .args in
     let pre = st .pre .1 in
     omega (arith, pre .1 .1 .0 .0, pre .0 .checked .most)
 
@@ -426,7 +402,6 @@ graft-pairs-wide-requires t c κs = search needs
 graft-pairs-element-copy-out-wide-2 : (t : ℕ) → graft-pairs-lts.Need-element-copy-out-wide-2 (graft-pairs-claims t) (graft-pairs-at t) graft-pairs.Post graft-pairs-Inv-loop graft-pairs-μ-loop
 graft-pairs-element-copy-out-wide-2 t c =
     let st = c .before .before .before .before .before .before in
-    let a = st .args in
     let pre = st .pre .1 in
     omega (arith, pre .1 .1 .0 .1, pre .1 .0 .checked .most)
 
@@ -451,23 +426,17 @@ graft-pairs-edge-key-requires t c κs =
     let a = st .args in
     let pre = st .pre .1 in
     let l = c .before .loop in
-    let z = c .loop-test .taken in
     checked-has (now (a .first)) (a .n) (l .c) (pre .0 .checked) (l .inv .first-below)
 
 graft-pairs-seek-requires : (t : ℕ) → graft-pairs-lts.Need-seek-requires (graft-pairs-claims t) (graft-pairs-at t) graft-pairs.Post graft-pairs-Inv-loop graft-pairs-μ-loop
 graft-pairs-seek-requires t c κs =
     let st = c .before .before .before .before .before .before .before .before .before .before .before in
-    let a = st .args in
     let pre = st .pre .1 in
     let l = c .before .before .loop in
-    let z = c .before .loop-test .taken in
     (pre .1 .0, l .inv .second-below)
 
 graft-pairs-sub-graft-each : (t : ℕ) → graft-pairs-lts.Need-sub-graft-each (graft-pairs-claims t) (graft-pairs-at t) graft-pairs.Post graft-pairs-Inv-loop graft-pairs-μ-loop
 graft-pairs-sub-graft-each t c =
-    let st = c .before .before .before .before .before .before .before .before .before .before .before .before in
-    let a = st .args in
-    let pre = st .pre .1 in
     omega (arith, c .before .before .before .before .before .before .before .before .if1 .left)
 
 graft-pairs-graft-each-requires : (t : ℕ) → graft-pairs-lts.Need-graft-each-requires (graft-pairs-claims t) (graft-pairs-at t) graft-pairs.Post graft-pairs-Inv-loop graft-pairs-μ-loop
@@ -485,11 +454,7 @@ graft-pairs-graft-each-requires t c κs =
 
 graft-pairs-same-length : (t : ℕ) → graft-pairs-lts.Need-same-length (graft-pairs-claims t) (graft-pairs-at t) graft-pairs.Post graft-pairs-Inv-loop graft-pairs-μ-loop
 graft-pairs-same-length t c =
-    let st = c .before .before .before .before .before .before .before .before .before .before .before .before .before .before .before .before .before .before in
-    let a = st .args in
-    let pre = st .pre .1 in
     let l = c .before .before .before .before .before .before .before .before .before .loop in
-    let z = c .before .before .before .before .before .before .before .before .loop-test .taken in
     c .before .before .before .before .graft-each .ensures .same ∙ l .inv .onward .same
 
 graft-pairs-returns-2 : (t : ℕ) → graft-pairs-lts.Need-returns-2 (graft-pairs-claims t) (graft-pairs-at t) graft-pairs.Post graft-pairs-Inv-loop graft-pairs-μ-loop
@@ -507,19 +472,15 @@ graft-pairs-returns-2 t c =
 graft-pairs-add-wide : (t : ℕ) → graft-pairs-lts.Need-add-wide (graft-pairs-claims t) (graft-pairs-at t) graft-pairs.Post graft-pairs-Inv-loop graft-pairs-μ-loop
 graft-pairs-add-wide t c =
     let st = c .before .before .before .before .before .before .before .before .before .before .before .before .before .before .before .before .before .before in
-    let a = st .args in
     let pre = st .pre .1 in
     let l = c .before .before .before .before .before .before .before .before .before .loop in
-    let z = c .before .before .before .before .before .before .before .before .loop-test .taken in
     omega (arith, l .inv .first-below, pre .0 .checked .most)
 
 graft-pairs-element-copy-out-wide-3 : (t : ℕ) → graft-pairs-lts.Need-element-copy-out-wide-3 (graft-pairs-claims t) (graft-pairs-at t) graft-pairs.Post graft-pairs-Inv-loop graft-pairs-μ-loop
 graft-pairs-element-copy-out-wide-3 t c =
     let st = c .before .before .before .before .before .before .before .before .before .before .before .before .before .before .before .before .before .before in
-    let a = st .args in
     let pre = st .pre .1 in
     let l = c .before .before .before .before .before .before .before .before .before .loop in
-    let z = c .before .before .before .before .before .before .before .before .loop-test .taken in
     omega (arith, l .inv .first-below, pre .0 .checked .most)
 
 graft-pairs-wide-requires-3 : (t : ℕ) → graft-pairs-lts.Need-wide-requires-3 (graft-pairs-claims t) (graft-pairs-at t) graft-pairs.Post graft-pairs-Inv-loop graft-pairs-μ-loop
@@ -573,7 +534,7 @@ pub +graft+graft-each+graft-pairs-spec : {M : Type 1} → statement M
     (graft-returns-2 t)
     (graft-common-label-requires t)
     (graft-is-kept-requires t)
-    (graft-add-t26 t)
+    (graft-beyond-requires t)
     (graft-returns-3 t)
     (graft-enter-requires t)
     (graft-graft-pairs-requires t)

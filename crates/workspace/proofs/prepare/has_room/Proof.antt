@@ -1,16 +1,14 @@
 -- Two tests on lengths.
 use Prim.Native.Nat.{_+_, _<_, _≤_}
 use borrow.Author.Tests.{lt-leb}
-use lib.Dec.{leb}
 use mathlib.Core.Logic.{inl}
-use mathlib.Core.Path.{_∙_, ap, sym}
+use mathlib.Core.Path.{_∙_, sym}
 use native.Mathlib.Omega.{arith}
-use Rattle.table.specs.Bounds.{pictureSize}
 use Rattle.workspace.proofs.Lendings.{room-long, room-no}
 use Rattle.workspace.specs.Prepare.{workSize}
 use borrow.Author.Needs.{needs}
-use Rattle.lcs.proofs.lcs.has_room.Statement.{statement}
-use Rattle.lcs.proofs.lcs.has_room.Tie as tie
+use Rattle.workspace.proofs.prepare.has_room.Statement.{statement}
+use Rattle.workspace.proofs.prepare.has_room.Tie as tie
 
 half-size-requires : tie.Need-half-size-requires
 half-size-requires c κs = search needs
@@ -23,14 +21,14 @@ returns c =
     let a = c .before .before .args in
     let half = c .before .half-size in
     let enough : workSize (a .limits) ≤ a .work = omega (arith, c .if1 .taken, half .ensures) in
-    ap (λ n. leb n (a .result)) (half .ensures) ∙ sym (room-long (a .limits) (pictureSize (a .limits)) (a .work) (a .result) enough)
+    sym (room-long (a .limits) (a .size) (a .work) (a .result) enough)
 
 returns-2 : tie.Need-returns-2
 returns-2 c =
     let a = c .before .before .args in
     let half = c .before .half-size in
     let short : a .work < half .result + half .result = omega (arith, c .if1 .left) in
-    lt-leb (half .result + half .result) (a .work) short ∙ sym (room-no (a .limits) (pictureSize (a .limits)) (a .work) (a .result) (inl (omega (arith, short, half .ensures))))
+    lt-leb (half .result + half .result) (a .work) short ∙ sym (room-no (a .limits) (a .size) (a .work) (a .result) (inl (omega (arith, short, half .ensures))))
 
 pub has-room-spec : {M : Type 1} → statement M
 has-room-spec = tie.close (tie.spec half-size-requires add-if1 returns returns-2)
