@@ -5,6 +5,7 @@
 --   Any-byRole                                        true of some successor of one role: of one of the whole
 --   All-consReduced                                   true of a successor and of every later one
 --   Any-consReduced, Any-consReduced-later            true of a successor that is not dropped, or of a later one
+--   reduced-append, reduced-byRole                    reduced forests put together are reduced
 --   reduced-consReduced                               a forest stays reduced
 --   trivial-fits                                      everything fits a trivial tree
 --   fits-consReduced, consReduced-fits                so dropping a trivial all-successor keeps the meaning
@@ -84,6 +85,14 @@ module _ (S : Signature) where
   pub Any-consReduced-later : (P : Kind → ℕ → Tree S → Type 0) (k : Kind) (r : ℕ) (t : Tree S) (f : Forest S) → Any S P f →
       Any S P (consReduced S k r t f)
   Any-consReduced-later P k r t f p = chosen (λ g. Any S P g) (dropped S k t) f (cons k r t f) (λ b. p) (λ b. inr p)
+
+  pub reduced-append : (f g : Forest S) → ReducedAll S f → ReducedAll S g → ReducedAll S (append S f g)
+  reduced-append nil g a b = b
+  reduced-append (cons k r t f) g a b = (a .0, a .1, reduced-append f g (a .2) b)
+
+  pub reduced-byRole : (h : ℕ → Forest S) → ((r : ℕ) → ReducedAll S (h r)) → (n : ℕ) → ReducedAll S (byRole S h n)
+  reduced-byRole h a zero = tt
+  reduced-byRole h a (suc n) = reduced-append (byRole S h n) (h n) (reduced-byRole h a n) (a n)
 
   pub reduced-consReduced : (k : Kind) (r : ℕ) (t : Tree S) (f : Forest S) → Reduced S t → ReducedAll S f → ReducedAll S (consReduced S k r t f)
   reduced-consReduced k r t f p q = chosen (λ g. ReducedAll S g) (dropped S k t) f (cons k r t f) (λ b. q) (λ b. (b, p, q))

@@ -55,6 +55,7 @@ pub mod RowMaps
 pub mod Pairs
 pub mod Products
 pub mod ProductOrderings
+pub mod ProductReductions
 pub mod PairWalks
 pub mod Leastness
 -- computed cases, by definition

@@ -1,6 +1,7 @@
 -- The successors of a product node one by one: each successor of the first node in turn, with each of the second's by the same kind and role.
 -- A product takes roles in turn; ordered successors stand by role, all before some, so where a role includes only itself both ways give the same.
 --   edgeKey                       the place of an edge in the order of successors
+--   key-kind                      edges in the same place are of one kind
 --   pairWalk                      each successor of the first in turn
 --   KeysFrom, keys-lower          no successor stands before place n; nor then before a lower one
 --   ordered-keys                  the places of ordered successors rise
@@ -26,7 +27,7 @@ use Rattle.ale.specs.Tree.{All, Forest, Kind, RolesKnownAll, Tree, cons,
 use Rattle.ale.proofs.Appends.{byRole-first, byRole-same, consReduced-append, forest-assoc}
 use Rattle.ale.proofs.Pairs.{pairForest, pairRole}
 use Rattle.ale.proofs.Tests.{and-intro, and-left, and-right, refute}
-use Rattle.ale.proofs.Trees.{All-map, sameKind-eq}
+use Rattle.ale.proofs.Trees.{All-map, sameKind-eq, sameKind-refl}
 
 -- by role, all before some
 abbrev pub edgeKey : Kind → ℕ → ℕ
@@ -40,11 +41,11 @@ key-range exists r = (omega arith, omega arith)
 key-role : (k : Kind) (r : ℕ) (k′ : Kind) (r′ : ℕ) → edgeKey k r ≡ edgeKey k′ r′ → r ≡ r′
 key-role k r k′ r′ e = omega (arith, key-range k r, key-range k′ r′)
 
-key-kind : (k : Kind) (r : ℕ) (k′ : Kind) (r′ : ℕ) → edgeKey k r ≡ edgeKey k′ r′ → T (sameKind k k′)
-key-kind forAll r forAll r′ e = tt
+pub key-kind : (k : Kind) (r : ℕ) (k′ : Kind) (r′ : ℕ) → edgeKey k r ≡ edgeKey k′ r′ → k ≡ k′
+key-kind forAll r forAll r′ e = refl
 key-kind forAll r exists r′ e = absurd (omega arith)
 key-kind exists r forAll r′ e = absurd (omega arith)
-key-kind exists r exists r′ e = tt
+key-kind exists r exists r′ e = refl
 
 module _ (S : Signature) where
   abbrev pub pairWalk : Forest S → Forest S → Forest S
@@ -70,7 +71,8 @@ module _ (S : Signature) (equal : (k : Kind) (r s : ℕ) → roleServes S k r s 
   pub counts-same : (k : Kind) (r : ℕ) (k′ : Kind) (r′ : ℕ) → edgeKey k r ≡ edgeKey k′ r′ → edgeCounts S k r k′ r′ ≡ true
   counts-same k r k′ r′ e =
       let serves = subst (λ z. T (roleServes S k r′ z)) (sym (key-role k r k′ r′ e)) (subst T (sym (equal k r′ r′)) (eqb-refl r′)) in
-      is-true (edgeCounts S k r k′ r′) (and-intro (sameKind k k′) (roleServes S k r′ r) (key-kind k r k′ r′ e) serves)
+      let same = subst (λ j. T (sameKind k j)) (key-kind k r k′ r′ e) (sameKind-refl k) in
+      is-true (edgeCounts S k r k′ r′) (and-intro (sameKind k k′) (roleServes S k r′ r) same serves)
 
   counted-key : (k : Kind) (r : ℕ) (k′ : Kind) (r′ : ℕ) → T (edgeCounts S k r k′ r′) → edgeKey k r ≡ edgeKey k′ r′
   counted-key k r k′ r′ t =

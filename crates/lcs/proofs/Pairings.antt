@@ -1,6 +1,5 @@
 -- The pairs of successors of two rows, found in one pass along both: the second's stand still where the first's go on, and go on where they stand before
 -- them, so no pair is missed.
---   key-kind                            edges in the same place are of one kind
 --   PairsAt                             the pass is at row c of the first and row e of the second, and the pairs from there on are left
 --   pairs-start                         before the first turn
 --   pairs-sought, pairs-paired          at the first row of the second that does not stand before row c; what may be asked of it then
@@ -16,12 +15,12 @@ use native.Mathlib.Omega.{arith}
 use Rattle.table.specs.Bounds.{maxRows}
 use Rattle.table.specs.Fields.{kindOf, roleOf}
 use Rattle.table.specs.declared.builder.Builder.{Builder}
-use Rattle.ale.proofs.PairWalks.{KeysFrom, each-on, each-past, edgeKey, keys-lower, ordered-keys, pairForest-walk, pairWalk, picture-equal}
+use Rattle.ale.proofs.PairWalks.{KeysFrom, each-on, each-past, key-kind, ordered-keys, pairForest-walk, pairWalk, picture-equal}
 use Rattle.ale.proofs.Pairs.{pairForest}
 use Rattle.ale.specs.Forest.{append, consReduced}
 use Rattle.ale.specs.PictureSignature.{pictureSignature}
 use Rattle.ale.specs.Product.{pairEach, product}
-use Rattle.ale.specs.Tree.{Forest, Kind, Tree, cons, exists, forAll, nil, successorsOf}
+use Rattle.ale.specs.Tree.{Forest, Kind, Tree, cons, nil, successorsOf}
 use Rattle.meaning.specs.Meaning.{kindAt, pictureTable}
 use Rattle.homomorphism.specs.Search.{LinkedTable, treeAt}
 use Rattle.picture.specs.View.{viewOf}
@@ -31,12 +30,6 @@ use Rattle.lcs.specs.Tables.{Kept, Paired, pairsBelow, pairsFrom, produc
 use Rattle.lcs.proofs.Copies.{rows-parts, tree-node}
 use Rattle.lcs.proofs.Growth.{Onward, onward-end, onward-full, onward-next, onward-start}
 use Rattle.lcs.proofs.SiblingRows.{drop-keys, drop-trim, drop-walk, key-is, siblings-none, trees-level, trim-below, trim-first, trim-later}
-
-pub key-kind : (k k′ : Kind) (r r′ : ℕ) → edgeKey k r ≡ edgeKey k′ r′ → k ≡ k′
-key-kind exists exists r r′ e = refl
-key-kind exists forAll r r′ e = absurd (omega arith)
-key-kind forAll exists r r′ e = absurd (omega arith)
-key-kind forAll forAll r r′ e = refl
 
 -- what is asked of a tree is true of its successors
 trim-successors : (t : List ℕ) (depth u : ℕ) → Trim (treeAt t depth u) → TrimAll (successorsOf pictureSignature (treeAt t depth u))
@@ -188,7 +181,7 @@ module _ (s t links others : List ℕ) (n m depth limit parent : ℕ) (start : B
         pub each-kept : Kept (kindAt (kindOf s c)) (treeAt t depth v)
         unfolding keyAt
         each-kept =
-            subst (λ k. Kept k (treeAt t depth v)) (key-kind (kindAt (kindOf t v)) kind-of (roleOf t v) (roleOf s c) same)
+            subst (λ k. Kept k (treeAt t depth v)) (key-kind (kindAt (kindOf t v)) (roleOf t v) kind-of (roleOf s c) same)
             (row-kept t others m depth v other z (at .below) after refl (at .trim))
 
         each-parts : (w : ℕ) → w ≡ after →
