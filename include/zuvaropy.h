@@ -386,6 +386,61 @@ uint64_t zuvaropy_subsumes(const uint8_t *first, size_t first_len, const uint8_t
                       zuvaropy_lent_writable(work), (work_len), zuvaropy_lent_writable(result), (result_len))
 
 /*
+ * Write the common picture of two pictures, their least common subsumer: it
+ * subsumes both, and every picture that subsumes both subsumes it.
+ *
+ * It is the product of the two normal tables, and pairs their roots. Where one
+ * row of a pair is impossible, the other stands in its place with all below it.
+ * Else the pair has the names that both want and those that both exclude and,
+ * for each role, the pair of the value restrictions, if both have one, and a
+ * pair of each existential restriction of the first with each of the second.
+ * From the leaves up, a value restriction that says nothing is dropped. Rows
+ * are written depth first: successors by role, the value restriction before the
+ * existential ones, these in the order of the first and then of the second.
+ *
+ * Reads:   first, at most first_len bytes; second, at most second_len bytes.
+ * Writes:  work, its first ZUVAROPY_WORK_BYTES bytes: the normal table of the
+ *          first picture from byte 0, that of the second from byte
+ *          ZUVAROPY_SECOND_TABLE_AT, and zeros in the rest of each half. So
+ *          also where question 15 refuses; a refusal by question 1 to 14 writes
+ *          nothing;
+ *          result, as many bytes as the value says: the common picture. Bytes
+ *          after it, and after the two halves of work, keep their contents. A
+ *          refusal leaves the result buffer as it is.
+ * Returns: ZUVAROPY_OUTCOME_YES, value: the length of the common picture in
+ *          bytes, ZUVAROPY_PICTURE_BYTES(rows) for one of so many rows; or
+ *          ZUVAROPY_OUTCOME_REFUSAL, in this order:
+ *          question 1, input ZUVAROPY_INPUT_BUFFER, if work_len is below
+ *          ZUVAROPY_WORK_BYTES or result_len below ZUVAROPY_MAX_PICTURE_BYTES,
+ *          however short the common picture would be;
+ *          question 2 to 13, input ZUVAROPY_INPUT_FIRST, as zuvaropy_validate;
+ *          question 2 to 13, input ZUVAROPY_INPUT_SECOND, likewise;
+ *          question 14, input ZUVAROPY_INPUT_FIRST, as zuvaropy_normalize;
+ *          question 14, input ZUVAROPY_INPUT_SECOND, likewise;
+ *          question 15, input ZUVAROPY_INPUT_SECOND, if the common picture has
+ *          more than ZUVAROPY_MAX_ROWS rows. What is dropped is not counted.
+ *
+ * Any bytes of any length may be given as the pictures; the work space and the
+ * result buffer may hold anything beforehand. Neither may overlap any other
+ * buffer; the pictures may overlap.
+ *
+ * The call takes at most ZUVAROPY_LCS_STACK_BYTES of stack. Beyond making the
+ * two normal tables its time grows at most as the rows of the one times the
+ * rows of the other.
+ *
+ * The common picture is a picture, and can be given to any call; question 14
+ * may refuse it, as any other. That of the same two in the other order has the
+ * same instances, but need not be the same bytes. That of a picture with itself
+ * has the picture's instances, but may have more rows, so that question 15 may
+ * refuse it.
+ */
+uint64_t zuvaropy_lcs(const uint8_t *first, size_t first_len, const uint8_t *second, size_t second_len, uint8_t *work,
+                      size_t work_len, uint8_t *result, size_t result_len);
+#define zuvaropy_lcs(first, first_len, second, second_len, work, work_len, result, result_len) \
+    zuvaropy_lcs(zuvaropy_lent(first), (first_len), zuvaropy_lent(second), (second_len), \
+                 zuvaropy_lent_writable(work), (work_len), zuvaropy_lent_writable(result), (result_len))
+
+/*
  * Check evidence that the second picture subsumes the first, or that it does
  * not.
  *
@@ -442,59 +497,6 @@ uint64_t zuvaropy_verify(const uint8_t *first, size_t first_len, const uint8_t *
 #define zuvaropy_verify(first, first_len, second, second_len, evidence, evidence_len, work, work_len) \
     zuvaropy_verify(zuvaropy_lent(first), (first_len), zuvaropy_lent(second), (second_len), zuvaropy_lent(evidence), \
                     (evidence_len), zuvaropy_lent_writable(work), (work_len))
-
-/*
- * Write the common picture of two pictures, their least common subsumer: it
- * subsumes both, and every picture that subsumes both subsumes it.
- *
- * It is the product of the two normal tables, and pairs their roots. Where one
- * row of a pair is impossible, the other stands in its place with all below it.
- * Else the pair has the names that both want and those that both exclude and,
- * for each role, the pair of the value restrictions, if both have one, and a
- * pair of each existential restriction of the first with each of the second.
- * From the leaves up, a value restriction that says nothing is dropped. Rows
- * are written depth first: successors by role, the value restriction before the
- * existential ones, these in the order of the first and then of the second.
- *
- * Reads:   first, at most first_len bytes; second, at most second_len bytes.
- * Writes:  work, its first ZUVAROPY_WORK_BYTES bytes: the normal table of the
- *          first picture from byte 0, that of the second from byte
- *          ZUVAROPY_SECOND_TABLE_AT, and zeros in the rest of each half. So
- *          also where question 15 refuses; a refusal by question 1 to 14 writes
- *          nothing;
- *          result, as many bytes as the value says: the common picture. A
- *          refusal leaves it as it is. Bytes after them keep their contents, in
- *          both.
- * Returns: ZUVAROPY_OUTCOME_YES, value: the length of the common picture in
- *          bytes, ZUVAROPY_PICTURE_BYTES(rows) for one of so many rows; or
- *          ZUVAROPY_OUTCOME_REFUSAL, in this order:
- *          question 1, input ZUVAROPY_INPUT_BUFFER, if work_len is below
- *          ZUVAROPY_WORK_BYTES or result_len below ZUVAROPY_MAX_PICTURE_BYTES,
- *          however short the common picture would be;
- *          question 2 to 13, input ZUVAROPY_INPUT_FIRST, as zuvaropy_validate;
- *          question 2 to 13, input ZUVAROPY_INPUT_SECOND, likewise;
- *          question 14, input ZUVAROPY_INPUT_FIRST, as zuvaropy_normalize;
- *          question 14, input ZUVAROPY_INPUT_SECOND, likewise;
- *          question 15, input ZUVAROPY_INPUT_SECOND, if the common picture has
- *          more than ZUVAROPY_MAX_ROWS rows. What is dropped is not counted.
- *
- * Any bytes of any length may be given as the pictures; the work space and the
- * result buffer may hold anything beforehand. Neither may overlap any other
- * buffer; the pictures may overlap.
- *
- * The call takes at most ZUVAROPY_LCS_STACK_BYTES of stack. Beyond making the
- * two normal tables its time grows at most as the rows of the one times the
- * rows of the other.
- *
- * The common picture is a picture, and can be given to any call. The one of the
- * same two in the other order has the same instances, but need not be the same
- * bytes; so has that of a picture and itself. Its merged table may be too large.
- */
-uint64_t zuvaropy_lcs(const uint8_t *first, size_t first_len, const uint8_t *second, size_t second_len, uint8_t *work,
-                      size_t work_len, uint8_t *result, size_t result_len);
-#define zuvaropy_lcs(first, first_len, second, second_len, work, work_len, result, result_len) \
-    zuvaropy_lcs(zuvaropy_lent(first), (first_len), zuvaropy_lent(second), (second_len), \
-                 zuvaropy_lent_writable(work), (work_len), zuvaropy_lent_writable(result), (result_len))
 
 #ifdef __cplusplus
 }

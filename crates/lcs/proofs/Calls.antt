@@ -7,10 +7,9 @@
 --   prepared-trims, prepared-common   after `prepare` has given the pair
 use Prim.Native.Nat.{_+_, _<_, _≤_, ℕ}
 use borrow.Author.Tests.{le-leb, lt-leb}
-use lib.Dec.{leb}
 use lib.ListN.{length}
-use mathlib.Core.Bool.{Bool, false, true}
-use mathlib.Core.List.{List, [], _++_, append-nil}
+use mathlib.Core.Bool.{false, true}
+use mathlib.Core.List.{List, _++_, append-nil}
 use mathlib.Core.Path.{_∙_, _≡_, ap, refl, subst, sym}
 use native.Mathlib.Omega.{arith}
 use Rattle.ale.proofs.Encodings.{encodeTree-length}
@@ -29,7 +28,6 @@ use Rattle.picture.specs.View.{Readable}
 use Rattle.table.specs.Bounds.{Bounded, pictureSize}
 use Rattle.table.specs.Fields.{endBytes}
 use Rattle.table.specs.Layout.{endSize, «place»}
-use Rattle.table.specs.Pick.{pick}
 use Rattle.table.specs.Put.{put}
 use Rattle.table.specs.declared.builder.Builder.{Builder}
 use Rattle.table.specs.declared.layout.Limits.{Limits}
@@ -44,7 +42,7 @@ use Rattle.lcs.specs.Call.{commonAnswer, lcsAnswer, lcsResult, lcsWork, 
 use Rattle.lcs.specs.Grown.{Built, Grown}
 use Rattle.lcs.specs.Product.{lcsCount, lcsFile, lcsTree}
 use Rattle.lcs.specs.Siblings.{Trim}
-use Rattle.lcs.specs.Tables.{Kept, Trims, commonFileIn, commonIn, productAt}
+use Rattle.lcs.specs.Tables.{Trims, commonFileIn, commonIn, productAt}
 use Rattle.lcs.specs.declared.common.Common.{Common}
 use Rattle.lcs.specs.declared.common.Common.the-variants.{Length, Refused}
 

@@ -5,8 +5,8 @@
 --   copy-row                 a row, and then what hangs from it, is the row's tree
 --   copy-start, copy-turn, copy-end   the loop along the links
 use Prim.Native.Nat.{_+_, _-_, _<_, _≤_, suc, zero, ℕ}
-use lib.ListN.{getD, length}
-use mathlib.Core.List.{List, [], _∷_}
+use lib.ListN.{getD}
+use mathlib.Core.List.{List}
 use mathlib.Core.Path.{_∙_, _≡_, ap, refl, sym}
 use native.Mathlib.Omega.{arith}
 use Rattle.table.specs.Bounds.{maxRows}
@@ -22,7 +22,7 @@ use Rattle.normal.specs.declared.node.Edge.{Edge}
 use Rattle.homomorphism.specs.Search.{LinkedTable, RowLabel, treeAt}
 use Rattle.picture.specs.View.{viewOf}
 use Rattle.lcs.specs.Grown.{Grown, Pushed, Room}
-use Rattle.lcs.specs.Siblings.{forestFrom, forestOf, siblings}
+use Rattle.lcs.specs.Siblings.{forestFrom, forestOf}
 use Rattle.lcs.proofs.Growth.{Onward, grown-nil, grown-over, grown-same, onward-end, onward-start}
 use Rattle.lcs.proofs.Nodes.{grown-row}
 use Rattle.lcs.proofs.SiblingRows.{siblings-next, siblings-none, trees-leaf, trees-level}

@@ -3,7 +3,6 @@
 --   code-kept           the kind of a row that hangs is written as it stands, after the first row
 use Prim.Native.Nat.{_+_, _<_, ℕ}
 use borrow.Author.Tests.{eq-eqb, ne-eqb}
-use lib.Dec.{eqb}
 use mathlib.Core.List.{List}
 use mathlib.Core.Logic.{_⊎_, inl, inr, ⊎-elim}
 use mathlib.Core.Path.{_∙_, _≡_}

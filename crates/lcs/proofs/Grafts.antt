@@ -4,10 +4,9 @@
 --   pairs-leaf                at depth 0 there are none
 --   graft-full                a pair that stays where the table is full
 --   graft-left                a pair as it is left once what hangs from it is there
-use Prim.Native.Nat.{_+_, _<_, _≤_, ℕ}
+use Prim.Native.Nat.{_+_, _≤_, ℕ}
 use lib.Dec.{eqb}
-use lib.ListN.{length}
-use mathlib.Core.Bool.{Bool, false, true}
+use mathlib.Core.Bool.{false, true}
 use mathlib.Core.List.{List}
 use mathlib.Core.Path.{_∙_, _≡_, ap, refl, sym}
 use Rattle.table.specs.NameSet.{intersection, setOf}
@@ -15,7 +14,7 @@ use Rattle.table.specs.Pick.{pick}
 use Rattle.table.specs.declared.builder.Builder.{Builder}
 use Rattle.ale.proofs.PairWalks.{pairForest-walk, picture-equal}
 use Rattle.ale.proofs.Pairs.{pairForest}
-use Rattle.ale.specs.Forest.{consReduced, dropped}
+use Rattle.ale.specs.Forest.{consReduced}
 use Rattle.ale.specs.PictureSignature.{pictureSignature}
 use Rattle.ale.specs.Product.{labelIntersection, product}
 use Rattle.ale.specs.Tree as tree

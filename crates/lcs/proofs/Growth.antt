@@ -7,9 +7,9 @@
 --   grown-room      there is room for what follows, within the limit
 --   Onward          a loop that makes a forest part by part: once what is left is made, all of it is
 --   onward-start, onward-next, onward-full, onward-end   before the first part; one part more, within the limit and beyond it; nothing is left
-use Prim.Native.Nat.{_+_, _<_, _≤_, suc, ℕ}
+use Prim.Native.Nat.{_+_, _<_, _≤_, ℕ}
 use lib.ListN.{length}
-use mathlib.Core.List.{List, [], _++_, append-assoc, append-nil}
+use mathlib.Core.List.{List, _++_, append-assoc, append-nil}
 use mathlib.Core.Path.{_∙_, _≡_, ap, refl, subst, sym}
 use native.Mathlib.Omega.{arith}
 use Rattle.ale.proofs.Appends.{sizes-append}

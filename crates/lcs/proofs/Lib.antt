@@ -1,5 +1,6 @@
 -- The laws of the common picture, by subject.
--- worked cases, computed; first, so that what a definition may not say is a case that fails
+-- worked cases, computed
+pub mod CaseFiles
 pub mod CommonCases
 -- what is written is a picture, and its covering
 pub mod Commons

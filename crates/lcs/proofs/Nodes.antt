@@ -5,13 +5,13 @@
 --   grown-row       a row, and then what hangs from it, is one successor more
 --   grown-node      once it is left: one successor more, or none, if it is dropped
 --   grown-stays     one that stays where the table is full
-use Prim.Native.Nat.{_+_, _<_, _≤_, suc, zero, ℕ}
-use borrow.Author.Tests.{eq-eqb, le-ltb, lt-ltb, ne-eqb, eqb-true, eqb-false, ltb-true, ltb-false}
+use Prim.Native.Nat.{_+_, _<_, _≤_, suc, ℕ}
+use borrow.Author.Tests.{eq-eqb, le-ltb, lt-ltb, ne-eqb, eqb-true, ltb-true, ltb-false}
 use lib.Dec.{eqb, ltb}
 use lib.ListN.{length}
 use mathlib.Core.Bool.{Bool, _&&_, false, not, true}
-use mathlib.Core.List.{List, [], _++_, _∷_, append-assoc, append-nil}
-use mathlib.Core.Path.{_∙_, _≡_, ap, refl, subst, sym}
+use mathlib.Core.List.{List, [], _++_, append-assoc, append-nil}
+use mathlib.Core.Path.{_∙_, _≡_, ap, refl, sym}
 use native.Mathlib.Numerals.{add-one}
 use native.Mathlib.Omega.{arith}
 use Rattle.table.proofs.Bools.{by-test}
@@ -27,17 +27,17 @@ use Rattle.ale.specs.Forest.{consReduced, dropped, isNil}
 use Rattle.ale.specs.PictureSignature.{pictureSignature}
 use Rattle.ale.specs.Product.{labelIntersection}
 use Rattle.ale.specs.Tree as tree
-use Rattle.ale.specs.Tree.{Forest, Kind, cons, nil, node, sizes}
+use Rattle.ale.specs.Tree.{Forest, cons, nil, node, sizes}
 use Rattle.meaning.specs.File.{codeAt, markCode, rowAt, rowsFrom}
 use Rattle.meaning.specs.Meaning.{kindAt}
-use Rattle.normal.proofs.Nodes.{dropped-bare, nil-is}
+use Rattle.normal.proofs.Nodes.{dropped-bare}
 use Rattle.normal.proofs.Prefixes.{prefix-before, prefix-put}
 use Rattle.normal.specs.Grown.{bare, prefix}
 use Rattle.normal.specs.Labels.{LabelIs}
 use Rattle.normal.specs.declared.label.Label.{Label}
 use Rattle.normal.specs.declared.node.Edge.{Edge}
 use Rattle.lcs.specs.Grown.{Entered, Grown, Pushed, Room, isDropped, stays}
-use Rattle.lcs.proofs.Growth.{grown-nil, grown-over, grown-same}
+use Rattle.lcs.proofs.Growth.{grown-over, grown-same}
 
 pub common-is : (a b r : Label) (l m : tree.Label pictureSignature) → LabelIs a l → LabelIs b m →
     setOf (r .wanted) ≡ intersection (setOf (a .wanted)) (setOf (b .wanted)) → setOf (r .excluded) ≡ intersection (setOf (a .excluded)) (setOf (b .excluded)) →

@@ -8,28 +8,26 @@
 --   each-kept, each-next, each-full     a row by the same edge, and once it is paired
 --   each-other, each-end                a row by another edge, or none: no more pairs
 use Prim.Native.Nat.{_+_, _-_, _<_, _≤_, ℕ}
-use lib.ListN.{getD, length}
-use mathlib.Core.List.{List, [], _∷_}
+use lib.ListN.{getD}
+use mathlib.Core.List.{List}
 use mathlib.Core.Path.{_∙_, _≡_, ap, refl, subst, sym}
 use native.Mathlib.Omega.{arith}
 use Rattle.table.specs.Bounds.{maxRows}
 use Rattle.table.specs.Fields.{kindOf, roleOf}
 use Rattle.table.specs.declared.builder.Builder.{Builder}
 use Rattle.ale.proofs.PairWalks.{KeysFrom, each-on, each-past, key-kind, ordered-keys, pairForest-walk, pairWalk, picture-equal}
-use Rattle.ale.proofs.Pairs.{pairForest}
 use Rattle.ale.specs.Forest.{append, consReduced}
 use Rattle.ale.specs.PictureSignature.{pictureSignature}
 use Rattle.ale.specs.Product.{pairEach, product}
 use Rattle.ale.specs.Tree.{Forest, Kind, Tree, cons, nil, successorsOf}
 use Rattle.meaning.specs.Meaning.{kindAt, pictureTable}
 use Rattle.homomorphism.specs.Search.{LinkedTable, treeAt}
-use Rattle.picture.specs.View.{viewOf}
 use Rattle.lcs.specs.Grown.{Grown, Room}
 use Rattle.lcs.specs.Siblings.{Trim, TrimAll, dropLower, forestFrom, forestOf, keyAt, siblings}
 use Rattle.lcs.specs.Tables.{Kept, Paired, pairsBelow, pairsFrom, productAt}
 use Rattle.lcs.proofs.Copies.{rows-parts, tree-node}
 use Rattle.lcs.proofs.Growth.{Onward, onward-end, onward-full, onward-next, onward-start}
-use Rattle.lcs.proofs.SiblingRows.{drop-keys, drop-trim, drop-walk, key-is, siblings-none, trees-level, trim-below, trim-first, trim-later}
+use Rattle.lcs.proofs.SiblingRows.{drop-keys, drop-trim, drop-walk, siblings-none, trees-level, trim-below, trim-first, trim-later}
 
 -- what is asked of a tree is true of its successors
 trim-successors : (t : List ℕ) (depth u : ℕ) → Trim (treeAt t depth u) → TrimAll (successorsOf pictureSignature (treeAt t depth u))

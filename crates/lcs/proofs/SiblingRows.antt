@@ -11,17 +11,16 @@
 --   drop-trim                     and of those that are left
 --   SeekAt, seek-found, seek-next, seek-end   looking for the first of them along the links
 --   trees-leaf, trees-level       a row has no successors at depth 0, else those that hang from it
-use Prim.Native.Nat.{_+_, _-_, _<_, _≤_, suc, zero, ℕ}
+use Prim.Native.Nat.{_+_, _-_, _<_, _≤_, suc, ℕ}
 use borrow.Author.Tests.{eq-eqb, eqb-false, eqb-true, le-leb, leb-false, leb-true, lt-leb}
 use lib.Dec.{eqb, leb}
 use lib.ListN.{getD}
-use mathlib.Core.Bool.{Bool, false, true}
 use mathlib.Core.List.{List, [], _∷_}
 use mathlib.Core.Path.{_∙_, _≡_, ap, refl, subst, sym}
 use native.Mathlib.Omega.{arith}
 use Rattle.table.proofs.Bools.{by-test, is-false}
 use Rattle.table.specs.Bounds.{maxRows}
-use Rattle.table.specs.Fields.{kindOf, parentOf, roleOf}
+use Rattle.table.specs.Fields.{parentOf}
 use Rattle.table.specs.Pick.{pick}
 use Rattle.ale.proofs.LinkLists.{ahead, chain-next, chain-on-first, chain-on-next}
 use Rattle.ale.proofs.PairWalks.{KeysFrom, edgeKey, keys-lower, ordered-keys, pairWalk, picture-equal, walk-skip}

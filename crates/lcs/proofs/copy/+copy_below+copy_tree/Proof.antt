@@ -19,7 +19,6 @@ use Rattle.lcs.proofs.Edges.{code-kept}
 use Rattle.lcs.proofs.Growth.{Onward, onward-full, onward-next}
 use Rattle.lcs.proofs.Nodes.{pushed-length, pushed-room}
 use Rattle.lcs.proofs.SiblingRows.{first-below, next-below, siblings-less}
-use Prim.Native.Nat.{ℕ, _<_}
 use borrow.Fn.Kinds.{In}
 use borrow.Fn.PlainCycle.{Measures, is, falls, and}
 use Rattle.lcs.proofs.copy.copy_below.Reads as copy-below
@@ -186,10 +185,12 @@ copy-below-loop-again t c =
     let copy = c .before .before .before .before .before .before .copy-tree in
     let next = c .wide2 .result in
     let parts = rows-parts (now (a .t)) (now (a .links)) (a .m) (a .depth - 1) (l .c) (pre .0) z (l .inv .0) (kind .result) (role .result) next (kind .ensures) (role .ensures) (c .wide2 .ensures .0) in
-    let below : next < a .m = omega (arith, c .wide2 .ensures .0, next-below (now (a .t)) (now (a .links)) (a .m) (pre .0) (l .c) z (l .inv .0)) in
-    (below, onward-next (a .limit) (a .parent) (a .table) (now (a .out)) (successorsOf pictureSignature (treeAt (now (a .t)) (a .depth) (a .v))) (forestFrom (now (a .t)) (a .m) (a .depth - 1) (l .c))
-    (cons (kindAt (kind .result)) (role .result) (treeAt (now (a .t)) (a .depth - 1) (l .c)) nil) (forestFrom (now (a .t)) (a .m) (a .depth - 1) next) parts
-    (l .grown) (copy .result) (l .out) (copy .last .1 .1 .1 .1 .1 .1 .0) (l .inv .1) (copy .ensures) (c .before .before .if2 .left))
+    let below : next < a .m = omega (arith, c .wide2 .ensures .0, next-below (now (a .t)) (now (a .links)) (a .m) (pre .0) (l .c) z (l .inv .0)) in (
+      below,
+      onward-next (a .limit) (a .parent) (a .table) (now (a .out)) (successorsOf pictureSignature (treeAt (now (a .t)) (a .depth) (a .v))) (forestFrom (now (a .t)) (a .m) (a .depth - 1) (l .c))
+          (cons (kindAt (kind .result)) (role .result) (treeAt (now (a .t)) (a .depth - 1) (l .c)) nil) (forestFrom (now (a .t)) (a .m) (a .depth - 1) next) parts
+          (l .grown) (copy .result) (l .out) (copy .last .1 .1 .1 .1 .1 .1 .0) (l .inv .1) (copy .ensures) (c .before .before .if2 .left),
+    )
 
 copy-below-same-length-2 : (t : ℕ) → copy-below-lts.Need-same-length-2 (copy-below-claims t) (copy-below-at t) copy-below.Post copy-below-Inv-loop copy-below-μ-loop
 copy-below-same-length-2 t c = c .before .loop .inv .1 .same

@@ -9,13 +9,11 @@ use borrow.Author.Needs.{needs}
 use borrow.Author.Tests.{eq-eqb, ne-eqb}
 use denote.Ref.{now}
 use lib.Dec.{eqb}
-use lib.ListN.{getD}
 use Rattle.ale.specs.PictureSignature.{pictureSignature}
 use Rattle.ale.specs.Product.{labelIntersection}
 use Rattle.homomorphism.proofs.Searches.{checked-has}
 use Rattle.homomorphism.specs.Search.{treeAt}
 use Rattle.meaning.specs.Meaning.{kindAt, pictureTable}
-use Rattle.table.specs.Bounds.{maxRows}
 use Rattle.table.specs.Pick.{pick}
 use Rattle.lcs.specs.Grown.{stays}
 use Rattle.lcs.specs.Tables.{Kept, pairsBelow, pairsFrom}
@@ -25,7 +23,6 @@ use Rattle.lcs.proofs.Growth.{grown-same}
 use Rattle.lcs.proofs.Nodes.{common-is, entered-length, entered-room, entered-some}
 use Rattle.lcs.proofs.Pairings.{EachAt, PairsAt, each-end, each-full, each-kept, each-next, each-other, each-start, pairs-end, pairs-full, pairs-next, pairs-paired, pairs-start}
 use Rattle.lcs.proofs.SiblingRows.{first-below, next-below, siblings-less}
-use Prim.Native.Nat.{ℕ, _<_}
 use borrow.Fn.Kinds.{In}
 use borrow.Fn.PlainCycle.{Measures, is, falls, and}
 use Rattle.lcs.proofs.graft.graft.Reads as graft

@@ -1,8 +1,6 @@
 -- A some-successor is kept; of an all-successor the names decide.
 use borrow.Author.Needs.{needs}
 use borrow.Author.Tests.{eq-eqb, ne-eqb}
-use mathlib.Core.Path.{ap}
-use mathlib.Core.Bool.{not}
 use Rattle.lcs.proofs.node.is_kept.Statement.{statement}
 use Rattle.lcs.proofs.node.is_kept.Tie as tie
 
