@@ -18,18 +18,22 @@ const RESULT: usize = ROW_SIZE * MAX_ROWS + END_SIZE;
 // That of a work space: two halves.
 const WORK: usize = 2 * RESULT;
 
+// The end of a line: what the answer is, and its number.
+fn say(what: &[u8], number: u64) {
+    io::write_all(STDOUT_FILENO, what);
+    io::print_decimal(STDOUT_FILENO, number);
+    io::write_all(STDOUT_FILENO, b"\n");
+}
+
 fn tell_answer(s: &[u8]) {
     match read(s, Limits::bench(), Input::First) {
         Answer::Rows(n) => {
-            io::write_all(STDOUT_FILENO, b": rows ");
-            io::print_decimal(STDOUT_FILENO, n as u64);
+            say(b": rows ", n as u64);
         }
         Answer::Refused(refusal) => {
-            io::write_all(STDOUT_FILENO, b": refused ");
-            io::print_decimal(STDOUT_FILENO, refusal.number as u64);
+            say(b": refused ", refusal.number as u64);
         }
     }
-    io::write_all(STDOUT_FILENO, b"\n");
 }
 
 // The picture is the first n bytes of s.
@@ -53,15 +57,12 @@ pub fn tell_cut(s: &[u8], n: usize) {
 fn tell_normalized(s: &[u8], out: &mut [u8]) {
     match normalize(s, Limits::bench(), out) {
         Normalized::Length(n) => {
-            io::write_all(STDOUT_FILENO, b": length ");
-            io::print_decimal(STDOUT_FILENO, n as u64);
+            say(b": length ", n as u64);
         }
         Normalized::Refused(refusal) => {
-            io::write_all(STDOUT_FILENO, b": refused ");
-            io::print_decimal(STDOUT_FILENO, refusal.number as u64);
+            say(b": refused ", refusal.number as u64);
         }
     }
-    io::write_all(STDOUT_FILENO, b"\n");
 }
 
 // The picture is the first n bytes of s.
@@ -98,15 +99,12 @@ fn tell_least(first: &[u8], second: &[u8]) {
     let mut out = [0u8; RESULT];
     match lcs(first, second, Limits::bench(), &mut work, &mut out) {
         Common::Length(n) => {
-            io::write_all(STDOUT_FILENO, b": length ");
-            io::print_decimal(STDOUT_FILENO, n as u64);
+            say(b": length ", n as u64);
         }
         Common::Refused(refusal) => {
-            io::write_all(STDOUT_FILENO, b": refused ");
-            io::print_decimal(STDOUT_FILENO, refusal.number as u64);
+            say(b": refused ", refusal.number as u64);
         }
     }
-    io::write_all(STDOUT_FILENO, b"\n");
 }
 
 // The pictures are the first n bytes of s and the first m of t.

@@ -25,7 +25,6 @@ use Rattle.workspace.specs.Lent.{pairWork}
 use Rattle.workspace.specs.Prepare.{halvesPut, mergedAsked, prepareAnswer}
 use Rattle.lcs.specs.Call.{commonAnswer, lcsAnswer, lcsResult, lcsWork}
 use Rattle.lcs.specs.Product.{lcsCount, lcsFile, lcsTree}
-use Rattle.lcs.proofs.CaseFiles.{all, picture, root, row, some}
 use Rattle.lcs.specs.declared.common.Common.{Common}
 use Rattle.lcs.specs.declared.common.Common.the-variants.{Length, Refused}
 
@@ -59,6 +58,28 @@ abbrev refused : ℕ → Input → Common
 refused q input = Refused (record { number = q; input = input })
 
 -- ---- pictures, byte by byte: {1} is 2, {2} is 4, {3} is 8, {4} is 16, {5} is 32, {6} is 64, {7} is 128; r is 8, s is 9
+
+-- the last byte of the parent, the kind, the role, the impossible byte, and the last bytes of the wanted and of the excluded names
+abbrev row : ℕ → ℕ → ℕ → ℕ → ℕ → ℕ → List ℕ
+row parent kind role mark wanted excluded =
+    0x10 ∷ 0 ∷ 21 ∷ 0 ∷ parent ∷ kind ∷ role ∷ mark
+    ∷ 0 ∷ 0 ∷ 0 ∷ 0 ∷ 0 ∷ 0 ∷ 0 ∷ wanted
+    ∷ 0 ∷ 0 ∷ 0 ∷ 0 ∷ 0 ∷ 0 ∷ 0 ∷ excluded ∷ []
+
+-- rows, and the end field
+abbrev picture : List (List ℕ) → List ℕ
+picture [] = 0x2F ∷ 0 ∷ 0 ∷ []
+picture (w ∷ ws) = w ++ picture ws
+
+abbrev root : ℕ → List ℕ
+root wanted = row 0 0 0 0 wanted 0
+
+-- the parent, the role and the names wanted
+abbrev some : ℕ → ℕ → ℕ → List ℕ
+some parent role wanted = row parent 1 role 0 wanted 0
+
+abbrev all : ℕ → ℕ → ℕ → List ℕ
+all parent role wanted = row parent 2 role 0 wanted 0
 
 abbrev empty : List ℕ
 empty = picture (root 0 ∷ [])

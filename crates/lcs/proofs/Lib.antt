@@ -1,7 +1,4 @@
 -- The laws of the common picture, by subject.
--- worked cases, computed
-pub mod CaseFiles
-pub mod CommonCases
 -- what is written is a picture, and its covering
 pub mod Commons
 -- the call
@@ -22,3 +19,5 @@ pub mod Grafts
 pub mod Calls
 -- the condition
 pub mod Conditions
+-- worked cases, computed
+pub mod CommonCases
