@@ -6,5 +6,6 @@ pub mod FileReadings
 pub mod EncodedFiles
 pub mod Pictures
 pub mod Normals
+pub mod Coverings
 -- computed
 pub mod Cases

@@ -1,5 +1,5 @@
 -- A picture file as a description tree, and a tree as a picture file.
 pub mod Meaning
-pub mod Covering
 pub mod File
 pub mod NormalTable
+pub mod Covering

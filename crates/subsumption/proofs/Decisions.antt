@@ -21,6 +21,7 @@ use Rattle.countermodel.specs.Writing.{RefutationRoom, refutationFile}
 use Rattle.workspace.proofs.TablesIn.{prepared-pair, prepared-tables}
 use Rattle.workspace.specs.Tables.{firstIn, secondIn}
 use Rattle.homomorphism.proofs.Maps.{length-mapFile}
+use Rattle.homomorphism.proofs.NormalMaps.{normal-maps}
 use Rattle.homomorphism.specs.Layout.{imagePlace}
 use Rattle.homomorphism.specs.Map.{lowestMap}
 use Rattle.homomorphism.specs.Search.{Found, Mapped, Shallow, rowMaps, treeAt}
@@ -71,10 +72,8 @@ module _ (limits : Limits) (first second : List ℕ) (bounded : Bounded limits) 
       ∙ ap (λ t. countermodel pictureSignature (normalTreeOf limits second) t) first-tree
 
   maps-is : rowMaps (normalFile limits first) (normalFile limits second) (limits .depth) 0 0 ≡ verdictOf limits first second
-  unfolding rowMaps verdictOf
-  maps-is =
-      ap (λ t. mapsTo pictureSignature t (treeAt (normalFile limits first) (limits .depth) 0)) second-tree
-      ∙ ap (λ t. mapsTo pictureSignature (normalTreeOf limits second) t) first-tree
+  unfolding verdictOf
+  maps-is = normal-maps limits first second bounded (pair .first-few) (pair .second-few)
 
   pub settled : (room : ℕ) → evidenceSize limits ≤ room → Settled (normalFile limits first) (normalFile limits second) (limits .depth) room
   unfolding mapOf lowestMap

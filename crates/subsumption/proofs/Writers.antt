@@ -49,8 +49,10 @@ use Rattle.evidence.specs.Taken.{MapOf, RefutationOf}
 use Rattle.homomorphism.proofs.Maps.{length-mapFile, mapFile-ends, mapFile-image, mapFile-says, mapFile-tag}
 use Rattle.homomorphism.specs.Layout.{imageOf, mapTag}
 use Rattle.homomorphism.specs.Map.{lowestMap, mapFile}
+use Rattle.meaning.proofs.Coverings.{covers-exactly, covers-not}
 use Rattle.meaning.proofs.Normals.{normal-count, normal-readable}
 use Rattle.meaning.proofs.Pictures.{picture-known, picture-parents}
+use Rattle.meaning.specs.Covering.{Covers, covers}
 use Rattle.meaning.specs.Meaning.{pictureTable, pictureTree}
 use Rattle.meaning.specs.NormalTable.{mergedCount, normalFile, normalTreeOf}
 use Rattle.table.proofs.Bools.{by-test, false-is, is-true, true-is}
@@ -85,24 +87,13 @@ module _ (limits : Limits) (first second : List ℕ) (bounded : Bounded limits) 
 
   -- ---- the verdict
 
-  pub verdict-covers :
-      ConceptSubsumed pictureSignature (conceptOf pictureSignature (pictureTree limits first)) (conceptOf pictureSignature (pictureTree limits second))
-      ↔ (verdictOf limits first second ≡ true)
-  unfolding verdictOf normalTreeOf
-  verdict-covers =
-      let (concepts, trees) = subsumed-concepts pictureSignature (pictureTree limits first) (pictureTree limits second) in
-      let (maps, subsumes) =
-      subsumption-homomorphism pictureSignature (pictureTable first) (pictureTable second)
-      (picture-known limits first (pair .first-readable)) (picture-known limits second (pair .second-readable)) (limits .depth) (limits .depth) in
-      (λ c. is-true (verdictOf limits first second) (maps (trees c)), λ e. concepts (subsumes (true-is (verdictOf limits first second) e)))
+  pub verdict-covers : Covers limits second first ↔ (verdictOf limits first second ≡ true)
+  unfolding verdictOf
+  verdict-covers = covers-exactly limits first second (pair .first-readable) (pair .second-readable)
 
-  pub verdict-fails :
-      (verdictOf limits first second ≡ false)
-      ↔ (ConceptSubsumed pictureSignature (conceptOf pictureSignature (pictureTree limits first)) (conceptOf pictureSignature (pictureTree limits second)) → ⊥)
-  verdict-fails = (
-    λ e c. false≢true (sym e ∙ verdict-covers .0 c),
-    λ u. by-test (verdictOf limits first second) (λ e. absurd (u (verdict-covers .1 e))) (λ e. e),
-  )
+  pub verdict-fails : (verdictOf limits first second ≡ false) ↔ (Covers limits second first → ⊥)
+  unfolding verdictOf
+  verdict-fails = covers-not limits first second (pair .first-readable) (pair .second-readable)
 
   -- ---- the map
 
@@ -113,7 +104,7 @@ module _ (limits : Limits) (first second : List ℕ) (bounded : Bounded limits) 
   parents s few = picture-parents limits (normalFile limits s) (normal-readable limits s few bounded)
 
   lowest : verdictOf limits first second ≡ true → IsHomomorphism pictureSignature p q (image pictureSignature p q)
-  unfolding verdictOf
+  unfolding verdictOf covers
   lowest e =
       let trees = subst (λ d. T (mapsTo pictureSignature d (rowTree p 0))) (sym (normal-rowTree limits second bounded (pair .second-few)))
       (subst (λ v. T (mapsTo pictureSignature (normalTreeOf limits second) v)) (sym (normal-rowTree limits first bounded (pair .first-few)))
@@ -161,7 +152,7 @@ module _ (limits : Limits) (first second : List ℕ) (bounded : Bounded limits) 
   refutes : verdictOf limits first second ≡ false →
       let I = structureOf pictureSignature (numbered pictureSignature b) in
       Fits pictureSignature I (pictureTree limits first) 0 × (Fits pictureSignature I (pictureTree limits second) 0 → ⊥)
-  unfolding verdictOf normalTreeOf
+  unfolding verdictOf covers normalTreeOf
   refutes e =
       not-subsumed pictureSignature (pictureTable first) (pictureTable second)
       (picture-known limits first (pair .first-readable)) (picture-known limits second (pair .second-readable)) (limits .depth) (limits .depth)

@@ -1,5 +1,5 @@
 -- 01, "Verdict with evidence": whether the second picture covers the first, and the evidence that is written.
---   verdictOf      003, Theorem 41: the normal tree of the second maps to that of the first; that this is covering, by Table 1: `condition-2-verdict`
+--   verdictOf      003, Theorem 41: the normal tree of the second maps to that of the first (`covers`); that this is covering, by Table 1: `condition-2-verdict`
 --   mapOf          our map of the two normal tables: the lowest possible row each time, parents first
 --   refutationOf   the countermodel of the two normal trees, as a refutation file; 01 leaves which one to the program
 --   evidenceOf     a map where the verdict is yes, else a refutation
@@ -11,8 +11,8 @@ use Rattle.table.specs.Layout.{endSize}
 use Rattle.table.specs.Pick.{pick}
 use Rattle.table.specs.declared.layout.Limits.{Limits}
 use Rattle.ale.specs.Countermodel.{countermodel}
-use Rattle.ale.specs.Homomorphism.{mapsTo}
 use Rattle.ale.specs.PictureSignature.{pictureSignature}
+use Rattle.meaning.specs.Covering.{covers}
 use Rattle.meaning.specs.Meaning.{pictureTable}
 use Rattle.meaning.specs.NormalTable.{normalFile, normalTreeOf}
 use Rattle.homomorphism.specs.Map.{lowestMap}
@@ -21,7 +21,7 @@ use Rattle.countermodel.specs.Writing.{refutationFile}
 
 module _ (limits : Limits) (first second : List ℕ) where
   unfoldable pub verdictOf : Bool
-  verdictOf = mapsTo pictureSignature (normalTreeOf limits second) (normalTreeOf limits first)
+  verdictOf = covers limits second first
 
   unfoldable pub mapOf : List ℕ
   mapOf = lowestMap (pictureTable (normalFile limits first)) (pictureTable (normalFile limits second))
