@@ -18,6 +18,7 @@ use Rattle.picture.specs.Read.{answerOf, readingOf, scanFrom}
 use Rattle.picture.specs.View.{rowCount, viewOf}
 use Rattle.picture.specs.declared.answer.Input.{Input}
 use Rattle.picture.specs.declared.answer.Input.the-variants.{Buffer, First, Second}
+use Rattle.meaning.specs.Covering.{covers}
 use Rattle.meaning.specs.NormalTable.{mergedCount, mergedTree, normalFile, normalTreeOf}
 use Rattle.homomorphism.specs.Map.{lowestMap, mapFile}
 use Rattle.countermodel.specs.Writing.{individualBytes, refutationFile}
@@ -218,5 +219,5 @@ cases =
 pub all-pass : runAll cases ≡ cases
 unfolding be beBytes rowOf endBytes put depthIn depth tagOk lengthFor kindOk roleOk parentOk valueField rowField endField fieldAt
     scanFrom readingOf answerOf rowCount viewOf mergedTree mergedCount normalTreeOf normalFile mergedAsked prepareAnswer
-    verdictOf mapOf lowestMap mapFile refutationOf refutationFile individualBytes evidenceOf verdictAnswer subsumesAnswer subsumesResult
+    covers verdictOf mapOf lowestMap mapFile refutationOf refutationFile individualBytes evidenceOf verdictAnswer subsumesAnswer subsumesResult
 all-pass = refl

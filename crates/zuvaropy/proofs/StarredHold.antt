@@ -21,7 +21,7 @@ use Rattle.lcs.proofs.Answers.{common-result}
 use Rattle.lcs.proofs.Commons.{lcs-covers-first, lcs-covers-second}
 use Rattle.lcs.specs.Call.{commonAnswer, lcsAnswer}
 use Rattle.lcs.specs.Product.{lcsCount, lcsFile, lcsTree}
-use Rattle.meaning.specs.Covering.{Covers}
+use Rattle.meaning.specs.Covering.{Covers, covers}
 use Rattle.meaning.specs.Meaning.{pictureTree}
 use Rattle.meaning.specs.NormalTable.{mergedCount, mergedTree, normalFile, normalTreeOf}
 use Rattle.normal.specs.Call.{normalizeAnswer, normalizeResult}
@@ -88,7 +88,7 @@ module _ (first second picture : List ℕ) where
 pub starred-hold : AllHold starred
 unfolding be beBytes rowOf endBytes endsAt put depthIn depth tagOk lengthFor kindOk roleOk parentOk valueField rowField endField fieldAt scanFrom readingOf answerOf rowCount viewOf mergedTree mergedCount normalTreeOf normalFile normalizeAnswer normalizeResult normalizeWord normalizeBuffer
     each individualCount individualHead refutationForm individualOk mapForm formOf rowAsked inOrder mapAsked refutationAsked checkAnswer evidenceAnswer mergedAsked prepareAnswer verifyAnswer verifyWord
-    verdictOf mapOf lowestMap mapFile refutationOf refutationFile individualBytes evidenceOf verdictAnswer subsumesAnswer subsumesWord
+    covers verdictOf mapOf lowestMap mapFile refutationOf refutationFile individualBytes evidenceOf verdictAnswer subsumesAnswer subsumesWord
     lcsTree lcsCount lcsFile commonAnswer lcsAnswer lcsWord
 starred-hold = (
   empty-subsumes,

@@ -1,0 +1,14 @@
+// What the questions about a case and a book answer.
+use picture::answer::Refusal;
+
+// All yes, or the first no.
+pub enum Asked {
+    Yes,
+    No(Refusal),
+}
+
+// The word of the most specific cards, card n as bit n, or the refusal.
+pub enum Selected {
+    Cards(u32),
+    Refused(Refusal),
+}

@@ -1,0 +1,56 @@
+// Normal tables, and whether one covers another.
+use homomorphism::search::maps;
+use normal::grow::build;
+use normal::rows::LINKS;
+use table::layout::Limits;
+use table::layout::MAX_ROWS;
+use table::layout::ROW_SIZE;
+ghost use mathlib.Core.Path.{_≡_};
+ghost use Prim.Native.Nat.{ℕ, _≤_};
+ghost use lib.ListN.{length};
+ghost use Rattle.table.specs.Bounds.{Bounded, pictureSize};
+ghost use Rattle.picture.specs.View.{Readable};
+ghost use Rattle.homomorphism.specs.Search.{LinkedTable, rowMaps};
+ghost use Rattle.book.specs.Tables.{Tabled};
+
+// Writes the normal table of a picture at the start of a lent part, and gives its rows; 0 if 14 is answered no.
+pub fn tabulate(picture: &[u8], limits: Limits, out: &mut [u8]) -> usize
+    requires { ⌜ (Bounded limits) × ((Readable limits (now picture)) × (pictureSize limits ≤ length (now out))) ⌝ }
+    ensures { λ r. ⌜ Tabled limits (now (picture .entry)) (now (out .entry)) r (now (out .exit)) ⌝ }
+{
+    let built = build(picture, picture.len() / ROW_SIZE, limits, out);
+    if limits.rows < built.merged {
+        return 0;
+    }
+    let table = built.table;
+    table.finish(out);
+    table.rows
+}
+
+// Whether the second table maps to the first, root to root.
+pub fn table_covers(
+    first: &[u8],
+    n: usize,
+    links: &[u8; LINKS],
+    second: &[u8],
+    m: usize,
+    others: &[u8; LINKS],
+    depth: usize,
+) -> bool
+    requires { ⌜ (LinkedTable (now first) n (now links)) × (LinkedTable (now second) m (now others)) ⌝ }
+    ensures { λ r. ⌜ r ≡ rowMaps (now (first .entry)) (now (second .entry)) depth 0 0 ⌝ }
+{
+    let mut found = [0u8; MAX_ROWS];
+    let mut missed = [0u8; MAX_ROWS];
+    maps(
+        first,
+        n,
+        links,
+        second,
+        m,
+        others,
+        depth,
+        &mut found,
+        &mut missed,
+    )
+}
