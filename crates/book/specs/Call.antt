@@ -65,6 +65,9 @@ formAsked book = pick (bookForm book) Yes (No noBook)
 unfoldable pub mergedAsked : Limits → Input → List ℕ → Asked
 mergedAsked limits input s = pick (leb (mergedCount limits s) (limits .rows)) Yes (No (tooMany input))
 
+abbrev pub caseMerged : Limits → List ℕ → Asked
+caseMerged limits case = mergedAsked limits First case
+
 abbrev pub cardRead : Limits → List ℕ → ℕ → Asked
 cardRead limits book k = readAsked limits (Card k) (card book k)
 
@@ -76,7 +79,7 @@ bookAsked limits case book =
     andThen (readAsked limits First case)
     (andThen (formAsked book)
     (andThen (askedFrom (cardRead limits book) (cardCount book) 0)
-    (andThen (mergedAsked limits First case)
+    (andThen (caseMerged limits case)
     (askedFrom (cardMerged limits book) (cardCount book) 0))))
 
 abbrev pub onAsked : Asked → ℕ → Selected

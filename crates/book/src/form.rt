@@ -5,7 +5,7 @@ use table::number::load16;
 use table::row::ends_at;
 ghost use mathlib.Core.Path.{_≡_};
 ghost use mathlib.Core.Bool.{true};
-ghost use Prim.Native.Nat.{ℕ, _≤_};
+ghost use Prim.Native.Nat.{ℕ, _+_, _≤_};
 ghost use lib.ListN.{length};
 ghost use Rattle.book.specs.Form.{bookForm, cardAt, cardCount, mostCards, nextPlace};
 ghost use Rattle.book.specs.Tables.{Placed};

@@ -1,8 +1,8 @@
 // Card books: their form, which cards cover a case, and the most specific of those.
 pub mod answer;
 pub mod compare;
+pub mod covering;
 pub mod form;
 pub mod most_specific;
-pub mod table;
 pub mod weigh;
 pub mod word;

@@ -1,0 +1,208 @@
+// Which of the covering cards cover another of them. Two tables stand in the work space at a time: card m's in the lower half, while those of the later cards
+// come into the upper one, each once, and the two are compared both ways. A pair of which both are passed over already says nothing new and is left out.
+use crate::covering::table_covers;
+use crate::covering::tabulate;
+use crate::form::PLACES;
+use crate::word::has_card;
+use crate::word::with_card;
+use crate::word::without;
+use normal::rows::LINKS;
+use normal::rows::fill_links;
+use table::layout::END_SIZE;
+use table::layout::HEAD_SIZE;
+use table::layout::Limits;
+use table::layout::place;
+use table::number::clear;
+use workspace::prepare::half_size;
+ghost use mathlib.Core.Path.{_≡_};
+ghost use mathlib.Core.Bool.{_&&_, false, not, true};
+ghost use Prim.Native.Nat.{ℕ, _≤_, _<_, _+_};
+ghost use lib.ListN.{length, take};
+ghost use Rattle.table.specs.Bounds.{Bounded, pictureSize};
+ghost use Rattle.table.specs.NameSet.{has};
+ghost use Rattle.table.specs.Put.{zeros};
+ghost use Rattle.homomorphism.specs.Search.{LinkedTable, rowMaps};
+ghost use Rattle.workspace.specs.Prepare.{workSize};
+ghost use Rattle.book.specs.Form.{mostCards};
+ghost use Rattle.book.specs.Selection.{cardCovers, passedOver};
+ghost use Rattle.book.specs.Tables.{CardsTaken, Compared, ComparedTo, Lower, Paired, With, wanted};
+
+// The word with card k if the second table, which is card k's, covers the first.
+fn pass_over(
+    hidden: u32,
+    k: usize,
+    first: &[u8],
+    n: usize,
+    links: &[u8; LINKS],
+    second: &[u8],
+    m: usize,
+    others: &[u8; LINKS],
+    depth: usize,
+) -> u32
+    requires { ⌜ (LinkedTable (now first) n (now links)) × ((LinkedTable (now second) m (now others)) × (k < mostCards)) ⌝ }
+    ensures { λ r. ⌜ With hidden k (rowMaps (now (first .entry)) (now (second .entry)) depth 0 0) r ⌝ }
+{
+    if has_card(hidden, k) {
+        return hidden;
+    }
+    if table_covers(first, n, links, second, m, others, depth) {
+        return with_card(hidden, k);
+    }
+    hidden
+}
+
+// Card m, whose table of a rows stands in the lower half, and card n, each with the other.
+fn compare_with(
+    book: &[u8],
+    places: &[usize; PLACES],
+    count: usize,
+    limits: Limits,
+    m: usize,
+    a: usize,
+    links: &[u8; LINKS],
+    n: usize,
+    hidden: u32,
+    work: &mut [u8],
+) -> u32
+    requires { ⌜ (Bounded limits) × ((CardsTaken limits (now book) (now places) count) × (((m < count) × (n < count)) × (Lower limits (now book) m a (now links) (now work)))) ⌝ }
+    ensures { λ r. ⌜ (Paired limits (now (book .entry)) m n hidden r) × (Lower limits (now (book .entry)) m a (now (links .entry)) (now (work .exit))) ⌝ }
+{
+    let half = half_size(limits);
+    let start = places[n] + HEAD_SIZE;
+    let end = places[n + 1];
+    let b = tabulate(&book[start..end], limits, &mut work[half..]);
+    let low = &work[..place(a, END_SIZE)];
+    let high = &work[half..half + place(b, END_SIZE)];
+    let mut others = [0u8; LINKS];
+    fill_links(high, b, &mut others);
+    let more = pass_over(hidden, m, high, b, &others, low, a, links, limits.depth);
+    pass_over(more, n, low, a, links, high, b, &others, limits.depth)
+}
+
+// Whether card n is to be compared with card m: it covers the case, and not both are passed over already.
+fn is_wanted(covering: u32, hidden: u32, m: usize, n: usize) -> bool
+    requires { ⌜ (m < mostCards) × (n < mostCards) ⌝ }
+    ensures { λ r. ⌜ r ≡ wanted covering hidden m n ⌝ }
+{
+    has_card(covering, n) && !(has_card(hidden, m) && has_card(hidden, n))
+}
+
+// The first such card from one on; the number of cards if there is none.
+fn next_wanted(covering: u32, hidden: u32, m: usize, from: usize, count: usize) -> usize
+    requires { ⌜ (m < mostCards) × ((from ≤ count) × (count ≤ mostCards)) ⌝ }
+    ensures { λ r. ⌜ ((from ≤ r) × (r ≤ count)) × (((k : ℕ) → from ≤ k → k < r → wanted covering hidden m k ≡ false) × (r < count → wanted covering hidden m r ≡ true)) ⌝ }
+{
+    let mut n = from;
+    while n < count {
+        if is_wanted(covering, hidden, m, n) {
+            return n;
+        }
+        n += 1;
+    }
+    n
+}
+
+// Card m, whose table stands in the lower half, with the later ones from one on.
+fn compare_rest(
+    book: &[u8],
+    places: &[usize; PLACES],
+    count: usize,
+    limits: Limits,
+    covering: u32,
+    m: usize,
+    a: usize,
+    links: &[u8; LINKS],
+    from: usize,
+    hidden: u32,
+    work: &mut [u8],
+) -> u32
+    requires { ⌜ (Bounded limits) × ((CardsTaken limits (now book) (now places) count) × (((m < from) × (from < count)) × (((has covering m ≡ true) × (wanted covering hidden m from ≡ true)) × ((ComparedTo limits (now book) covering m from hidden) × (Lower limits (now book) m a (now links) (now work)))))) ⌝ }
+    ensures { λ r. ⌜ (ComparedTo limits (now (book .entry)) covering m count r) × (length (now (work .exit)) ≡ length (now (work .entry))) ⌝ }
+{
+    let mut word = hidden;
+    let mut n = from;
+    while n < count {
+        word = compare_with(book, places, count, limits, m, a, links, n, word, work);
+        n = next_wanted(covering, word, m, n + 1, count);
+    }
+    word
+}
+
+// Card m with all later ones.
+fn compare_card(
+    book: &[u8],
+    places: &[usize; PLACES],
+    count: usize,
+    limits: Limits,
+    covering: u32,
+    m: usize,
+    hidden: u32,
+    work: &mut [u8],
+) -> u32
+    requires { ⌜ (Bounded limits) × ((CardsTaken limits (now book) (now places) count) × ((m < count) × ((has covering m ≡ true) × ((Compared limits (now book) covering m hidden) × (length (now work) ≡ workSize limits))))) ⌝ }
+    ensures { λ r. ⌜ (ComparedTo limits (now (book .entry)) covering m count r) × (length (now (work .exit)) ≡ length (now (work .entry))) ⌝ }
+{
+    let from = next_wanted(covering, hidden, m, m + 1, count);
+    if from == count {
+        return hidden;
+    }
+    let half = half_size(limits);
+    let start = places[m] + HEAD_SIZE;
+    let end = places[m + 1];
+    let a = tabulate(&book[start..end], limits, &mut work[..half]);
+    let mut links = [0u8; LINKS];
+    fill_links(&work[..place(a, END_SIZE)], a, &mut links);
+    compare_rest(
+        book,
+        places,
+        count,
+        limits,
+        covering,
+        m,
+        a,
+        &links,
+        from,
+        hidden,
+        work,
+    )
+}
+
+// Those of the covering cards that cover another of them.
+fn compare_cards(
+    book: &[u8],
+    places: &[usize; PLACES],
+    count: usize,
+    limits: Limits,
+    covering: u32,
+    work: &mut [u8],
+) -> u32
+    requires { ⌜ (Bounded limits) × ((CardsTaken limits (now book) (now places) count) × (length (now work) ≡ workSize limits)) ⌝ }
+    ensures { λ r. ⌜ (Compared limits (now (book .entry)) covering count r) × (length (now (work .exit)) ≡ length (now (work .entry))) ⌝ }
+{
+    let mut hidden: u32 = 0;
+    let mut m = 0;
+    while m < count {
+        if has_card(covering, m) {
+            hidden = compare_card(book, places, count, limits, covering, m, hidden, work);
+        }
+        m += 1;
+    }
+    hidden
+}
+
+// Those that cover no other; the work space is cleared.
+pub fn select_cards(
+    book: &[u8],
+    places: &[usize; PLACES],
+    count: usize,
+    limits: Limits,
+    covering: u32,
+    work: &mut [u8],
+) -> u32
+    requires { ⌜ (Bounded limits) × ((CardsTaken limits (now book) (now places) count) × (((k : ℕ) → has covering k ≡ true → k < count) × (length (now work) ≡ workSize limits))) ⌝ }
+    ensures { λ r. ⌜ ((k : ℕ) → has r k ≡ (has covering k && not (passedOver limits (now (book .entry)) (has covering) k))) × (now (work .exit) ≡ zeros (workSize limits)) ⌝ }
+{
+    let hidden = compare_cards(book, places, count, limits, covering, work);
+    clear(work, 0, work.len());
+    without(covering, hidden)
+}

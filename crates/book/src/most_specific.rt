@@ -1,0 +1,106 @@
+// The sixth call: question 1, the case, the book's form, its cards, 14 of each, and the word of the most specific cards.
+use crate::answer::Asked;
+use crate::answer::Selected;
+use crate::compare::select_cards;
+use crate::form::PLACES;
+use crate::form::find_cards;
+use crate::form::has_form;
+use crate::weigh::weigh_book;
+use picture::answer::Answer;
+use picture::answer::Input;
+use picture::answer::Refusal;
+use picture::read::read;
+use table::layout::HEAD_SIZE;
+use table::layout::Limits;
+use workspace::prepare::half_size;
+ghost use mathlib.Core.Path.{_≡_};
+ghost use mathlib.Core.Bool.{true};
+ghost use Prim.Native.Nat.{ℕ, _≤_};
+ghost use lib.ListN.{length};
+ghost use Rattle.table.specs.Bounds.{Bounded};
+ghost use Rattle.table.specs.Put.{put, zeros};
+ghost use Rattle.picture.specs.View.{Readable};
+ghost use Rattle.workspace.specs.Prepare.{workSize};
+ghost use Rattle.book.specs.Call.{andThen, askedFrom, bookAsked, cardMerged, cardRead, caseMerged, formAsked, mostSpecificAnswer, mostSpecificWork, onAsked, onSelected};
+ghost use Rattle.book.specs.Selection.{mostSpecificCards};
+ghost use Rattle.book.specs.Tables.{CardsRead, Placed, afterCase, afterCards};
+
+// 2 to 13 of each card in turn.
+fn read_cards(book: &[u8], places: &[usize; PLACES], count: usize, limits: Limits) -> Asked
+    requires { ⌜ (Bounded limits) × (Placed (now book) (now places) count) ⌝ }
+    ensures { λ r. ⌜ r ≡ askedFrom (cardRead limits (now (book .entry))) count 0 ⌝ }
+{
+    let mut k = 0;
+    while k < count {
+        let start = places[k] + HEAD_SIZE;
+        let end = places[k + 1];
+        match read(&book[start..end], limits, Input::Card(k as u8)) {
+            Answer::Rows(_) => {
+                k += 1;
+            }
+            Answer::Refused(refusal) => {
+                return Asked::No(refusal);
+            }
+        }
+    }
+    Asked::Yes
+}
+
+// 14 of the case and of each card; then the word.
+fn select(
+    case: &[u8],
+    book: &[u8],
+    places: &[usize; PLACES],
+    count: usize,
+    limits: Limits,
+    work: &mut [u8],
+) -> Selected
+    requires { ⌜ (Bounded limits) × ((Readable limits (now case)) × ((CardsRead limits (now book) (now places) count) × (workSize limits ≤ length (now work)))) ⌝ }
+    ensures { λ r. ⌜ (r ≡ onAsked (afterCards limits (now (case .entry)) (now (book .entry))) (mostSpecificCards limits (now (case .entry)) (now (book .entry)))) × (now (work .exit) ≡ onSelected r (put (now (work .entry)) 0 (zeros (workSize limits))) (now (work .entry))) ⌝ }
+{
+    match weigh_book(case, book, places, count, limits) {
+        Selected::Cards(covering) => {
+            let half = half_size(limits);
+            let size = half + half;
+            Selected::Cards(select_cards(book, places, count, limits, covering, &mut work[..size]))
+        }
+        Selected::Refused(refusal) => Selected::Refused(refusal),
+    }
+}
+
+// 24, the cards, and what comes after them.
+fn ask_book(case: &[u8], book: &[u8], limits: Limits, work: &mut [u8]) -> Selected
+    requires { ⌜ (Bounded limits) × ((Readable limits (now case)) × (workSize limits ≤ length (now work))) ⌝ }
+    ensures { λ r. ⌜ (r ≡ onAsked (afterCase limits (now (case .entry)) (now (book .entry))) (mostSpecificCards limits (now (case .entry)) (now (book .entry)))) × (now (work .exit) ≡ onSelected r (put (now (work .entry)) 0 (zeros (workSize limits))) (now (work .entry))) ⌝ }
+{
+    let mut places = [0usize; PLACES];
+    let count = find_cards(book, &mut places);
+    if !has_form(book, &places, count) {
+        return Selected::Refused(Refusal {
+            number: 24,
+            input: Input::Book,
+        });
+    }
+    match read_cards(book, &places, count, limits) {
+        Asked::Yes => select(case, book, &places, count, limits, work),
+        Asked::No(refusal) => Selected::Refused(refusal),
+    }
+}
+
+// The call: 1; the case; the book. Nothing is written before 14 is answered yes for all.
+pub fn most_specific(case: &[u8], book: &[u8], limits: Limits, work: &mut [u8]) -> Selected
+    requires { ⌜ Bounded limits ⌝ }
+    ensures { λ r. ⌜ (r ≡ mostSpecificAnswer limits (now (case .entry)) (now (book .entry)) (length (now (work .entry)))) × (now (work .exit) ≡ mostSpecificWork limits (now (case .entry)) (now (book .entry)) (now (work .entry))) ⌝ }
+{
+    let half = half_size(limits);
+    if work.len() < half + half {
+        return Selected::Refused(Refusal {
+            number: 1,
+            input: Input::Buffer,
+        });
+    }
+    match read(case, limits, Input::First) {
+        Answer::Rows(_) => ask_book(case, book, limits, work),
+        Answer::Refused(refusal) => Selected::Refused(refusal),
+    }
+}
