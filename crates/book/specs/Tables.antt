@@ -6,7 +6,7 @@
 --   tableCovers, coversTable       a picture covers what a normal table is of; card k does
 --   weighed                        14 of a card, and then whether it covers the case
 --   Lower                          card m's table, with its links, in the lower half of the work space
---   With, Paired                   a word with card k if a test passes; with each of two cards that covers the other
+--   With, WithEach, Paired         a word with card k if a test passes; with two cards; with each of two cards that covers the other
 --   wanted                         card n covers the case, and not both m and n are passed over already
 --   ComparedTo, Compared           of those that cover the case each card below m is compared with each later one, card m with those below n
 use Prim.Native.Nat.{ℕ, suc, _+_, _<_, _≤_}
@@ -82,8 +82,11 @@ pub record Lower (limits : Limits) (book : List ℕ) (m a : ℕ) (links work : L
 abbrev pub With : ℕ → ℕ → Bool → ℕ → Type 0
 With word k test r = (i : ℕ) → has r i ≡ (has word i || (eqb i k && test))
 
+abbrev pub WithEach : ℕ → ℕ → Bool → ℕ → Bool → ℕ → Type 0
+WithEach word m test n other r = (i : ℕ) → has r i ≡ ((has word i || (eqb i m && test)) || (eqb i n && other))
+
 abbrev pub Paired : Limits → List ℕ → ℕ → ℕ → ℕ → ℕ → Type 0
-Paired limits book m n word r = (i : ℕ) → has r i ≡ ((has word i || (eqb i m && cardCovers limits book m n)) || (eqb i n && cardCovers limits book n m))
+Paired limits book m n word r = WithEach word m (cardCovers limits book m n) n (cardCovers limits book n m) r
 
 unfoldable pub wanted : ℕ → ℕ → ℕ → ℕ → Bool
 wanted covering hidden m n = has covering n && not (has hidden m && has hidden n)

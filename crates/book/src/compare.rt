@@ -1,7 +1,7 @@
 // Which of the covering cards cover another of them. Two tables stand in the work space at a time: card m's in the lower half, while those of the later cards
 // come into the upper one, each once, and the two are compared both ways. A pair of which both are passed over already says nothing new and is left out.
 use crate::covering::table_covers;
-use crate::covering::tabulate;
+use crate::covering::tabulate_card;
 use crate::form::PLACES;
 use crate::word::has_card;
 use crate::word::with_card;
@@ -9,10 +9,10 @@ use crate::word::without;
 use normal::rows::LINKS;
 use normal::rows::fill_links;
 use table::layout::END_SIZE;
-use table::layout::HEAD_SIZE;
 use table::layout::Limits;
 use table::layout::place;
 use table::number::clear;
+use workspace::prepare::Pair;
 use workspace::prepare::half_size;
 ghost use mathlib.Core.Path.{_≡_};
 ghost use mathlib.Core.Bool.{_&&_, false, not, true};
@@ -23,9 +23,10 @@ ghost use Rattle.table.specs.NameSet.{has};
 ghost use Rattle.table.specs.Put.{zeros};
 ghost use Rattle.homomorphism.specs.Search.{LinkedTable, rowMaps};
 ghost use Rattle.workspace.specs.Prepare.{workSize};
+ghost use Rattle.workspace.specs.Tables.{TablesIn, firstIn, secondIn};
 ghost use Rattle.book.specs.Form.{mostCards};
 ghost use Rattle.book.specs.Selection.{cardCovers, passedOver};
-ghost use Rattle.book.specs.Tables.{CardsTaken, Compared, ComparedTo, Lower, Paired, With, wanted};
+ghost use Rattle.book.specs.Tables.{CardsTaken, Compared, ComparedTo, Lower, Paired, With, WithEach, wanted};
 
 // The word with card k if the second table, which is card k's, covers the first.
 fn pass_over(
@@ -51,6 +52,30 @@ fn pass_over(
     hidden
 }
 
+// Card m, whose table stands in the lower half, and card n, whose table stands in the upper one, each with the other.
+fn compare_halves(
+    work: &[u8],
+    pair: Pair,
+    links: &[u8; LINKS],
+    limits: Limits,
+    m: usize,
+    n: usize,
+    hidden: u32,
+) -> u32
+    requires { ⌜ (Bounded limits) × ((TablesIn limits (now work) pair) × ((LinkedTable (firstIn pair (now work)) (pair .first) (now links)) × ((m < mostCards) × (n < mostCards)))) ⌝ }
+    ensures { λ r. ⌜ WithEach hidden m (rowMaps (secondIn limits pair (now (work .entry))) (firstIn pair (now (work .entry))) (limits .depth) 0 0) n (rowMaps (firstIn pair (now (work .entry))) (secondIn limits pair (now (work .entry))) (limits .depth) 0 0) r ⌝ }
+{
+    let half = half_size(limits);
+    let a = pair.first;
+    let b = pair.second;
+    let low = &work[..place(a, END_SIZE)];
+    let high = &work[half..half + place(b, END_SIZE)];
+    let mut others = [0u8; LINKS];
+    fill_links(high, b, &mut others);
+    let more = pass_over(hidden, m, high, b, &others, low, a, links, limits.depth);
+    pass_over(more, n, low, a, links, high, b, &others, limits.depth)
+}
+
 // Card m, whose table of a rows stands in the lower half, and card n, each with the other.
 fn compare_with(
     book: &[u8],
@@ -68,15 +93,12 @@ fn compare_with(
     ensures { λ r. ⌜ (Paired limits (now (book .entry)) m n hidden r) × (Lower limits (now (book .entry)) m a (now (links .entry)) (now (work .exit))) ⌝ }
 {
     let half = half_size(limits);
-    let start = places[n] + HEAD_SIZE;
-    let end = places[n + 1];
-    let b = tabulate(&book[start..end], limits, &mut work[half..]);
-    let low = &work[..place(a, END_SIZE)];
-    let high = &work[half..half + place(b, END_SIZE)];
-    let mut others = [0u8; LINKS];
-    fill_links(high, b, &mut others);
-    let more = pass_over(hidden, m, high, b, &others, low, a, links, limits.depth);
-    pass_over(more, n, low, a, links, high, b, &others, limits.depth)
+    let b = tabulate_card(book, places, count, n, limits, &mut work[half..]);
+    let pair = Pair {
+        first: a,
+        second: b,
+    };
+    compare_halves(work, pair, links, limits, m, n, hidden)
 }
 
 // Whether card n is to be compared with card m: it covers the case, and not both are passed over already.
@@ -147,9 +169,7 @@ fn compare_card(
         return hidden;
     }
     let half = half_size(limits);
-    let start = places[m] + HEAD_SIZE;
-    let end = places[m + 1];
-    let a = tabulate(&book[start..end], limits, &mut work[..half]);
+    let a = tabulate_card(book, places, count, m, limits, &mut work[..half]);
     let mut links = [0u8; LINKS];
     fill_links(&work[..place(a, END_SIZE)], a, &mut links);
     compare_rest(

@@ -15,15 +15,33 @@ use table::layout::Limits;
 use workspace::prepare::half_size;
 ghost use mathlib.Core.Path.{_≡_};
 ghost use mathlib.Core.Bool.{true};
-ghost use Prim.Native.Nat.{ℕ, _≤_};
+ghost use Prim.Native.Nat.{ℕ, _≤_, _<_};
 ghost use lib.ListN.{length};
 ghost use Rattle.table.specs.Bounds.{Bounded};
 ghost use Rattle.table.specs.Put.{put, zeros};
+ghost use Rattle.picture.specs.Read.{answerOf};
 ghost use Rattle.picture.specs.View.{Readable};
 ghost use Rattle.workspace.specs.Prepare.{workSize};
 ghost use Rattle.book.specs.Call.{andThen, askedFrom, bookAsked, cardMerged, cardRead, caseMerged, formAsked, mostSpecificAnswer, mostSpecificWork, onAsked, onSelected};
+ghost use Rattle.book.specs.Form.{card};
 ghost use Rattle.book.specs.Selection.{mostSpecificCards};
 ghost use Rattle.book.specs.Tables.{CardsRead, Placed, afterCase, afterCards};
+
+// 2 to 13 of card k.
+fn read_card(
+    book: &[u8],
+    places: &[usize; PLACES],
+    count: usize,
+    k: usize,
+    limits: Limits,
+) -> Answer
+    requires { ⌜ (Bounded limits) × ((Placed (now book) (now places) count) × (k < count)) ⌝ }
+    ensures { λ r. ⌜ r ≡ answerOf limits (Input.Card k) (card (now (book .entry)) k) ⌝ }
+{
+    let start = places[k] + HEAD_SIZE;
+    let end = places[k + 1];
+    read(&book[start..end], limits, Input::Card(k as u8))
+}
 
 // 2 to 13 of each card in turn.
 fn read_cards(book: &[u8], places: &[usize; PLACES], count: usize, limits: Limits) -> Asked
@@ -32,9 +50,7 @@ fn read_cards(book: &[u8], places: &[usize; PLACES], count: usize, limits: Limit
 {
     let mut k = 0;
     while k < count {
-        let start = places[k] + HEAD_SIZE;
-        let end = places[k + 1];
-        match read(&book[start..end], limits, Input::Card(k as u8)) {
+        match read_card(book, places, count, k, limits) {
             Answer::Rows(_) => {
                 k += 1;
             }

@@ -3,6 +3,7 @@
 use crate::answer::Selected;
 use crate::covering::table_covers;
 use crate::covering::tabulate;
+use crate::covering::tabulate_card;
 use crate::form::PLACES;
 use crate::word::bit;
 use normal::normalize::SCRATCH;
@@ -11,16 +12,16 @@ use normal::rows::fill_links;
 use picture::answer::Input;
 use picture::answer::Refusal;
 use table::layout::END_SIZE;
-use table::layout::HEAD_SIZE;
 use table::layout::Limits;
 use table::layout::place;
 ghost use mathlib.Core.Path.{_≡_};
-ghost use Prim.Native.Nat.{ℕ, _≤_};
+ghost use Prim.Native.Nat.{ℕ, _≤_, _<_};
 ghost use lib.ListN.{length};
 ghost use Rattle.table.specs.Bounds.{Bounded, pictureSize};
 ghost use Rattle.picture.specs.View.{Readable};
 ghost use Rattle.homomorphism.specs.Search.{LinkedTable};
 ghost use Rattle.book.specs.Call.{andThen, askedFrom, cardMerged, caseMerged, onAsked};
+ghost use Rattle.book.specs.Form.{card};
 ghost use Rattle.book.specs.Selection.{cardWord, caseCovered};
 ghost use Rattle.book.specs.Tables.{CardsRead, coversTable, weighed};
 
@@ -34,19 +35,22 @@ pub enum Weighed {
     TooMany,
 }
 
-// Whether a card covers the case, whose normal table is lent.
+// Whether card k covers the case, whose normal table is lent.
 fn weigh(
-    card: &[u8],
+    book: &[u8],
+    places: &[usize; PLACES],
+    count: usize,
+    k: usize,
     limits: Limits,
     table: &[u8],
     n: usize,
     links: &[u8; LINKS],
     scratch: &mut [u8],
 ) -> Weighed
-    requires { ⌜ (Bounded limits) × ((Readable limits (now card)) × ((LinkedTable (now table) n (now links)) × (pictureSize limits ≤ length (now scratch)))) ⌝ }
-    ensures { λ r. ⌜ (r ≡ weighed limits (now (table .entry)) (now (card .entry))) × (length (now (scratch .exit)) ≡ length (now (scratch .entry))) ⌝ }
+    requires { ⌜ (Bounded limits) × ((CardsRead limits (now book) (now places) count) × ((k < count) × ((LinkedTable (now table) n (now links)) × (pictureSize limits ≤ length (now scratch))))) ⌝ }
+    ensures { λ r. ⌜ (r ≡ weighed limits (now (table .entry)) (card (now (book .entry)) k)) × (length (now (scratch .exit)) ≡ length (now (scratch .entry))) ⌝ }
 {
-    let m = tabulate(card, limits, scratch);
+    let m = tabulate_card(book, places, count, k, limits, scratch);
     if m == 0 {
         return Weighed::TooMany;
     }
@@ -77,9 +81,17 @@ fn weigh_cards(
     let mut word: u32 = 0;
     let mut k = 0;
     while k < count {
-        let start = places[k] + HEAD_SIZE;
-        let end = places[k + 1];
-        match weigh(&book[start..end], limits, table, n, links, &mut scratch) {
+        match weigh(
+            book,
+            places,
+            count,
+            k,
+            limits,
+            table,
+            n,
+            links,
+            &mut scratch,
+        ) {
             Weighed::Covers => {
                 word += bit(k);
             }

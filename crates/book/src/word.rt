@@ -23,7 +23,7 @@ pub fn has_card(word: u32, k: usize) -> bool
 
 pub fn with_card(word: u32, k: usize) -> u32
     requires { ⌜ k < mostCards ⌝ }
-    ensures { λ r. ⌜ ((i : ℕ) → has r i ≡ (eqb i k || has word i)) ⌝ }
+    ensures { λ r. ⌜ ((i : ℕ) → has r i ≡ (has word i || eqb i k)) ⌝ }
 {
     word | bit(k)
 }

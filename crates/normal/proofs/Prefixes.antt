@@ -11,7 +11,7 @@ use Rattle.table.specs.Layout.{«place», rowSize}
 use Rattle.table.specs.Put.{put}
 use Rattle.normal.specs.Grown.{prefix}
 
-take-put : (d : List ℕ) (at : ℕ) (s : List ℕ) (n : ℕ) → at ≤ length d → n ≡ at + length s → take n (put d at s) ≡ take at d ++ s
+pub take-put : (d : List ℕ) (at : ℕ) (s : List ℕ) (n : ℕ) → at ≤ length d → n ≡ at + length s → take n (put d at s) ≡ take at d ++ s
 unfolding put
 take-put d at s n h e = take-at (take at d ++ s) _ n (length-append (take at d) s ∙ ap (λ (k : ℕ). k + length s) (length-take-le at d h) ∙ sym e)
 
