@@ -1,0 +1,84 @@
+-- Laws of the word of the cards below n that pass a test, over any test.
+--   cardWord-zero, cardWord-suc   no card; one card more
+--   cardWord-below                the word has n bits
+--   has-cardWord                  its bits are the cards below n that pass the test
+--   word-is                       and a word with these bits is that word
+--   cardWord-same                 tests that agree on the cards below n give the same word
+use Prim.Native.Nat.{_*_, _+_, _<_, _^_, suc, zero, ℕ}
+use borrow.Author.Tests.{eq-eqb, le-ltb, lt-ltb, ne-eqb}
+use lib.Bits.{or-shifted-r}
+use lib.Dec.{eqb, ltb}
+use mathlib.Core.Bool.{Bool, _&&_, _||_, false, true}
+use mathlib.Core.Path.{_∙_, _≡_, ap, refl, sym}
+use native.Mathlib.Decide.{decLt, ℕ-discrete}
+use native.Mathlib.Numerals.{add-one}
+use native.Mathlib.Omega.{arith}
+use Rattle.normal.proofs.Words.{has-power}
+use Rattle.table.proofs.Bools.{by-test, or-none}
+use Rattle.table.proofs.NameSets.{has-none, has-union, set-ext}
+use Rattle.table.specs.NameSet.{has, union}
+use Rattle.table.specs.Pick.{pick}
+use Rattle.book.specs.Selection.{cardWord}
+
+module _ (f : ℕ → Bool) where
+  pub cardWord-zero : cardWord f 0 ≡ 0
+  unfolding cardWord
+  cardWord-zero = refl
+
+  pub cardWord-suc : (n : ℕ) → cardWord f (n + 1) ≡ cardWord f n + pick (f n) (2 ^ n) 0
+  unfolding cardWord
+  cardWord-suc n = rw add-one
+
+  pub cardWord-below : (n : ℕ) → cardWord f n < 2 ^ n
+  unfolding cardWord
+  cardWord-below zero = omega arith
+  cardWord-below (suc n) =
+      let below = cardWord-below n in
+      by-test (f n) (λ e. rw e (omega arith)) (λ e. rw e (omega arith))
+
+  -- the bit that one card more adds
+  has-more : (w n : ℕ) (b : Bool) → w < 2 ^ n → (k : ℕ) → has (w + pick b (2 ^ n) 0) k ≡ (has w k || (b && eqb k n))
+  has-more w n true below k =
+      let e : w + 2 ^ n ≡ union w (1 * 2 ^ n) = omega (arith, or-shifted-r 1 n w below) in
+      let one : 1 * 2 ^ n ≡ 2 ^ n = omega arith in
+      ap (λ (v : ℕ). has v k) e ∙ has-union w (1 * 2 ^ n) k ∙ ap (λ (v : ℕ). has w k || has v k) one ∙ ap (λ (b : Bool). has w k || b) (has-power n k)
+  has-more w n false below k = let e : w + 0 ≡ w = omega arith in ap (λ (v : ℕ). has v k) e ∙ sym (or-none (has w k))
+
+  card-more : (n k : ℕ) → ((ltb k n && f k) || (f n && eqb k n)) ≡ (ltb k (suc n) && f k)
+  card-more n k =
+      elim (ℕ-discrete k n) [
+        | yes e ↦ rw (le-ltb k n (omega arith), lt-ltb k (suc n) (omega arith), eq-eqb k n e, e) (last (f n))
+        | no u ↦ elim (decLt k n) [
+          | yes l ↦ rw (lt-ltb k n l, lt-ltb k (suc n) (omega arith), ne-eqb k n u) (earlier (f k) (f n))
+          | no o ↦ rw (le-ltb k n (omega arith), le-ltb k (suc n) (omega arith), ne-eqb k n u) (none-left (f n))
+        ]
+      ]
+    where
+      last : (b : Bool) → (b && true) ≡ b
+      last true = refl
+      last false = refl
+
+      none-left : (b : Bool) → (b && false) ≡ false
+      none-left true = refl
+      none-left false = refl
+
+      earlier : (a b : Bool) → (a || (b && false)) ≡ a
+      earlier true b = refl
+      earlier false true = refl
+      earlier false false = refl
+
+  pub has-cardWord : (n k : ℕ) → has (cardWord f n) k ≡ (ltb k n && f k)
+  unfolding cardWord
+  has-cardWord zero k = has-none k ∙ sym (ap (λ (b : Bool). b && f k) (le-ltb k 0 (omega arith)))
+  has-cardWord (suc n) k =
+      has-more (cardWord f n) n (f n) (cardWord-below n) k
+      ∙ ap (λ (b : Bool). b || (f n && eqb k n)) (has-cardWord n k)
+      ∙ card-more n k
+
+  pub word-is : (w n : ℕ) → ((k : ℕ) → has w k ≡ (ltb k n && f k)) → w ≡ cardWord f n
+  word-is w n h = set-ext w (cardWord f n) (λ k. h k ∙ sym (has-cardWord n k))
+
+pub cardWord-same : (f g : ℕ → Bool) (n : ℕ) → ((k : ℕ) → k < n → f k ≡ g k) → cardWord f n ≡ cardWord g n
+unfolding cardWord
+cardWord-same f g zero h = refl
+cardWord-same f g (suc n) h = rw (h n (omega arith), cardWord-same f g n (λ k l. h k (omega arith)))

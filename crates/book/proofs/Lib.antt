@@ -1,0 +1,3 @@
+-- The laws of card books, by subject.
+-- the words of cards
+pub mod CardWords
