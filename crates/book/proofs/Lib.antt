@@ -3,3 +3,5 @@
 pub mod CardWords
 -- the form of a book
 pub mod Forms
+-- the cards that are selected
+pub mod Selections
