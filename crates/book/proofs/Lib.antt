@@ -3,5 +3,11 @@
 pub mod CardWords
 -- the form of a book
 pub mod Forms
+-- the questions, in their order
+pub mod Questions
+pub mod Orders
 -- the cards that are selected
 pub mod Selections
+-- the call
+pub mod Answers
+pub mod Refusals
