@@ -3,6 +3,7 @@
 pub mod CardWords
 -- the form of a book
 pub mod Forms
+pub mod WrittenBooks
 -- the questions, in their order
 pub mod Questions
 pub mod Orders
