@@ -12,3 +12,5 @@ pub mod Selections
 -- the call
 pub mod Answers
 pub mod Refusals
+-- the condition
+pub mod Conditions
