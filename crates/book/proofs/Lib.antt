@@ -14,3 +14,5 @@ pub mod Answers
 pub mod Refusals
 -- the condition
 pub mod Conditions
+-- worked cases, computed
+pub mod BookCases
