@@ -1,0 +1,153 @@
+-- A book as the paper says it is written, card after card and then the end field, is read as these cards.
+--   bookBytes      the bytes of a book with given cards
+--   Short          each card's length is a number of two bytes
+--   book-written   it has the form, with so many cards, and these
+use Prim.Native.Nat.{_+_, _<_, _≤_, suc, zero, ℕ}
+use borrow.Author.Tests.{le-leb}
+use lib.ListN.{drop, getD, length, length-append, take}
+use lib.Seq.{drop-at, getD-append-seam, take-append-seam}
+use mathlib.Core.Bool.{true}
+use mathlib.Core.List.{List, [], _++_, _∷_, append-assoc}
+use mathlib.Core.Path.{_∙_, _≡_, ap, refl, subst, sym}
+use native.Mathlib.Nat.{add-zero, zero-add}
+use native.Mathlib.Omega.{arith}
+use Rattle.table.proofs.Numbers.{be-append-right, be-inside, length-beBytes}
+use Rattle.table.proofs.Rows.{parts-ends}
+use Rattle.table.specs.Fields.{endBytes, endsAt}
+use Rattle.table.specs.Layout.{headSize, lengthAt, numberSize}
+use Rattle.table.specs.Number.{be, beBytes}
+use Rattle.book.specs.Form.{bookForm, card, cardAt, cardCount, cardTag, fieldPlace, lengthSaid, mostCards, nextPlace}
+use Rattle.book.proofs.Forms.{BookOf, after-card, form-count}
+
+abbrev pub bookBytes : List (List ℕ) → List ℕ
+bookBytes [] = endBytes
+bookBytes (c ∷ cards) = cardTag ∷ (beBytes numberSize (length c) ++ (c ++ bookBytes cards))
+
+-- the largest number of two bytes
+abbrev pub mostLength : ℕ
+mostLength = 65535
+
+-- ---- one field, after the bytes p and before the bytes rest
+
+module _ (p c rest : List ℕ) (short : length c ≤ mostLength) where
+  abbrev head : List ℕ
+  head = cardTag ∷ beBytes numberSize (length c)
+
+  abbrev whole : List ℕ
+  whole = p ++ (cardTag ∷ (beBytes numberSize (length c) ++ (c ++ rest)))
+
+  length-head : length (p ++ head) ≡ length p + headSize
+  length-head = length-append p head ∙ ap (λ (n : ℕ). length p + suc n) (length-beBytes numberSize (length c))
+
+  length-field : length ((p ++ head) ++ c) ≡ length p + headSize + length c
+  length-field = length-append (p ++ head) c ∙ ap (λ (n : ℕ). n + length c) length-head
+
+  by-head : whole ≡ (p ++ head) ++ (c ++ rest)
+  by-head = sym (append-assoc p head (c ++ rest))
+
+  by-field : whole ≡ ((p ++ head) ++ c) ++ rest
+  by-field = by-head ∙ sym (append-assoc (p ++ head) c rest)
+
+  field-said : lengthSaid whole (length p) ≡ length c
+  field-said =
+      be-append-right p (cardTag ∷ (beBytes numberSize (length c) ++ (c ++ rest))) lengthAt numberSize
+      ∙ be-inside (cardTag ∷ []) (c ++ rest) numberSize (length c) (omega arith)
+
+  field-next : nextPlace whole (length p) ≡ length ((p ++ head) ++ c)
+  field-next = ap (λ (n : ℕ). length p + headSize + n) field-said ∙ sym length-field
+
+  field-card : cardAt whole (length p) ≡ true
+  unfolding cardAt
+  field-card =
+      let inside : nextPlace whole (length p) ≤ length whole =
+      omega (arith, field-next, ap length by-field, length-append ((p ++ head) ++ c) rest) in
+      rw (getD-append-seam p cardTag (beBytes numberSize (length c) ++ (c ++ rest)) 0, le-leb (nextPlace whole (length p)) (length whole) inside)
+
+  field-value : take (lengthSaid whole (length p)) (drop (length p + headSize) whole) ≡ c
+  field-value =
+      ap (λ (n : ℕ). take n (drop (length p + headSize) whole)) field-said
+      ∙ ap (λ (l : List ℕ). take (length c) l)
+      (ap (λ (l : List ℕ). drop (length p + headSize) l) by-head ∙ drop-at (p ++ head) (c ++ rest) (length p + headSize) length-head)
+      ∙ take-append-seam c rest
+
+-- ---- the end field, after the bytes p
+
+end-there : (p : List ℕ) → endsAt (p ++ endBytes) (length p) ≡ true
+unfolding endBytes beBytes be
+end-there p =
+    parts-ends (p ++ endBytes) (length p) (length-append p endBytes)
+    (getD-append-seam p 0x2F (0 ∷ 0 ∷ []) 0)
+    (be-append-right p endBytes 1 2)
+
+-- ---- the fields from field k on
+
+abbrev pub Short : List (List ℕ) → Type 0
+Short cards = (j : ℕ) → j < length cards → length (getD cards j []) ≤ mostLength
+
+shift : (k j : ℕ) → k + suc j ≡ k + 1 + j
+shift k j = omega arith
+
+-- what is so of field k and of those after it
+one-more : (Q : ℕ → ℕ → Type 0) (n k : ℕ) → Q k 0 → ((j : ℕ) → j < n → Q (k + 1 + j) (suc j)) → (j : ℕ) → j < suc n → Q (k + j) j
+one-more Q n k here later zero l = subst (λ i. Q i 0) (sym (add-zero k)) here
+one-more Q n k here later (suc j) l = subst (λ i. Q i (suc j)) (sym (shift k j)) (later j (omega arith))
+
+module _ (book : List ℕ) where
+  record From (k : ℕ) (cards : List (List ℕ)) : Type 0 where
+    stand : (j : ℕ) → j < length cards → cardAt book (fieldPlace book (k + j)) ≡ true
+    are : (j : ℕ) → j < length cards → card book (k + j) ≡ getD cards j []
+    end : endsAt book (fieldPlace book (k + length cards)) ≡ true
+
+  value-here : (p c rest : List ℕ) (small : length c ≤ mostLength) (k : ℕ) → book ≡ whole p c rest small → fieldPlace book k ≡ length p → card book k ≡ c
+  unfolding card
+  value-here p c rest small k is at =
+      ap (λ (n : ℕ). take (lengthSaid book n) (drop (n + headSize) book)) at
+      ∙ ap (λ (l : List ℕ). take (lengthSaid l (length p)) (drop (length p + headSize) l)) is
+      ∙ field-value p c rest small
+
+  from : (cards : List (List ℕ)) → Short cards → (p : List ℕ) (k : ℕ) → book ≡ p ++ bookBytes cards → fieldPlace book k ≡ length p → From k cards
+  from [] short p k is at = record {
+    stand = λ j l. absurd (omega arith);
+    are = λ j l. absurd (omega arith);
+    end = ap (λ (n : ℕ). endsAt book (fieldPlace book n)) (add-zero k)
+        ∙ ap (λ (n : ℕ). endsAt book n) at
+        ∙ ap (λ (l : List ℕ). endsAt l (length p)) is
+        ∙ end-there p;
+  }
+  from (c ∷ cards) short p k is at =
+      let rest : List ℕ = bookBytes cards in
+      let small : length c ≤ mostLength = short 0 (omega arith) in
+      let next : fieldPlace book (k + 1) ≡ length ((p ++ head p c rest small) ++ c) =
+      after-card book k
+      ∙ ap (λ (n : ℕ). nextPlace book n) at
+      ∙ ap (λ (l : List ℕ). nextPlace l (length p)) is
+      ∙ field-next p c rest small in
+      let f = from cards (λ j l. short (suc j) (omega arith)) ((p ++ head p c rest small) ++ c) (k + 1) (is ∙ by-field p c rest small) next in
+      let here : cardAt book (fieldPlace book k) ≡ true =
+      ap (λ (n : ℕ). cardAt book n) at ∙ ap (λ (l : List ℕ). cardAt l (length p)) is ∙ field-card p c rest small in
+      record {
+        stand = one-more (λ i j. cardAt book (fieldPlace book i) ≡ true) (length cards) k here (f .stand);
+        are = one-more (λ i j. card book i ≡ getD (c ∷ cards) j []) (length cards) k (value-here p c rest small k is at) (f .are);
+        end = ap (λ (n : ℕ). endsAt book (fieldPlace book n)) (shift k (length cards)) ∙ f .end;
+      }
+
+-- ---- the book
+
+module _ (cards : List (List ℕ)) (few : length cards ≤ mostCards) (short : Short cards) where
+  read : From (bookBytes cards) 0 cards
+  unfolding fieldPlace
+  read = from (bookBytes cards) cards short [] 0 refl refl
+
+  book-of : BookOf (bookBytes cards) (length cards)
+  book-of = record {
+    most = few;
+    cards = λ k l. ap (λ (n : ℕ). cardAt (bookBytes cards) (fieldPlace (bookBytes cards) n)) (sym (zero-add k)) ∙ read .stand k l;
+    ends = ap (λ (n : ℕ). endsAt (bookBytes cards) (fieldPlace (bookBytes cards) n)) (sym (zero-add (length cards))) ∙ read .end;
+  }
+
+  pub book-written : (bookForm (bookBytes cards) ≡ true)
+      × (cardCount (bookBytes cards) ≡ length cards)
+      × ((k : ℕ) → k < length cards → card (bookBytes cards) k ≡ getD cards k [])
+  book-written =
+      let (form, count) = form-count (bookBytes cards) (length cards) book-of in
+      (form, count, λ k l. ap (λ (n : ℕ). card (bookBytes cards) n) (sym (zero-add k)) ∙ read .are k l)
