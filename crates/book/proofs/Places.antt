@@ -41,9 +41,9 @@ module _ (book : List ℕ) (at : ℕ) where
   whole-card said tag is head =
       by-test (leb said (length book - at - headSize))
       (λ e. let few = leb-true said (length book - at - headSize) e in
-          e ∙ sym (tagged ∙ le-leb (nextPlace book at) (length book) (omega (arith, few, is, head))))
+      e ∙ sym (tagged ∙ le-leb (nextPlace book at) (length book) (omega (arith, few, is, head))))
       (λ e. let many = leb-false said (length book - at - headSize) e in
-          e ∙ sym (tagged ∙ lt-leb (nextPlace book at) (length book) (omega (arith, many, is, head))))
+      e ∙ sym (tagged ∙ lt-leb (nextPlace book at) (length book) (omega (arith, many, is, head))))
     where
       tagged : (eqb (getD book at 0) cardTag && leb (nextPlace book at) (length book)) ≡ leb (nextPlace book at) (length book)
       tagged = ap (λ (b : Bool). b && leb (nextPlace book at) (length book)) (eq-eqb (getD book at 0) cardTag tag)

@@ -85,9 +85,14 @@ module _ (limits : Limits) (s out : List ℕ) where
       pub tabled-fits : place r endSize ≤ pictureSize limits
       tabled-fits = omega (arith, rows-few few, normal-length limits s, normal-size limits s few)
 
-      pub tabled-checked : Checked (take (place r endSize) end) r
-      tabled-checked =
-          subst (λ t. Checked t r) (sym (tabled .file few)) (subst (λ n. Checked (normalFile limits s) n) (sym (rows-few few)) (normal-checked few))
+      -- the part that is the table, however its length was found
+      module _ (n : ℕ) (is : n ≡ place r endSize) where
+        pub tabled-file : take n end ≡ normalFile limits s
+        tabled-file = ap (λ (k : ℕ). take k end) is ∙ tabled .file few
 
-      pub tabled-linked : (links : List ℕ) → Linked (parentOf (take (place r endSize) end)) r maxRows links → LinkedTable (take (place r endSize) end) r links
-      tabled-linked links linked = record { checked = tabled-checked; linked = linked }
+        pub tabled-checked : Checked (take n end) r
+        tabled-checked =
+            subst (λ t. Checked t r) (sym tabled-file) (subst (λ m. Checked (normalFile limits s) m) (sym (rows-few few)) (normal-checked few))
+
+        pub tabled-linked : (links : List ℕ) → Linked (parentOf (take n end)) r maxRows links → LinkedTable (take n end) r links
+        tabled-linked links linked = record { checked = tabled-checked; linked = linked }

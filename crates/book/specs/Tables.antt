@@ -4,12 +4,12 @@
 --   afterCase, afterCards          the questions after 2 to 13 of the case; those after 2 to 13 of the cards
 --   Tabled                         a normal table at the start of a lent part, and its rows; 0 if 14 is answered no
 --   tableCovers, coversTable       a picture covers what a normal table is of; card k does
---   weighed                        14 of a card, and then whether it covers the case
+--   weighed                        14 of card k, and then the word of it alone if it covers the case, else of no card
 --   Lower                          card m's table, with its links, in the lower half of the work space
 --   With, WithEach, Paired         a word with card k if a test passes; with two cards; with each of two cards that covers the other
 --   wanted                         card n covers the case, and not both m and n are passed over already
 --   ComparedTo, Compared           of those that cover the case each card below m is compared with each later one, card m with those below n
-use Prim.Native.Nat.{ℕ, suc, _+_, _<_, _≤_}
+use Prim.Native.Nat.{ℕ, _+_, _^_, _<_, _≤_}
 use lib.Dec.{eqb, leb}
 use lib.ListN.{getD, length, take}
 use mathlib.Core.Bool.{Bool, _&&_, _||_, not, true}
@@ -25,12 +25,11 @@ use Rattle.picture.specs.View.{Readable}
 use Rattle.meaning.specs.NormalTable.{mergedCount, normalFile}
 use Rattle.homomorphism.specs.Search.{LinkedTable, rowMaps}
 use Rattle.workspace.specs.Prepare.{tableRows, workSize}
-use Rattle.book.specs.Call.{andThen, askedFrom, cardMerged, cardRead, caseMerged, formAsked}
+use Rattle.book.specs.Call.{andThen, askedFrom, cardMerged, cardRead, caseMerged, formAsked, onAsked}
 use Rattle.book.specs.Form.{card, cardCount, fieldPlace, mostCards}
 use Rattle.book.specs.Selection.{cardCovers, passedOver}
 use Rattle.book.specs.declared.answer.Asked.{Asked}
-use Rattle.book.specs.declared.weigh.Weighed.{Weighed}
-use Rattle.book.specs.declared.weigh.Weighed.the-variants.{Covers, Not, TooMany}
+use Rattle.book.specs.declared.answer.Selected.{Selected}
 
 -- ---- the book
 
@@ -68,8 +67,8 @@ tableCovers limits t s = rowMaps t (normalFile limits s) (limits .depth) 0 0
 abbrev pub coversTable : Limits → List ℕ → List ℕ → ℕ → Bool
 coversTable limits t book k = tableCovers limits t (card book k)
 
-unfoldable pub weighed : Limits → List ℕ → List ℕ → Weighed
-weighed limits t s = pick (leb (mergedCount limits s) (limits .rows)) (pick (tableCovers limits t s) Covers Not) TooMany
+abbrev pub weighed : Limits → List ℕ → List ℕ → ℕ → Selected
+weighed limits t book k = onAsked (cardMerged limits book k) (pick (coversTable limits t book k) (2 ^ k) 0)
 
 pub record Lower (limits : Limits) (book : List ℕ) (m a : ℕ) (links work : List ℕ) : Type 0 where
   pub long : length work ≡ workSize limits

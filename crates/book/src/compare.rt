@@ -106,7 +106,13 @@ fn is_wanted(covering: u32, hidden: u32, m: usize, n: usize) -> bool
     requires { ⌜ (m < mostCards) × (n < mostCards) ⌝ }
     ensures { λ r. ⌜ r ≡ wanted covering hidden m n ⌝ }
 {
-    has_card(covering, n) && !(has_card(hidden, m) && has_card(hidden, n))
+    if !has_card(covering, n) {
+        return false;
+    }
+    if !has_card(hidden, m) {
+        return true;
+    }
+    !has_card(hidden, n)
 }
 
 // The first such card from one on; the number of cards if there is none.

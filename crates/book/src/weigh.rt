@@ -21,21 +21,13 @@ ghost use Rattle.table.specs.Bounds.{Bounded, pictureSize};
 ghost use Rattle.picture.specs.View.{Readable};
 ghost use Rattle.homomorphism.specs.Search.{LinkedTable};
 ghost use Rattle.book.specs.Call.{andThen, askedFrom, cardMerged, caseMerged, onAsked};
-ghost use Rattle.book.specs.Form.{card};
 ghost use Rattle.book.specs.Selection.{cardWord, caseCovered};
 ghost use Rattle.book.specs.Tables.{CardsRead, coversTable, weighed};
 
 // As many bytes as the longest table takes.
 const TABLE: usize = SCRATCH + END_SIZE;
 
-// What weighing a card says.
-pub enum Weighed {
-    Covers,
-    Not,
-    TooMany,
-}
-
-// Whether card k covers the case, whose normal table is lent.
+// 14 of card k, and then the word of it alone if it covers the case, whose normal table is lent; else that of no card.
 fn weigh(
     book: &[u8],
     places: &[usize; PLACES],
@@ -46,22 +38,24 @@ fn weigh(
     n: usize,
     links: &[u8; LINKS],
     scratch: &mut [u8],
-) -> Weighed
+) -> Selected
     requires { ⌜ (Bounded limits) × ((CardsRead limits (now book) (now places) count) × ((k < count) × ((LinkedTable (now table) n (now links)) × (pictureSize limits ≤ length (now scratch))))) ⌝ }
-    ensures { λ r. ⌜ (r ≡ weighed limits (now (table .entry)) (card (now (book .entry)) k)) × (length (now (scratch .exit)) ≡ length (now (scratch .entry))) ⌝ }
+    ensures { λ r. ⌜ (r ≡ weighed limits (now (table .entry)) (now (book .entry)) k) × (length (now (scratch .exit)) ≡ length (now (scratch .entry))) ⌝ }
 {
     let m = tabulate_card(book, places, count, k, limits, scratch);
     if m == 0 {
-        return Weighed::TooMany;
+        return Selected::Refused(Refusal {
+            number: 14,
+            input: Input::Card(k as u8),
+        });
     }
     let other = &scratch[..place(m, END_SIZE)];
     let mut others = [0u8; LINKS];
     fill_links(other, m, &mut others);
     if table_covers(table, n, links, other, m, &others, limits.depth) {
-        Weighed::Covers
-    } else {
-        Weighed::Not
+        return Selected::Cards(bit(k));
     }
+    Selected::Cards(0)
 }
 
 // Every card in turn.
@@ -92,18 +86,14 @@ fn weigh_cards(
             links,
             &mut scratch,
         ) {
-            Weighed::Covers => {
-                word += bit(k);
+            Selected::Cards(one) => {
+                word += one;
+                k += 1;
             }
-            Weighed::Not => {}
-            Weighed::TooMany => {
-                return Selected::Refused(Refusal {
-                    number: 14,
-                    input: Input::Card(k as u8),
-                });
+            Selected::Refused(refusal) => {
+                return Selected::Refused(refusal);
             }
         }
-        k += 1;
     }
     Selected::Cards(word)
 }

@@ -32,7 +32,7 @@ slice-relend-prefix-tabulate-card c = search needs
 
 -- src/compare.rt:172:59
 slice-aggregate-tabulate-card : tie.Need-slice-aggregate-tabulate-card
-slice-aggregate-tabulate-card c = ?
+slice-aggregate-tabulate-card c = search needs
 
 -- src/compare.rt:172:9
 tabulate-card-requires : tie.Need-tabulate-card-requires
@@ -44,11 +44,11 @@ place-requires c κs = ?
 
 -- src/compare.rt:174:16
 slice-reshare-prefix-fill-links : tie.Need-slice-reshare-prefix-fill-links
-slice-reshare-prefix-fill-links c = ?
+slice-reshare-prefix-fill-links c = search needs
 
 -- src/compare.rt:174:16
 slice-aggregate-fill-links : tie.Need-slice-aggregate-fill-links
-slice-aggregate-fill-links c = ?
+slice-aggregate-fill-links c = search needs
 
 -- src/compare.rt:174:5
 fill-links-requires : tie.Need-fill-links-requires

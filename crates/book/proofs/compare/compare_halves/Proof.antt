@@ -18,7 +18,7 @@ place-requires c κs = search needs
 
 -- src/compare.rt:71:9
 slice-aggregate-low : tie.Need-slice-aggregate-low
-slice-aggregate-low c = ?
+slice-aggregate-low c = search needs
 
 -- src/compare.rt:72:35
 place-requires-2 : tie.Need-place-requires-2

@@ -1,42 +1,53 @@
+-- At the loop's head no card from `from` on before n is wanted.
+use Prim.Native.Nat.{ℕ, _≤_, _<_, _-_}
+use mathlib.Core.Bool.{false}
+use mathlib.Core.Path.{_∙_, _≡_, ap, sym}
+use native.Mathlib.Decide.{ℕ-discrete}
+use native.Mathlib.Omega.{arith}
+use Rattle.book.specs.Tables.{wanted}
 use Rattle.book.proofs.compare.next_wanted.Statement.{statement}
 use Rattle.book.proofs.compare.next_wanted.Tie as tie
-use Rattle.book.proofs.compare.next_wanted.Reads as reads
-use Rattle.book.proofs.compare.next_wanted.Lts as lts
-use Rattle.book.proofs.compare.is_wanted.Reads as is-wanted-reads
 
 abbrev Inv-loop : tie.InvT-loop
-Inv-loop covering hidden m from count n₀ n = ?
+Inv-loop covering hidden m from count n₀ n = ((from ≤ n) × (n ≤ count)) × ((k : ℕ) → from ≤ k → k < n → wanted covering hidden m k ≡ false)
 
 abbrev μ-loop : tie.MeasureT-loop
-μ-loop covering hidden m from count n₀ n = ?
+μ-loop covering hidden m from count n₀ n = count - n
 
--- src/compare.rt:118:5
 loop-holds : tie.Need-loop-holds Inv-loop μ-loop
-loop-holds c = ?
+loop-holds c = ((omega arith, c .pre .1 .0), λ k a b. absurd (omega arith))
 
--- src/compare.rt:119:12
 is-wanted-requires : tie.Need-is-wanted-requires Inv-loop μ-loop
-is-wanted-requires c κs = ?
+is-wanted-requires c κs = (c .before .before .pre .0, omega (arith, c .loop-test .taken, c .before .before .pre .1 .1))
 
--- src/compare.rt:120:13
 returns : tie.Need-returns Inv-loop μ-loop
-returns c = ?
+returns c =
+    let l = c .before .before .before .loop in
+    (l .inv .0, (l .inv .1, λ _. sym (c .before .is-wanted .ensures) ∙ c .if1 .taken))
 
--- src/compare.rt:122:9
 add-n : tie.Need-add-n Inv-loop μ-loop
-add-n c = ?
+add-n c = omega (arith, c .before .before .loop-test .taken, c .before .before .before .before .pre .1 .1)
 
--- src/compare.rt:118:5
 loop-less : tie.Need-loop-less Inv-loop μ-loop
-loop-less c = ?
+loop-less c = omega (arith, c .before .before .loop-test .taken)
 
--- src/compare.rt:118:5
 loop-again : tie.Need-loop-again Inv-loop μ-loop
-loop-again c = ?
+loop-again c =
+    let a = c .before .before .before .before .args in
+    let l = c .before .before .before .loop in
+    let none = sym (c .before .is-wanted .ensures) ∙ c .if1 .left in
+    (
+      (omega (arith, l .inv .0 .0), omega (arith, c .before .before .loop-test .taken)),
+      λ k b e. elim (ℕ-discrete k (l .n)) [
+        | yes s ↦ ap (wanted (a .covering) (a .hidden) (a .m)) s ∙ none
+        | no u ↦ l .inv .1 k b (omega (arith, u))
+      ],
+    )
 
--- src/compare.rt:113:1
 returns-2 : tie.Need-returns-2 Inv-loop μ-loop
-returns-2 c = ?
+returns-2 c =
+    let l = c .before .loop in
+    (l .inv .0, (l .inv .1, λ b. absurd (omega (arith, b, c .loop-test .left))))
 
 pub next-wanted-spec : {M : Type 1} → statement M
 next-wanted-spec =

@@ -1,35 +1,29 @@
+-- A card that is passed over stays so; else the test says.
+use denote.Ref.{now}
+use mathlib.Core.Path.{_∙_, sym}
+use Rattle.homomorphism.specs.Search.{rowMaps}
+use Rattle.book.proofs.CardSets.{with-more, with-none, with-there}
 use borrow.Author.Needs.{needs}
 use Rattle.book.proofs.compare.pass_over.Statement.{statement}
 use Rattle.book.proofs.compare.pass_over.Tie as tie
-use Rattle.book.proofs.compare.pass_over.Reads as reads
-use Rattle.book.proofs.compare.pass_over.Lts as lts
-use Rattle.book.proofs.covering.table_covers.Reads as table-covers-reads
-use Rattle.book.proofs.word.has_card.Reads as has-card-reads
-use Rattle.book.proofs.word.with_card.Reads as with-card-reads
 
--- src/compare.rt:46:8
 has-card-requires : tie.Need-has-card-requires
 has-card-requires c κs = search needs
 
--- src/compare.rt:47:9
 returns : tie.Need-returns
-returns c = ?
+returns c = with-there (c .before .before .before .before .args .hidden) (c .before .before .before .before .args .k) (rowMaps (now (c .before .before .before .before .args .first)) (now (c .before .before .before .before .args .second)) (c .before .before .before .before .args .depth) 0 0) (sym (c .before .has-card .ensures) ∙ c .if1 .taken)
 
--- src/compare.rt:49:8
 table-covers-requires : tie.Need-table-covers-requires
 table-covers-requires c κs = search needs
 
--- src/compare.rt:50:9
 with-card-requires : tie.Need-with-card-requires
 with-card-requires c κs = search needs
 
--- src/compare.rt:50:9
 returns-2 : tie.Need-returns-2
-returns-2 c = ?
+returns-2 c = with-more (c .before .before .before .before .before .before .before .args .hidden) (c .before .before .before .before .before .before .before .args .k) (rowMaps (now (c .before .before .before .before .before .before .before .args .first)) (now (c .before .before .before .before .before .before .before .args .second)) (c .before .before .before .before .before .before .before .args .depth) 0 0) (c .with-card .result) (sym (c .before .before .table-covers .ensures) ∙ c .before .if2 .taken) (c .with-card .ensures)
 
--- src/compare.rt:32:1
 returns-3 : tie.Need-returns-3
-returns-3 c = ?
+returns-3 c = with-none (c .before .before .before .before .before .before .args .hidden) (c .before .before .before .before .before .before .args .k) (rowMaps (now (c .before .before .before .before .before .before .args .first)) (now (c .before .before .before .before .before .before .args .second)) (c .before .before .before .before .before .before .args .depth) 0 0) (sym (c .before .table-covers .ensures) ∙ c .if2 .left)
 
 pub pass-over-spec : {M : Type 1} → statement M
 pass-over-spec =

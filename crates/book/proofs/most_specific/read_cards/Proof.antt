@@ -20,7 +20,7 @@ read-card-requires c κs = ?
 
 -- src/most_specific.rt:55:17
 enum-told : tie.Need-enum-told Inv-loop μ-loop
-enum-told c = ?
+enum-told c = search needs
 
 -- src/most_specific.rt:55:17
 add-k : tie.Need-add-k Inv-loop μ-loop
@@ -36,7 +36,7 @@ loop-again c = ?
 
 -- src/most_specific.rt:57:29
 enum-known-refusal : tie.Need-enum-known-refusal Inv-loop μ-loop
-enum-known-refusal c = ?
+enum-known-refusal c = search needs
 
 -- src/most_specific.rt:58:17
 returns : tie.Need-returns Inv-loop μ-loop

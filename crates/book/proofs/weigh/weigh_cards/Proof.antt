@@ -1,70 +1,52 @@
+-- At the loop's head the cards below k are weighed.
+use Prim.Native.Nat.{_-_}
+use native.Mathlib.Omega.{arith}
+use borrow.Author.Needs.{needs}
+use denote.Ref.{now}
+use lib.ListN.{length}
+use mathlib.Core.Path.{_∙_, _≡_, refl, sym}
+use Rattle.book.proofs.Weighings.{Weighed, weigh-all, weigh-fits, weigh-next, weigh-no, weigh-start}
 use Rattle.book.proofs.weigh.weigh_cards.Statement.{statement}
 use Rattle.book.proofs.weigh.weigh_cards.Tie as tie
-use Rattle.book.proofs.weigh.weigh_cards.Reads as reads
-use Rattle.book.proofs.weigh.weigh_cards.Lts as lts
-use Rattle.book.proofs.weigh.weigh.Reads as weigh-reads
-use Rattle.book.proofs.word.bit.Reads as bit-reads
 
 abbrev Inv-loop : tie.InvT-loop
-Inv-loop book places count limits table n links scratch₀ word₀ k₀ scratch word k = ?
+Inv-loop book places count limits table n links scratch₀ word₀ k₀ scratch word k = (length scratch ≡ 6147) × Weighed limits table book count word k
 
 abbrev μ-loop : tie.MeasureT-loop
-μ-loop book places count limits table n links scratch₀ word₀ k₀ scratch word k = ?
+μ-loop book places count limits table n links scratch₀ word₀ k₀ scratch word k = count - k
 
--- src/weigh.rt:83:5
 loop-holds : tie.Need-loop-holds Inv-loop μ-loop
-loop-holds c = ?
+loop-holds c = (refl, weigh-start (c .before .before .args .limits) (now (c .before .before .args .table)) (now (c .before .before .args .book)) (c .before .before .args .count))
 
--- src/weigh.rt:93:13
 slice-aggregate-weigh : tie.Need-slice-aggregate-weigh Inv-loop μ-loop
-slice-aggregate-weigh c = ?
+slice-aggregate-weigh c = sym (c .before .before .loop .inv .0)
 
--- src/weigh.rt:84:15
 weigh-requires : tie.Need-weigh-requires Inv-loop μ-loop
-weigh-requires c κs = ?
+weigh-requires c κs = (c .before .before .before .before .before .pre .0, (c .before .before .before .before .before .pre .1 .0, (c .before .loop-test .taken, (c .before .before .before .before .before .pre .1 .1, omega (arith, c .before .before .before .before .before .pre .0 .0, c .before .before .loop .inv .0)))))
 
--- src/weigh.rt:96:25
-enum-told : tie.Need-enum-told Inv-loop μ-loop
-enum-told c = ?
+enum-known-one : tie.Need-enum-known-one Inv-loop μ-loop
+enum-known-one c = search needs
 
--- src/weigh.rt:96:25
-bit-requires : tie.Need-bit-requires Inv-loop μ-loop
-bit-requires c κs = ?
-
--- src/weigh.rt:96:17
 add-word : tie.Need-add-word Inv-loop μ-loop
-add-word c = ?
+add-word c = weigh-fits (c .before .before .before .before .before .before .before .before .before .before .args .limits) (now (c .before .before .before .before .before .before .before .before .before .before .args .table)) (now (c .before .before .before .before .before .before .before .before .before .before .args .book)) (c .before .before .before .before .before .before .before .before .before .before .args .count) (c .before .before .before .before .before .before .before .loop .word) (c .before .before .before .before .before .before .before .loop .k) (c .before .before .before .before .before .before .before .loop .inv .1) (c .before .before .before .before .before .before .loop-test .taken) (c .before .one .given .0 .0) (sym (%one .1) ∙ c .before .before .before .before .weigh .ensures .0) (c .before .before .before .before .before .before .before .before .before .before .pre .1 .0 .places-are .most)
 
-enum-told-2 : tie.Need-enum-told-2 Inv-loop μ-loop
-enum-told-2 c = ?
-
--- src/weigh.rt:102:40
-enum-told-3 : tie.Need-enum-told-3 Inv-loop μ-loop
-enum-told-3 c = ?
-
--- src/weigh.rt:102:40
-cast-t16 : tie.Need-cast-t16 Inv-loop μ-loop
-cast-t16 c = ?
-
--- src/weigh.rt:100:17
-returns : tie.Need-returns Inv-loop μ-loop
-returns c = ?
-
--- src/weigh.rt:106:9
 add-k : tie.Need-add-k Inv-loop μ-loop
-add-k c = ?
+add-k c = omega (arith, c .before .before .before .before .before .before .loop-test .taken, c .before .before .before .before .before .before .before .before .before .before .pre .1 .0 .places-are .most)
 
--- src/weigh.rt:83:5
 loop-less : tie.Need-loop-less Inv-loop μ-loop
-loop-less c = ?
+loop-less c = omega (arith, c .before .before .before .before .before .before .loop-test .taken)
 
--- src/weigh.rt:83:5
 loop-again : tie.Need-loop-again Inv-loop μ-loop
-loop-again c = ?
+loop-again c = (c .before .before .before .before .weigh .ensures .1 ∙ c .before .before .before .before .before .before .before .loop .inv .0, weigh-next (c .before .before .before .before .before .before .before .before .before .before .args .limits) (now (c .before .before .before .before .before .before .before .before .before .before .args .table)) (now (c .before .before .before .before .before .before .before .before .before .before .args .book)) (c .before .before .before .before .before .before .before .before .before .before .args .count) (c .before .before .before .before .before .before .before .loop .word) (c .before .before .before .before .before .before .before .loop .k) (c .before .before .before .before .before .before .before .loop .inv .1) (c .before .before .before .before .before .before .loop-test .taken) (c .before .one .given .0 .0) (sym (%one .1) ∙ c .before .before .before .before .weigh .ensures .0))
 
--- src/weigh.rt:68:1
+enum-known-refusal : tie.Need-enum-known-refusal Inv-loop μ-loop
+enum-known-refusal c = search needs
+
+returns : tie.Need-returns Inv-loop μ-loop
+returns c = weigh-no (c .before .before .before .before .before .before .before .before .before .before .args .limits) (now (c .before .before .before .before .before .before .before .before .before .before .args .table)) (now (c .before .before .before .before .before .before .before .before .before .before .args .book)) (c .before .before .before .before .before .before .before .before .before .before .args .count) (c .before .before .before .before .before .before .before .loop .word) (c .before .before .before .before .before .before .before .loop .k) (c .before .before .before .before .before .before .before .loop .inv .1) (c .before .before .before .before .before .before .loop-test .taken) (c .before .refusal .given .0 .0) (sym (c .before .refusal .given .1) ∙ c .before .before .before .before .weigh .ensures .0)
+
 returns-2 : tie.Need-returns-2 Inv-loop μ-loop
-returns-2 c = ?
+returns-2 c = weigh-all (c .before .before .before .before .args .limits) (now (c .before .before .before .before .args .table)) (now (c .before .before .before .before .args .book)) (c .before .before .before .before .args .count) (c .before .loop .word) (c .before .loop .k) (c .before .loop .inv .1) (c .loop-test .left)
 
 pub weigh-cards-spec : {M : Type 1} → statement M
 weigh-cards-spec =
@@ -75,14 +57,11 @@ weigh-cards-spec =
     loop-holds
     slice-aggregate-weigh
     weigh-requires
-    enum-told
-    bit-requires
+    enum-known-one
     add-word
-    enum-told-2
-    enum-told-3
-    cast-t16
-    returns
     add-k
     loop-less
     loop-again
+    enum-known-refusal
+    returns
     returns-2)
