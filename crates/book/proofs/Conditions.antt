@@ -2,24 +2,28 @@
 -- specs/Calls). Each sentence of paper 01 stands above what says it. The limits are any; those of the paper, with its numbers, are `benchLimits`.
 --
 -- The case and the book are lists of any numbers, bytes among them; what the work space holds beforehand is no argument of the answer, only its length is.
--- `card book n` is the value of the book's field n and `cardCount` how many cards it has (specs/Form; that these are so of a book with the form, and of every
--- book that is written as the paper says: proofs/Forms, proofs/WrittenBooks). `Covers` is 003, Definition 1, with Table 1's extensions, over finite
--- interpretations (meaning, specs/Covering). `MostSpecific` is the definition of a nearest card, with `Covers` (specs/Selection). `AcceptableBook` says that 2
--- to 13, 24 and 14 are answered yes of the case, the book and every card (specs/Call); `FirstNo` which question is the first that is not (proofs/Orders).
+-- `card book n` is the value of the book's field n and `cardCount` how many cards it has (specs/Form; a book of bytes has the form exactly if it is written as
+-- the paper says, and these are then what was written: proofs/WrittenBooks, `form-exactly` and `book-written`). `Covers` is 003, Definition 1, with Table 1's
+-- extensions, over finite interpretations (meaning, specs/Covering). `MostSpecific` is the definition of a nearest card, with `Covers` (specs/Selection).
+-- `AcceptableBook` says that 2 to 13, 24 and 14 are answered yes of the case, the book and every card (specs/Call); `FirstNo` which question is the first that
+-- is not (proofs/Orders).
 --
---   SaysCards       a word is given
---   NearestCards    what the call gives for a case and a book, when it refuses, and what it leaves in the work space
---   nearest-cards   so it is, of every case and book
---   paper-limits    paper 01's limits are such that the code can hold them, and have its lengths
+--   SaysCards, SaysRefusal   a word is given; the call refuses
+--   NearestCards             what the call gives for a case and a book, when it refuses, and what it leaves in the work space
+--   nearest-cards            so it is, of every case and book
+--   paper-limits             paper 01's limits are such that the code can hold them, and have its lengths
 use Prim.Native.Nat.{_<_, _^_, _≤_, ℕ}
+use borrow.Author.Tests.{leb-false, leb-true}
+use lib.Dec.{leb}
 use lib.ListN.{getD, length}
 use mathlib.Core.Bool.{false, true}
 use mathlib.Core.List.{List}
-use mathlib.Core.Logic.{_↔_, _⊎_}
-use mathlib.Core.Path.{_∙_, _≡_, refl, subst, sym}
+use mathlib.Core.Logic.{_↔_, _⊎_, inl, inr, ⊎-elim}
+use mathlib.Core.Path.{_≡_, refl, subst, sym}
 use native.Mathlib.Omega.{arith}
 use Rattle.normal.specs.Call.{shortBuffer}
 use Rattle.picture.specs.declared.answer.Refusal.{Refusal}
+use Rattle.table.proofs.Bools.{by-test}
 use Rattle.table.specs.Bounds.{Bounded, benchLimits}
 use Rattle.table.specs.NameSet.{has}
 use Rattle.table.specs.declared.layout.Limits.{Limits}
@@ -51,6 +55,8 @@ pub record NearestCards (limits : Limits) (case book : List ℕ) : Type 0 where
   pub fits : (room word : ℕ) → mostSpecificAnswer limits case book room ≡ Cards word → word < 2 ^ mostCards
   -- "Nothing else is refused": a word is given exactly if the work space has the length laid down and 2 to 13, 24 and 14 are answered yes
   pub given-exactly : (room : ℕ) → SaysCards (mostSpecificAnswer limits case book room) ↔ ((workSize limits ≤ room) × AcceptableBook limits case book)
+  -- it is refused exactly if the work space is short or one of these is answered no
+  pub refused-when : (room : ℕ) → SaysRefusal (mostSpecificAnswer limits case book room) ↔ ((room < workSize limits) ⊎ (AcceptableBook limits case book → ⊥))
   -- "Order: 1; case; 24 and the cards in turn; 14 for each in that order": a refusal is 1 exactly if the work space is short, and else the first no
   pub refused-exactly : (room : ℕ) (r : Refusal) → (mostSpecificAnswer limits case book room ≡ Refused r) ↔
       (((room < workSize limits) × (r ≡ shortBuffer)) ⊎ ((workSize limits ≤ room) × FirstNo limits case book r))
@@ -68,6 +74,22 @@ pub record NearestCards (limits : Limits) (case book : List ℕ) : Type 0 where
   pub beyond : (work : List ℕ) (i : ℕ) → workSize limits ≤ i → getD (mostSpecificWork limits case book work) i 0 ≡ getD work i 0
   pub kept : (work : List ℕ) → length (mostSpecificWork limits case book work) ≡ length work
 
+module _ (limits : Limits) (case book : List ℕ) (room : ℕ) where
+  -- one answer is not both
+  refused-not : SaysRefusal (mostSpecificAnswer limits case book room) → SaysCards (mostSpecificAnswer limits case book room) → ⊥
+  refused-not (r, e) (word, f) = let z : _≡_ {A = ℕ} 0 1 = cc in omega arith
+
+  refused-unless : SaysRefusal (mostSpecificAnswer limits case book room) ↔ ((room < workSize limits) ⊎ (AcceptableBook limits case book → ⊥))
+  refused-unless =
+      let cards = answered-exactly limits case book room in (
+        λ refused. by-test (leb (workSize limits) room)
+            (λ long. inr (λ acceptable. refused-not refused (cards .1 (leb-true (workSize limits) room long, acceptable))))
+            (λ short. inl (leb-false (workSize limits) room short)),
+        λ why. ⊎-elim
+            (λ given. absurd (⊎-elim (λ (short : room < workSize limits). omega (arith, cards .0 given .0)) (λ u. u (cards .0 given .1)) why))
+            (λ refused. refused) (answered-or-refused limits case book room),
+      )
+
 pub nearest-cards : (limits : Limits) (case book : List ℕ) → NearestCards limits case book
 nearest-cards limits case book =
     let by-word : (P : ℕ → Type 0) (room word : ℕ) → mostSpecificAnswer limits case book room ≡ Cards word →
@@ -80,6 +102,7 @@ nearest-cards limits case book =
       past = λ room word h n l. by-word (λ w. has w n ≡ false) room word h (past-last limits case book n l);
       fits = λ room word h. by-word (λ w. w < 2 ^ mostCards) room word h (word-below limits case book);
       given-exactly = answered-exactly limits case book;
+      refused-when = refused-unless limits case book;
       refused-exactly = λ room r. refused-exactly limits case book room r;
       refused-only = book-refusal limits case book;
       one = answered-or-refused limits case book;

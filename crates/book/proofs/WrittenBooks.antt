@@ -1,23 +1,28 @@
--- A book as the paper says it is written, card after card and then the end field, is read as these cards.
+-- A book as the paper says it is written, card after card and then the end field, is read as these cards; and every book of bytes with the form is so written.
 --   bookBytes      the bytes of a book with given cards
 --   Short          each card's length is a number of two bytes
 --   book-written   it has the form, with so many cards, and these
-use Prim.Native.Nat.{_+_, _<_, _≤_, suc, zero, ℕ}
+--   cardsOf        the cards of a book
+--   written-book   a book of bytes with the form has the bytes of its cards
+--   form-exactly   so 24 is answered yes exactly of what is written from at most 32 cards
+use Prim.Native.Nat.{_%_, _*_, _+_, _/_, _<_, _≤_, suc, zero, ℕ}
 use borrow.Author.Tests.{le-leb}
-use lib.ListN.{drop, getD, length, length-append, take}
-use lib.Seq.{drop-at, getD-append-seam, take-append-seam}
+use lib.ListN.{drop, drop-of-length-le, getD, length, length-append, take, take-append-drop}
+use lib.Seq.{drop-at, drop-cons, drop-drop, getD-append-seam, take-append-seam}
 use mathlib.Core.Bool.{true}
 use mathlib.Core.List.{List, [], _++_, _∷_, append-assoc}
+use mathlib.Core.Logic.{_↔_}
 use mathlib.Core.Path.{_∙_, _≡_, ap, refl, subst, sym}
 use native.Mathlib.Nat.{add-zero, zero-add}
+use native.Mathlib.Numerals.{add-one}
 use native.Mathlib.Omega.{arith}
-use Rattle.table.proofs.Numbers.{be-append-right, be-inside, length-beBytes}
-use Rattle.table.proofs.Rows.{parts-ends}
+use Rattle.table.proofs.Numbers.{be-append-right, be-inside, be-two, length-beBytes}
+use Rattle.table.proofs.Rows.{ends-parts, parts-ends}
 use Rattle.table.specs.Fields.{endBytes, endsAt}
 use Rattle.table.specs.Layout.{headSize, lengthAt, numberSize}
-use Rattle.table.specs.Number.{be, beBytes}
+use Rattle.table.specs.Number.{Bytes, be, beBytes}
 use Rattle.book.specs.Form.{bookForm, card, cardAt, cardCount, cardTag, fieldPlace, lengthSaid, mostCards, nextPlace}
-use Rattle.book.proofs.Forms.{BookOf, after-card, form-count}
+use Rattle.book.proofs.Forms.{BookOf, after-card, card-tag, card-whole, cards-before, count-form, count-most, form-count, length-card}
 
 abbrev pub bookBytes : List (List ℕ) → List ℕ
 bookBytes [] = endBytes
@@ -151,3 +156,97 @@ module _ (cards : List (List ℕ)) (few : length cards ≤ mostCards) (short : S
   book-written =
       let (form, count) = form-count (bookBytes cards) (length cards) book-of in
       (form, count, λ k l. ap (λ (n : ℕ). card (bookBytes cards) n) (sym (zero-add k)) ∙ read .are k l)
+
+-- ---- and back
+
+-- the cards from card k on, so many
+abbrev cardsAfter : List ℕ → ℕ → ℕ → List (List ℕ)
+cardsAfter book zero k = []
+cardsAfter book (suc more) k = card book k ∷ cardsAfter book more (k + 1)
+
+abbrev pub cardsOf : List ℕ → List (List ℕ)
+cardsOf book = cardsAfter book (cardCount book) 0
+
+number-bytes : (a b : ℕ) → a < 256 → b < 256 → beBytes numberSize (a * 256 + b) ≡ a ∷ b ∷ []
+unfolding beBytes
+number-bytes a b h l =
+    let high : (a * 256 + b) / 256 % 256 ≡ a = omega arith in
+    let low : (a * 256 + b) / 1 % 256 ≡ b = omega arith in
+    rw (high, low)
+
+module _ (book : List ℕ) where
+  one-byte : (i j : ℕ) → i < length book → j ≡ i + 1 → drop i book ≡ getD book i 0 ∷ drop j book
+  one-byte i j l e = drop-cons book i 0 l ∙ ap (λ (n : ℕ). getD book i 0 ∷ drop n book) (sym (add-one i) ∙ sym e)
+
+  head-bytes : (at : ℕ) → at + headSize ≤ length book →
+      drop at book ≡ getD book at 0 ∷ getD book (at + 1) 0 ∷ getD book (at + 2) 0 ∷ drop (at + headSize) book
+  head-bytes at l =
+      one-byte at (at + 1) (omega arith) refl
+      ∙ ap (λ (r : List ℕ). getD book at 0 ∷ r)
+      (one-byte (at + 1) (at + 2) (omega arith) (omega arith)
+      ∙ ap (λ (r : List ℕ). getD book (at + 1) 0 ∷ r) (one-byte (at + 2) (at + headSize) (omega arith) (omega arith)))
+
+  said : (at : ℕ) → lengthSaid book at ≡ getD book (at + 1) 0 * 256 + getD book (at + 2) 0
+  said at = be-two book (at + 1) ∙ ap (λ (n : ℕ). getD book (at + 1) 0 * 256 + getD book n 0) (omega arith)
+
+  end-bytes : (at : ℕ) → endsAt book at ≡ true → drop at book ≡ endBytes
+  unfolding endBytes beBytes
+  end-bytes at h =
+      let (long, tag, none) = ends-parts book at h in
+      let high : getD book (at + 1) 0 ≡ 0 = omega (arith, said at) in
+      let low : getD book (at + 2) 0 ≡ 0 = omega (arith, said at) in
+      head-bytes at (omega arith) ∙ rw (tag, high, low, drop-of-length-le book {i = at + headSize} (omega arith))
+
+  after-head : (k : ℕ) → drop (fieldPlace book k + headSize) book ≡ card book k ++ drop (fieldPlace book (k + 1)) book
+  unfolding card
+  after-head k =
+      let at = fieldPlace book k in
+      let n = lengthSaid book at in
+      sym (take-append-drop n (drop (at + headSize) book))
+      ∙ ap (λ (r : List ℕ). card book k ++ r) (drop-drop n (at + headSize) book ∙ ap (λ (m : ℕ). drop m book) (sym (after-card book k)))
+
+  module _ (bytes : Bytes book) where
+    said-short : (at : ℕ) → lengthSaid book at ≤ mostLength
+    said-short at = omega (arith, said at, bytes (at + 1), bytes (at + 2))
+
+    card-bytes : (k : ℕ) → cardAt book (fieldPlace book k) ≡ true → length (card book k) ≡ lengthSaid book (fieldPlace book k) →
+        drop (fieldPlace book k) book
+        ≡ cardTag ∷ (beBytes numberSize (length (card book k)) ++ (card book k ++ drop (fieldPlace book (k + 1)) book))
+    card-bytes k h sized =
+        let at = fieldPlace book k in
+        let inside = card-whole book at h in
+        let number : beBytes numberSize (length (card book k)) ≡ getD book (at + 1) 0 ∷ getD book (at + 2) 0 ∷ [] =
+        ap (beBytes numberSize) (sized ∙ said at) ∙ number-bytes (getD book (at + 1) 0) (getD book (at + 2) 0) (bytes (at + 1)) (bytes (at + 2)) in
+        head-bytes at (omega arith) ∙ rw (card-tag book at h, after-head k, number)
+
+    after-bytes : (more k : ℕ) → k + more ≡ cardCount book → bookForm book ≡ true → drop (fieldPlace book k) book ≡ bookBytes (cardsAfter book more k)
+    after-bytes zero k e h =
+        let last : k ≡ cardCount book = omega arith in
+        end-bytes (fieldPlace book k) (ap (λ (n : ℕ). endsAt book (fieldPlace book n)) last ∙ count-form book h .ends)
+    after-bytes (suc more) k e h =
+        card-bytes k (cards-before book k (omega arith)) (length-card book k (omega arith))
+        ∙ ap (λ (r : List ℕ). cardTag ∷ (beBytes numberSize (length (card book k)) ++ (card book k ++ r))) (after-bytes more (k + 1) (omega arith) h)
+
+    pub written-book : bookForm book ≡ true → book ≡ bookBytes (cardsOf book)
+    unfolding fieldPlace
+    written-book h = after-bytes (cardCount book) 0 (omega arith) h
+
+    length-after : (more k : ℕ) → length (cardsAfter book more k) ≡ more
+    length-after zero k = refl
+    length-after (suc more) k = ap suc (length-after more (k + 1))
+
+    short-after : (more k : ℕ) → k + more ≡ cardCount book → Short (cardsAfter book more k)
+    short-after zero k e j l = absurd (omega arith)
+    short-after (suc more) k e zero l = omega (arith, length-card book k (omega arith), said-short (fieldPlace book k))
+    short-after (suc more) k e (suc j) l = short-after more (k + 1) (omega arith) j (omega arith)
+
+    pub form-exactly : (bookForm book ≡ true) ↔ ((cards : List (List ℕ)) × (length cards ≤ mostCards) × Short cards × (book ≡ bookBytes cards))
+    form-exactly = (
+      λ h. (
+        cardsOf book,
+        omega (arith, length-after (cardCount book) 0, count-most book),
+        short-after (cardCount book) 0 (omega arith),
+        written-book h,
+      ),
+      λ (cards, few, short, is). ap bookForm is ∙ book-written cards few short .0,
+    )

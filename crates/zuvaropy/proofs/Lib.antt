@@ -5,5 +5,6 @@ pub mod PairWords
 pub mod VerifyWords
 pub mod SubsumesWords
 pub mod LcsWords
+pub mod MostSpecificWords
 pub mod EmptySubsumes
 pub mod StarredHold

@@ -21,9 +21,11 @@ use Rattle.picture.specs.View.{Readable, rowCount}
 use Rattle.evidence.specs.declared.check.Verified.the-variants as verified
 use Rattle.lcs.specs.Call.{tooLarge}
 use Rattle.lcs.specs.declared.common.Common.the-variants as common
+use Rattle.book.specs.Call.{noBook}
+use Rattle.book.specs.declared.answer.Selected.the-variants as selected
 use Rattle.subsumption.specs.declared.verdict.Verdict.the-variants as verdict
 use Rattle.picture.proofs.Readables.{reading-answer, reading-number, readable-count}
-use Rattle.zuvaropy.specs.Word.{outcomeYes, inputCode, cardOf, commonWord, valueWord, refusalWord, readWord, verdictWord, verifiedWord}
+use Rattle.zuvaropy.specs.Word.{outcomeYes, inputCode, cardOf, commonWord, valueWord, refusalWord, readWord, selectedWord, verdictWord, verifiedWord}
 use Rattle.zuvaropy.specs.Calls.{validateWord}
 
 abbrev pub outcome : ℕ → ℕ
@@ -87,6 +89,8 @@ words =
     ∷ commonWord (common.Refused tooLarge)
     ∷ verifiedWord verified.MapTaken
     ∷ verifiedWord verified.RefutationTaken
+    ∷ selectedWord (selected.Cards 0xFFFFFFFF)
+    ∷ selectedWord (selected.Refused noBook)
     ∷ []
 
 -- in hex each byte is a part: outcome, question, input, card, and four of value
@@ -104,6 +108,8 @@ pub codes-agree : words ≡
     ∷ 0x000F020000000000
     ∷ 0x0100000000000000
     ∷ 0x0200000000000000
+    ∷ 0x01000000FFFFFFFF
+    ∷ 0x0018040000000000
     ∷ []
 codes-agree = refl
 

@@ -4,6 +4,7 @@
 --   subsumesWord, subsumesSpace, subsumesBuffer   the verdict with evidence
 --   lcsWord, lcsSpace, lcsBuffer                  the common picture
 --   verifyWord, verifySpace                       the check of evidence
+--   mostSpecificWord, mostSpecificSpace           the nearest cards
 use mathlib.Core.List.{List}
 use Prim.Native.Nat.{ℕ}
 use Rattle.table.specs.Bounds.{benchLimits}
@@ -12,8 +13,9 @@ use Rattle.picture.specs.Read.{answerOf}
 use Rattle.normal.specs.Call.{normalizeAnswer, normalizeResult}
 use Rattle.evidence.specs.Call.{verifyAnswer, verifyWork}
 use Rattle.lcs.specs.Call.{lcsAnswer, lcsResult, lcsWork}
+use Rattle.book.specs.Call.{mostSpecificAnswer, mostSpecificWork}
 use Rattle.subsumption.specs.Call.{subsumesAnswer, subsumesResult, subsumesWork}
-use Rattle.zuvaropy.specs.Word.{commonWord, normalizedWord, readWord, verdictWord, verifiedWord}
+use Rattle.zuvaropy.specs.Word.{commonWord, normalizedWord, readWord, selectedWord, verdictWord, verifiedWord}
 
 -- Test one picture; give its row count. A single picture is the first input.
 unfoldable pub validateWord : List ℕ → ℕ
@@ -59,3 +61,11 @@ verifyWord first second evidence room = verifiedWord (verifyAnswer benchLimits f
 -- the work space: the first normal table from byte 0, the second from byte 6,147, the rest of each half zero; nothing written by 1 to 14
 unfoldable pub verifySpace : List ℕ → List ℕ → List ℕ → List ℕ
 verifySpace first second work = verifyWork benchLimits first second work
+
+-- Nearest cards for a case, as a 32-bit word, bit n for card n: 1 of the work space, so many bytes long; case; 24 and the cards in turn; 14 of each.
+unfoldable pub mostSpecificWord : List ℕ → List ℕ → ℕ → ℕ
+mostSpecificWord case book room = selectedWord (mostSpecificAnswer benchLimits case book room)
+
+-- the work space: 12,294 bytes zero where a word is answered, else nothing written
+unfoldable pub mostSpecificSpace : List ℕ → List ℕ → List ℕ → List ℕ
+mostSpecificSpace case book work = mostSpecificWork benchLimits case book work

@@ -14,6 +14,8 @@ use Rattle.evidence.specs.declared.check.Verified.{Verified}
 use Rattle.evidence.specs.declared.check.Verified.the-variants as verified
 use Rattle.lcs.specs.declared.common.Common.{Common}
 use Rattle.lcs.specs.declared.common.Common.the-variants as common
+use Rattle.book.specs.declared.answer.Selected.{Selected}
+use Rattle.book.specs.declared.answer.Selected.the-variants as selected
 use Rattle.subsumption.specs.declared.verdict.Verdict.{Verdict}
 use Rattle.subsumption.specs.declared.verdict.Verdict.the-variants as verdict
 
@@ -71,3 +73,8 @@ abbrev pub verifiedWord : Verified → ℕ
 verifiedWord verified.MapTaken = valueWord outcomeYes 0
 verifiedWord verified.RefutationTaken = valueWord outcomeNo 0
 verifiedWord (verified.Refused r) = refusalWord r
+
+-- the nearest cards: their word, card n as bit n, or the refusal
+abbrev pub selectedWord : Selected → ℕ
+selectedWord (selected.Cards word) = valueWord outcomeYes word
+selectedWord (selected.Refused r) = refusalWord r
