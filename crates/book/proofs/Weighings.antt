@@ -1,5 +1,6 @@
 -- Laws of weighing the cards: 14 of each, and whether it covers the case, over the case's table t.
 --   weighed-many, weighed-covers, weighed-not   the three answers for one card
+--   by-asked, by-refused                        what a word and what a refusal say of the questions
 --   Weighed                                     the cards below k are weighed, and the word has those that cover the case
 --   weigh-start, weigh-next, weigh-no, weigh-all   none; one more; 14 of a card is answered no; all
 --   weigh-fits                                  the word has room for one card more
@@ -55,11 +56,11 @@ module _ (limits : Limits) (t book : List ℕ) (k : ℕ) where
 
 -- ---- the cards in turn
 
-by-asked : (a : Asked) (word one : ℕ) → Cards one ≡ onAsked a word → (a ≡ Yes) × (one ≡ word)
+pub by-asked : (a : Asked) (word one : ℕ) → Cards one ≡ onAsked a word → (a ≡ Yes) × (one ≡ word)
 by-asked Yes word one e = (refl, cc)
 by-asked (No r) word one e = absurd (let z : _≡_ {A = ℕ} 0 1 = cc in omega arith)
 
-by-refused : (a : Asked) (word : ℕ) (r : Refusal) → Refused r ≡ onAsked a word → a ≡ No r
+pub by-refused : (a : Asked) (word : ℕ) (r : Refusal) → Refused r ≡ onAsked a word → a ≡ No r
 by-refused Yes word r e = absurd (let z : _≡_ {A = ℕ} 0 1 = cc in omega arith)
 by-refused (No q) word r e = cc
 

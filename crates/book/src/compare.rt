@@ -156,7 +156,7 @@ fn compare_rest(
     word
 }
 
-// Card m with all later ones.
+// Card m, if it covers the case, with all later ones.
 fn compare_card(
     book: &[u8],
     places: &[usize; PLACES],
@@ -167,9 +167,12 @@ fn compare_card(
     hidden: u32,
     work: &mut [u8],
 ) -> u32
-    requires { ⌜ (Bounded limits) × ((CardsTaken limits (now book) (now places) count) × ((m < count) × ((has covering m ≡ true) × ((Compared limits (now book) covering m hidden) × (length (now work) ≡ workSize limits))))) ⌝ }
-    ensures { λ r. ⌜ (ComparedTo limits (now (book .entry)) covering m count r) × (length (now (work .exit)) ≡ length (now (work .entry))) ⌝ }
+    requires { ⌜ (Bounded limits) × ((CardsTaken limits (now book) (now places) count) × ((m < count) × (((k : ℕ) → has covering k ≡ true → k < count) × ((Compared limits (now book) covering m hidden) × (length (now work) ≡ workSize limits))))) ⌝ }
+    ensures { λ r. ⌜ (Compared limits (now (book .entry)) covering (m + 1) r) × (length (now (work .exit)) ≡ length (now (work .entry))) ⌝ }
 {
+    if !has_card(covering, m) {
+        return hidden;
+    }
     let from = next_wanted(covering, hidden, m, m + 1, count);
     if from == count {
         return hidden;
@@ -202,15 +205,13 @@ fn compare_cards(
     covering: u32,
     work: &mut [u8],
 ) -> u32
-    requires { ⌜ (Bounded limits) × ((CardsTaken limits (now book) (now places) count) × (length (now work) ≡ workSize limits)) ⌝ }
+    requires { ⌜ (Bounded limits) × ((CardsTaken limits (now book) (now places) count) × (((k : ℕ) → has covering k ≡ true → k < count) × (length (now work) ≡ workSize limits))) ⌝ }
     ensures { λ r. ⌜ (Compared limits (now (book .entry)) covering count r) × (length (now (work .exit)) ≡ length (now (work .entry))) ⌝ }
 {
     let mut hidden: u32 = 0;
     let mut m = 0;
     while m < count {
-        if has_card(covering, m) {
-            hidden = compare_card(book, places, count, limits, covering, m, hidden, work);
-        }
+        hidden = compare_card(book, places, count, limits, covering, m, hidden, work);
         m += 1;
     }
     hidden

@@ -3,6 +3,8 @@ use crate::word::NO;
 use crate::word::YES;
 use crate::word::refusal_word;
 use crate::word::value_word;
+use book::answer::Selected;
+use book::most_specific::most_specific;
 use evidence::check::Verified;
 use evidence::verify::verify;
 use lcs::common::Common;
@@ -17,7 +19,7 @@ use subsumption::verdict::Verdict;
 use table::layout::Limits;
 ghost use mathlib.Core.Path.{_≡_};
 ghost use lib.ListN.{length};
-ghost use Rattle.zuvaropy.specs.Calls.{lcsBuffer, lcsSpace, lcsWord, validateWord, normalizeWord, normalizeBuffer, subsumesBuffer, subsumesSpace, subsumesWord, verifySpace, verifyWord};
+ghost use Rattle.zuvaropy.specs.Calls.{lcsBuffer, lcsSpace, lcsWord, mostSpecificSpace, mostSpecificWord, validateWord, normalizeWord, normalizeBuffer, subsumesBuffer, subsumesSpace, subsumesWord, verifySpace, verifyWord};
 
 mod word;
 
@@ -92,5 +94,16 @@ pub extern "C" fn zuvaropy_verify(
         Verified::MapTaken => value_word(YES, 0),
         Verified::RefutationTaken => value_word(NO, 0),
         Verified::Refused(refusal) => refusal_word(refusal),
+    }
+}
+
+// The most specific cards of a book that subsume a case: the nearest ones. The work space is zero then.
+#[no_mangle]
+pub extern "C" fn zuvaropy_most_specific(case: &[u8], book: &[u8], work: &mut [u8]) -> u64
+    ensures { λ r. ⌜ (r ≡ mostSpecificWord (now (case .entry)) (now (book .entry)) (length (now (work .entry)))) × (now (work .exit) ≡ mostSpecificSpace (now (case .entry)) (now (book .entry)) (now (work .entry))) ⌝ }
+{
+    match most_specific(case, book, Limits::bench(), work) {
+        Selected::Cards(word) => value_word(YES, word as u64),
+        Selected::Refused(refusal) => refusal_word(refusal),
     }
 }

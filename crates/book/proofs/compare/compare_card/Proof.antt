@@ -1,78 +1,80 @@
+-- A card that does not cover the case, or has no later one to be compared with, changes nothing; else its table comes into the lower half.
+use Prim.Native.Nat.{_+_, _<_}
+use native.Mathlib.Omega.{arith}
+use borrow.Author.Tests.{not-false, not-true}
+use denote.Ref.{now}
+use lib.Seq.{length-take-le}
+use mathlib.Core.Path.{_∙_, _≡_, refl, subst, sym}
+use Rattle.table.proofs.Stores.{blank}
+use Rattle.book.specs.Tables.{ComparedTo}
+use Rattle.book.proofs.Comparisons.{lower-checked, lower-fits, lower-length, lower-made, row-begun, row-ended, row-left, row-skipped}
 use borrow.Author.Needs.{needs}
 use Rattle.book.proofs.compare.compare_card.Statement.{statement}
 use Rattle.book.proofs.compare.compare_card.Tie as tie
-use Rattle.book.proofs.compare.compare_card.Reads as reads
-use Rattle.book.proofs.compare.compare_card.Lts as lts
-use Rattle.book.proofs.compare.compare_rest.Reads as compare-rest-reads
-use Rattle.book.proofs.compare.next_wanted.Reads as next-wanted-reads
-use Rattle.book.proofs.covering.tabulate_card.Reads as tabulate-card-reads
-use Rattle.normal.proofs.rows.fill_links.Reads as fill-links-reads
-use Rattle.table.proofs.layout.place.Reads as place-reads
-use Rattle.workspace.proofs.prepare.half_size.Reads as half-size-reads
 
--- src/compare.rt:167:49
+has-card-requires : tie.Need-has-card-requires
+has-card-requires c κs = search needs
+
+returns : tie.Need-returns
+returns c = (row-left (c .before .before .before .before .args .limits) (now (c .before .before .before .before .args .book)) (c .before .before .before .before .args .covering) (c .before .before .before .before .args .m) (c .before .before .before .before .args .hidden) (sym (c .before .has-card .ensures) ∙ not-true _ (c .if1 .taken)) (c .before .before .before .before .pre .1 .1 .1 .1 .0), refl)
+
 add-next-wanted : tie.Need-add-next-wanted
 add-next-wanted c = search needs
 
--- src/compare.rt:167:9
 next-wanted-requires : tie.Need-next-wanted-requires
 next-wanted-requires c κs = search needs
 
--- src/compare.rt:169:9
-returns : tie.Need-returns
-returns c = ?
+returns-2 : tie.Need-returns-2
+returns-2 c = (row-ended (c .before .before .before .before .before .before .args .limits) (now (c .before .before .before .before .before .before .args .book)) (c .before .before .before .before .before .before .args .covering) (c .before .before .before .before .before .before .args .m) (c .before .before .before .before .before .before .args .hidden) (c .before .before .before .before .before .before .args .count) (c .before .before .before .before .before .before .pre .1 .1 .1 .0) (subst (λ k. ComparedTo (c .before .before .before .before .before .before .args .limits) (now (c .before .before .before .before .before .before .args .book)) (c .before .before .before .before .before .before .args .covering) (c .before .before .before .before .before .before .args .m) k (c .before .before .before .before .before .before .args .hidden)) (c .if2 .taken) (row-skipped (c .before .before .before .before .before .before .args .limits) (now (c .before .before .before .before .before .before .args .book)) (c .before .before .before .before .before .before .args .covering) (c .before .before .before .before .before .before .args .m) (c .before .before .before .before .before .before .args .hidden) (c .before .before .before .before .before .before .args .m + 1) (c .before .next-wanted .result) (c .before .next-wanted .ensures .1 .0) (row-begun (c .before .before .before .before .before .before .args .limits) (now (c .before .before .before .before .before .before .args .book)) (c .before .before .before .before .before .before .args .covering) (c .before .before .before .before .before .before .args .m) (c .before .before .before .before .before .before .args .hidden) (c .before .before .before .before .before .before .pre .1 .1 .1 .1 .0)))), refl)
 
--- src/compare.rt:171:9
 half-size-requires : tie.Need-half-size-requires
 half-size-requires c κs = search needs
 
--- src/compare.rt:172:59
 slice-relend-prefix-tabulate-card : tie.Need-slice-relend-prefix-tabulate-card
 slice-relend-prefix-tabulate-card c = search needs
 
--- src/compare.rt:172:59
 slice-aggregate-tabulate-card : tie.Need-slice-aggregate-tabulate-card
-slice-aggregate-tabulate-card c = search needs
+slice-aggregate-tabulate-card c = sym (length-take-le (c .before .half-size .result) (now (c .before .before .before .before .before .before .before .before .args .work)) (omega (arith, c .before .half-size .ensures, c .before .before .before .before .before .before .before .before .pre .1 .1 .1 .1 .1)))
 
--- src/compare.rt:172:9
 tabulate-card-requires : tie.Need-tabulate-card-requires
-tabulate-card-requires c κs = ?
+tabulate-card-requires c κs =
+    let lent = length-take-le (c .before .half-size .result) (now (c .before .before .before .before .before .before .before .before .args .work)) (omega (arith, c .before .half-size .ensures, c .before .before .before .before .before .before .before .before .pre .1 .1 .1 .1 .1)) in
+    (c .before .before .before .before .before .before .before .before .pre .0, (c .before .before .before .before .before .before .before .before .pre .1 .0 .cards-read, (c .before .before .before .before .before .before .before .before .pre .1 .1 .0, omega (arith, lent, c .before .half-size .ensures))))
 
--- src/compare.rt:174:24
 place-requires : tie.Need-place-requires
-place-requires c κs = ?
+place-requires c κs = let fits = lower-fits (c .before .before .before .before .before .before .before .before .before .before .before .args .limits) (now (c .before .before .before .before .before .before .before .before .before .before .before .args .book)) (now (c .before .before .before .before .before .before .before .before .before .before .before .args .places)) (c .before .before .before .before .before .before .before .before .before .before .before .args .count) (c .before .before .before .before .before .before .before .before .before .before .before .pre .1 .0) (c .before .before .before .before .before .before .before .before .before .before .before .pre .0) (c .before .before .before .before .half-size .result) (c .before .before .before .before .half-size .ensures) (c .before .before .before .before .before .before .before .before .before .before .before .args .m) (c .before .before .tabulate-card .result) (c .before .before .before .before .before .before .before .before .before .before .before .pre .1 .1 .0) (now (c .before .before .before .before .before .before .before .before .before .before .before .args .work)) (c .before .before .tabulate-card .last .1 .1 .1 .1 .1 .0) (c .before .before .before .before .before .before .before .before .before .before .before .pre .1 .1 .1 .1 .1) (c .before .before .tabulate-card .ensures) in (omega (arith, fits, c .before .before .before .before .before .before .before .before .before .before .before .pre .0 .0), omega arith)
 
--- src/compare.rt:174:16
 slice-reshare-prefix-fill-links : tie.Need-slice-reshare-prefix-fill-links
-slice-reshare-prefix-fill-links c = search needs
+slice-reshare-prefix-fill-links c = let fits = lower-fits (c .before .before .before .before .before .before .before .before .before .before .before .before .args .limits) (now (c .before .before .before .before .before .before .before .before .before .before .before .before .args .book)) (now (c .before .before .before .before .before .before .before .before .before .before .before .before .args .places)) (c .before .before .before .before .before .before .before .before .before .before .before .before .args .count) (c .before .before .before .before .before .before .before .before .before .before .before .before .pre .1 .0) (c .before .before .before .before .before .before .before .before .before .before .before .before .pre .0) (c .before .before .before .before .before .half-size .result) (c .before .before .before .before .before .half-size .ensures) (c .before .before .before .before .before .before .before .before .before .before .before .before .args .m) (c .before .before .before .tabulate-card .result) (c .before .before .before .before .before .before .before .before .before .before .before .before .pre .1 .1 .0) (now (c .before .before .before .before .before .before .before .before .before .before .before .before .args .work)) (c .before .before .before .tabulate-card .last .1 .1 .1 .1 .1 .0) (c .before .before .before .before .before .before .before .before .before .before .before .before .pre .1 .1 .1 .1 .1) (c .before .before .before .tabulate-card .ensures) in let long = lower-length (c .before .before .before .before .before .before .before .before .before .before .before .before .args .limits) (now (c .before .before .before .before .before .before .before .before .before .before .before .before .args .book)) (now (c .before .before .before .before .before .before .before .before .before .before .before .before .args .places)) (c .before .before .before .before .before .before .before .before .before .before .before .before .args .count) (c .before .before .before .before .before .before .before .before .before .before .before .before .pre .1 .0) (c .before .before .before .before .before .before .before .before .before .before .before .before .pre .0) (c .before .before .before .before .before .half-size .result) (c .before .before .before .before .before .half-size .ensures) (c .before .before .before .before .before .before .before .before .before .before .before .before .args .m) (c .before .before .before .tabulate-card .result) (c .before .before .before .before .before .before .before .before .before .before .before .before .pre .1 .1 .0) (now (c .before .before .before .before .before .before .before .before .before .before .before .before .args .work)) (c .before .before .before .tabulate-card .last .1 .1 .1 .1 .1 .0) (c .before .before .before .before .before .before .before .before .before .before .before .before .pre .1 .1 .1 .1 .1) (c .before .before .before .tabulate-card .ensures) in omega (arith, fits, c .place .ensures, long, c .before .before .before .before .before .before .before .before .before .before .before .before .pre .1 .1 .1 .1 .1)
 
--- src/compare.rt:174:16
 slice-aggregate-fill-links : tie.Need-slice-aggregate-fill-links
-slice-aggregate-fill-links c = search needs
+slice-aggregate-fill-links c = let fits = lower-fits (c .before .before .before .before .before .before .before .before .before .before .before .before .before .args .limits) (now (c .before .before .before .before .before .before .before .before .before .before .before .before .before .args .book)) (now (c .before .before .before .before .before .before .before .before .before .before .before .before .before .args .places)) (c .before .before .before .before .before .before .before .before .before .before .before .before .before .args .count) (c .before .before .before .before .before .before .before .before .before .before .before .before .before .pre .1 .0) (c .before .before .before .before .before .before .before .before .before .before .before .before .before .pre .0) (c .before .before .before .before .before .before .half-size .result) (c .before .before .before .before .before .before .half-size .ensures) (c .before .before .before .before .before .before .before .before .before .before .before .before .before .args .m) (c .before .before .before .before .tabulate-card .result) (c .before .before .before .before .before .before .before .before .before .before .before .before .before .pre .1 .1 .0) (now (c .before .before .before .before .before .before .before .before .before .before .before .before .before .args .work)) (c .before .before .before .before .tabulate-card .last .1 .1 .1 .1 .1 .0) (c .before .before .before .before .before .before .before .before .before .before .before .before .before .pre .1 .1 .1 .1 .1) (c .before .before .before .before .tabulate-card .ensures) in let long = lower-length (c .before .before .before .before .before .before .before .before .before .before .before .before .before .args .limits) (now (c .before .before .before .before .before .before .before .before .before .before .before .before .before .args .book)) (now (c .before .before .before .before .before .before .before .before .before .before .before .before .before .args .places)) (c .before .before .before .before .before .before .before .before .before .before .before .before .before .args .count) (c .before .before .before .before .before .before .before .before .before .before .before .before .before .pre .1 .0) (c .before .before .before .before .before .before .before .before .before .before .before .before .before .pre .0) (c .before .before .before .before .before .before .half-size .result) (c .before .before .before .before .before .before .half-size .ensures) (c .before .before .before .before .before .before .before .before .before .before .before .before .before .args .m) (c .before .before .before .before .tabulate-card .result) (c .before .before .before .before .before .before .before .before .before .before .before .before .before .pre .1 .1 .0) (now (c .before .before .before .before .before .before .before .before .before .before .before .before .before .args .work)) (c .before .before .before .before .tabulate-card .last .1 .1 .1 .1 .1 .0) (c .before .before .before .before .before .before .before .before .before .before .before .before .before .pre .1 .1 .1 .1 .1) (c .before .before .before .before .tabulate-card .ensures) in sym (length-take-le (c .before .place .result) _ (omega (arith, fits, c .before .place .ensures, long, c .before .before .before .before .before .before .before .before .before .before .before .before .before .pre .1 .1 .1 .1 .1)))
 
--- src/compare.rt:174:5
 fill-links-requires : tie.Need-fill-links-requires
-fill-links-requires c κs = ?
+fill-links-requires c κs = (lower-checked (c .before .before .before .before .before .before .before .before .before .before .before .before .before .before .args .limits) (now (c .before .before .before .before .before .before .before .before .before .before .before .before .before .before .args .book)) (now (c .before .before .before .before .before .before .before .before .before .before .before .before .before .before .args .places)) (c .before .before .before .before .before .before .before .before .before .before .before .before .before .before .args .count) (c .before .before .before .before .before .before .before .before .before .before .before .before .before .before .pre .1 .0) (c .before .before .before .before .before .before .before .before .before .before .before .before .before .before .pre .0) (c .before .before .before .before .before .before .before .half-size .result) (c .before .before .before .before .before .before .before .half-size .ensures) (c .before .before .before .before .before .before .before .before .before .before .before .before .before .before .args .m) (c .before .before .before .before .before .tabulate-card .result) (c .before .before .before .before .before .before .before .before .before .before .before .before .before .before .pre .1 .1 .0) (now (c .before .before .before .before .before .before .before .before .before .before .before .before .before .before .args .work)) (c .before .before .before .before .before .tabulate-card .last .1 .1 .1 .1 .1 .0) (c .before .before .before .before .before .before .before .before .before .before .before .before .before .before .pre .1 .1 .1 .1 .1) (c .before .before .before .before .before .tabulate-card .ensures) (c .before .before .place .result) (c .before .before .place .ensures), blank 512 512 refl)
 
--- src/compare.rt:175:5
 compare-rest-requires : tie.Need-compare-rest-requires
-compare-rest-requires c κs = ?
+compare-rest-requires c κs =
+    let less : c .before .before .before .before .before .before .before .before .before .before .before .before .next-wanted .result < c .before .before .before .before .before .before .before .before .before .before .before .before .before .before .before .before .before .args .count = omega (arith, c .before .before .before .before .before .before .before .before .before .before .before .before .next-wanted .ensures .0 .1, c .before .before .before .before .before .before .before .before .before .before .before .if2 .left) in
+    (c .before .before .before .before .before .before .before .before .before .before .before .before .before .before .before .before .before .pre .0, (c .before .before .before .before .before .before .before .before .before .before .before .before .before .before .before .before .before .pre .1 .0, ((omega (arith, c .before .before .before .before .before .before .before .before .before .before .before .before .next-wanted .ensures .0 .0), less), (((sym (c .before .before .before .before .before .before .before .before .before .before .before .before .before .before .has-card .ensures) ∙ not-false _ (c .before .before .before .before .before .before .before .before .before .before .before .before .before .if1 .left)), c .before .before .before .before .before .before .before .before .before .before .before .before .next-wanted .ensures .1 .1 less), ((row-skipped (c .before .before .before .before .before .before .before .before .before .before .before .before .before .before .before .before .before .args .limits) (now (c .before .before .before .before .before .before .before .before .before .before .before .before .before .before .before .before .before .args .book)) (c .before .before .before .before .before .before .before .before .before .before .before .before .before .before .before .before .before .args .covering) (c .before .before .before .before .before .before .before .before .before .before .before .before .before .before .before .before .before .args .m) (c .before .before .before .before .before .before .before .before .before .before .before .before .before .before .before .before .before .args .hidden) (c .before .before .before .before .before .before .before .before .before .before .before .before .before .before .before .before .before .args .m + 1) (c .before .before .before .before .before .before .before .before .before .before .before .before .next-wanted .result) (c .before .before .before .before .before .before .before .before .before .before .before .before .next-wanted .ensures .1 .0) (row-begun (c .before .before .before .before .before .before .before .before .before .before .before .before .before .before .before .before .before .args .limits) (now (c .before .before .before .before .before .before .before .before .before .before .before .before .before .before .before .before .before .args .book)) (c .before .before .before .before .before .before .before .before .before .before .before .before .before .before .before .before .before .args .covering) (c .before .before .before .before .before .before .before .before .before .before .before .before .before .before .before .before .before .args .m) (c .before .before .before .before .before .before .before .before .before .before .before .before .before .before .before .before .before .args .hidden) (c .before .before .before .before .before .before .before .before .before .before .before .before .before .before .before .before .before .pre .1 .1 .1 .1 .0))), lower-made (c .before .before .before .before .before .before .before .before .before .before .before .before .before .before .before .before .before .args .limits) (now (c .before .before .before .before .before .before .before .before .before .before .before .before .before .before .before .before .before .args .book)) (now (c .before .before .before .before .before .before .before .before .before .before .before .before .before .before .before .before .before .args .places)) (c .before .before .before .before .before .before .before .before .before .before .before .before .before .before .before .before .before .args .count) (c .before .before .before .before .before .before .before .before .before .before .before .before .before .before .before .before .before .pre .1 .0) (c .before .before .before .before .before .before .before .before .before .before .before .before .before .before .before .before .before .pre .0) (c .before .before .before .before .before .before .before .before .before .before .half-size .result) (c .before .before .before .before .before .before .before .before .before .before .half-size .ensures) (c .before .before .before .before .before .before .before .before .before .before .before .before .before .before .before .before .before .args .m) (c .before .before .before .before .before .before .before .before .tabulate-card .result) (c .before .before .before .before .before .before .before .before .before .before .before .before .before .before .before .before .before .pre .1 .1 .0) (now (c .before .before .before .before .before .before .before .before .before .before .before .before .before .before .before .before .before .args .work)) (c .before .before .before .before .before .before .before .before .tabulate-card .last .1 .1 .1 .1 .1 .0) (c .before .before .before .before .before .before .before .before .before .before .before .before .before .before .before .before .before .pre .1 .1 .1 .1 .1) (c .before .before .before .before .before .before .before .before .tabulate-card .ensures) (c .before .before .before .before .before .place .result) (c .before .before .before .before .before .place .ensures) (c .before .before .fill-links .last .1 .1 .0) (c .before .before .fill-links .ensures))))))
 
--- src/compare.rt:154:1
 same-length : tie.Need-same-length
 same-length c = search needs
 
--- src/compare.rt:154:1
-returns-2 : tie.Need-returns-2
-returns-2 c = search needs
+returns-3 : tie.Need-returns-3
+returns-3 c =
+    let rest = c .before .before .compare-rest in
+    (row-ended (c .before .before .before .before .before .before .before .before .before .before .before .before .before .before .before .before .before .before .before .before .args .limits) (now (c .before .before .before .before .before .before .before .before .before .before .before .before .before .before .before .before .before .before .before .before .args .book)) (c .before .before .before .before .before .before .before .before .before .before .before .before .before .before .before .before .before .before .before .before .args .covering) (c .before .before .before .before .before .before .before .before .before .before .before .before .before .before .before .before .before .before .before .before .args .m) (rest .result) (c .before .before .before .before .before .before .before .before .before .before .before .before .before .before .before .before .before .before .before .before .args .count) (c .before .before .before .before .before .before .before .before .before .before .before .before .before .before .before .before .before .before .before .before .pre .1 .1 .1 .0) (rest .ensures .0), rest .ensures .1 ∙ lower-length (c .before .before .before .before .before .before .before .before .before .before .before .before .before .before .before .before .before .before .before .before .args .limits) (now (c .before .before .before .before .before .before .before .before .before .before .before .before .before .before .before .before .before .before .before .before .args .book)) (now (c .before .before .before .before .before .before .before .before .before .before .before .before .before .before .before .before .before .before .before .before .args .places)) (c .before .before .before .before .before .before .before .before .before .before .before .before .before .before .before .before .before .before .before .before .args .count) (c .before .before .before .before .before .before .before .before .before .before .before .before .before .before .before .before .before .before .before .before .pre .1 .0) (c .before .before .before .before .before .before .before .before .before .before .before .before .before .before .before .before .before .before .before .before .pre .0) (c .before .before .before .before .before .before .before .before .before .before .before .before .before .half-size .result) (c .before .before .before .before .before .before .before .before .before .before .before .before .before .half-size .ensures) (c .before .before .before .before .before .before .before .before .before .before .before .before .before .before .before .before .before .before .before .before .args .m) (c .before .before .before .before .before .before .before .before .before .before .before .tabulate-card .result) (c .before .before .before .before .before .before .before .before .before .before .before .before .before .before .before .before .before .before .before .before .pre .1 .1 .0) (now (c .before .before .before .before .before .before .before .before .before .before .before .before .before .before .before .before .before .before .before .before .args .work)) (c .before .before .before .before .before .before .before .before .before .before .before .tabulate-card .last .1 .1 .1 .1 .1 .0) (c .before .before .before .before .before .before .before .before .before .before .before .before .before .before .before .before .before .before .before .before .pre .1 .1 .1 .1 .1) (c .before .before .before .before .before .before .before .before .before .before .before .tabulate-card .ensures))
 
 pub compare-card-spec : {M : Type 1} → statement M
 compare-card-spec =
     tie.close
     (tie.spec
+    has-card-requires
+    returns
     add-next-wanted
     next-wanted-requires
-    returns
+    returns-2
     half-size-requires
     slice-relend-prefix-tabulate-card
     slice-aggregate-tabulate-card
@@ -83,4 +85,4 @@ compare-card-spec =
     fill-links-requires
     compare-rest-requires
     same-length
-    returns-2)
+    returns-3)

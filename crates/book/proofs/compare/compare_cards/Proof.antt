@@ -1,47 +1,43 @@
+-- At the loop's head the cards below m are compared with all later ones.
+use Prim.Native.Nat.{_-_, _≤_}
+use native.Mathlib.Omega.{arith}
+use denote.Ref.{now}
+use lib.ListN.{length}
+use mathlib.Core.Path.{_∙_, _≡_, refl, subst, sym}
+use Rattle.workspace.specs.Prepare.{workSize}
+use Rattle.book.specs.Tables.{Compared}
+use Rattle.book.proofs.Comparisons.{none-compared}
 use Rattle.book.proofs.compare.compare_cards.Statement.{statement}
 use Rattle.book.proofs.compare.compare_cards.Tie as tie
-use Rattle.book.proofs.compare.compare_cards.Reads as reads
-use Rattle.book.proofs.compare.compare_cards.Lts as lts
-use Rattle.book.proofs.compare.compare_card.Reads as compare-card-reads
-use Rattle.book.proofs.word.has_card.Reads as has-card-reads
 
 abbrev Inv-loop : tie.InvT-loop
-Inv-loop book places count limits covering work₀ hidden₀ m₀ work hidden m = ?
+Inv-loop book places count limits covering work₀ hidden₀ m₀ work hidden m = (m ≤ count) × ((length work ≡ workSize limits) × Compared limits book covering m hidden)
 
 abbrev μ-loop : tie.MeasureT-loop
-μ-loop book places count limits covering work₀ hidden₀ m₀ work hidden m = ?
+μ-loop book places count limits covering work₀ hidden₀ m₀ work hidden m = count - m
 
--- src/compare.rt:204:5
 loop-holds : tie.Need-loop-holds Inv-loop μ-loop
-loop-holds c = ?
+loop-holds c = (omega arith, (c .before .before .pre .1 .1 .1, none-compared (c .before .before .args .limits) (now (c .before .before .args .book)) (c .before .before .args .covering)))
 
--- src/compare.rt:205:12
-has-card-requires : tie.Need-has-card-requires Inv-loop μ-loop
-has-card-requires c κs = ?
-
--- src/compare.rt:206:13
 compare-card-requires : tie.Need-compare-card-requires Inv-loop μ-loop
-compare-card-requires c κs = ?
+compare-card-requires c κs = (c .before .before .before .before .before .pre .0, (c .before .before .before .before .before .pre .1 .0, (c .before .loop-test .taken, (c .before .before .before .before .before .pre .1 .1 .0, (c .before .before .loop .inv .1 .1, c .before .before .loop .inv .1 .0)))))
 
--- src/compare.rt:208:9
 add-m : tie.Need-add-m Inv-loop μ-loop
-add-m c = ?
+add-m c = omega (arith, c .before .before .before .before .loop-test .taken, c .before .before .before .before .before .before .before .before .pre .1 .0 .cards-read .places-are .most)
 
--- src/compare.rt:204:5
 loop-less : tie.Need-loop-less Inv-loop μ-loop
-loop-less c = ?
+loop-less c = omega (arith, c .before .before .before .before .loop-test .taken)
 
--- src/compare.rt:204:5
 loop-again : tie.Need-loop-again Inv-loop μ-loop
-loop-again c = ?
+loop-again c = (omega (arith, c .before .before .before .before .loop-test .taken), (c .before .before .compare-card .ensures .1 ∙ c .before .before .before .before .before .loop .inv .1 .0, c .before .before .compare-card .ensures .0))
 
--- src/compare.rt:191:1
 same-length : tie.Need-same-length Inv-loop μ-loop
-same-length c = ?
+same-length c = c .before .loop .inv .1 .0 ∙ sym (c .before .before .before .before .pre .1 .1 .1)
 
--- src/compare.rt:191:1
 returns : tie.Need-returns Inv-loop μ-loop
-returns c = ?
+returns c =
+    let end : c .before .loop .m ≡ c .before .before .before .before .args .count = omega (arith, c .before .loop .inv .0, c .loop-test .left) in
+    (subst (λ k. Compared (c .before .before .before .before .args .limits) (now (c .before .before .before .before .args .book)) (c .before .before .before .before .args .covering) k (c .before .loop .hidden)) end (c .before .loop .inv .1 .1), c .before .loop .inv .1 .0 ∙ sym (c .before .before .before .before .pre .1 .1 .1))
 
 pub compare-cards-spec : {M : Type 1} → statement M
 compare-cards-spec =
@@ -50,7 +46,6 @@ compare-cards-spec =
     Inv-loop
     μ-loop
     loop-holds
-    has-card-requires
     compare-card-requires
     add-m
     loop-less

@@ -1,47 +1,53 @@
+-- At the loop's head card m is compared with the wanted cards below n, and n is wanted or the end.
+use Prim.Native.Nat.{_+_, _-_, _<_, _≤_}
+use native.Mathlib.Omega.{arith}
+use denote.Ref.{now}
+use mathlib.Core.Bool.{true}
+use mathlib.Core.Path.{_∙_, _≡_, subst, sym}
+use Rattle.book.specs.Tables.{ComparedTo, Lower, wanted}
+use Rattle.book.proofs.Comparisons.{pair-compared, row-skipped}
 use Rattle.book.proofs.compare.compare_rest.Statement.{statement}
 use Rattle.book.proofs.compare.compare_rest.Tie as tie
-use Rattle.book.proofs.compare.compare_rest.Reads as reads
-use Rattle.book.proofs.compare.compare_rest.Lts as lts
-use Rattle.book.proofs.compare.compare_with.Reads as compare-with-reads
-use Rattle.book.proofs.compare.next_wanted.Reads as next-wanted-reads
 
 abbrev Inv-loop : tie.InvT-loop
-Inv-loop book places count limits covering m a links from hidden work₀ word₀ n₀ work word n = ?
+Inv-loop book places count limits covering m a links from hidden work₀ word₀ n₀ work word n = ((m < n) × (n ≤ count)) × ((n < count → wanted covering word m n ≡ true) × (ComparedTo limits book covering m n word × Lower limits book m a links work))
 
 abbrev μ-loop : tie.MeasureT-loop
-μ-loop book places count limits covering m a links from hidden work₀ word₀ n₀ work word n = ?
+μ-loop book places count limits covering m a links from hidden work₀ word₀ n₀ work word n = count - n
 
--- src/compare.rt:146:5
 loop-holds : tie.Need-loop-holds Inv-loop μ-loop
-loop-holds c = ?
+loop-holds c =
+    let p = c .before .before .pre .1 .1 in
+    ((p .0 .0, omega (arith, p .0 .1)), ((λ _. p .1 .0 .1), (p .1 .1 .0, p .1 .1 .1)))
 
--- src/compare.rt:147:9
 compare-with-requires : tie.Need-compare-with-requires Inv-loop μ-loop
-compare-with-requires c κs = ?
+compare-with-requires c κs = (c .before .before .before .before .before .pre .0, (c .before .before .before .before .before .pre .1 .0, ((omega (arith, c .before .before .loop .inv .0 .0, c .before .loop-test .taken), c .before .loop-test .taken), c .before .before .loop .inv .1 .1 .1)))
 
--- src/compare.rt:148:44
 add-next-wanted : tie.Need-add-next-wanted Inv-loop μ-loop
-add-next-wanted c = ?
+add-next-wanted c = omega (arith, c .before .before .before .before .loop-test .taken, c .before .before .before .before .before .before .before .before .pre .1 .0 .cards-read .places-are .most)
 
--- src/compare.rt:148:9
 next-wanted-requires : tie.Need-next-wanted-requires Inv-loop μ-loop
-next-wanted-requires c κs = ?
+next-wanted-requires c κs = (omega (arith, c .before .before .before .before .before .loop .inv .0 .0, c .before .before .before .before .loop-test .taken, c .before .before .before .before .before .before .before .before .pre .1 .0 .cards-read .places-are .most), (omega (arith, c .before .before .before .before .loop-test .taken), c .before .before .before .before .before .before .before .before .pre .1 .0 .cards-read .places-are .most))
 
--- src/compare.rt:146:5
 loop-less : tie.Need-loop-less Inv-loop μ-loop
-loop-less c = ?
+loop-less c = omega (arith, c .next-wanted .ensures .0 .0, c .before .before .before .before .before .loop-test .taken)
 
--- src/compare.rt:146:5
 loop-again : tie.Need-loop-again Inv-loop μ-loop
-loop-again c = ?
+loop-again c =
+    let found = c .next-wanted .ensures in
+    let pair =
+    pair-compared (c .before .before .before .before .before .before .before .before .before .args .limits) (now (c .before .before .before .before .before .before .before .before .before .args .book)) (c .before .before .before .before .before .before .before .before .before .args .covering) (c .before .before .before .before .before .before .before .before .before .args .m) (c .before .before .before .before .before .before .loop .word) (c .before .before .before .before .before .before .loop .n) (c .before .before .before .compare-with .result) (c .before .before .before .before .before .before .loop .inv .1 .1 .0) (c .before .before .before .before .before .before .loop .inv .0 .0) (omega (arith, c .before .before .before .before .before .loop-test .taken, c .before .before .before .before .before .before .before .before .before .pre .1 .0 .cards-read .counted)) (c .before .before .before .before .before .before .before .before .before .pre .1 .1 .1 .0 .0) (c .before .before .before .before .before .before .loop .inv .1 .0 (c .before .before .before .before .before .loop-test .taken)) (c .before .before .before .compare-with .ensures .0) in (
+      (omega (arith, found .0 .0, c .before .before .before .before .before .before .loop .inv .0 .0), found .0 .1),
+      (found .1 .1, (row-skipped (c .before .before .before .before .before .before .before .before .before .args .limits) (now (c .before .before .before .before .before .before .before .before .before .args .book)) (c .before .before .before .before .before .before .before .before .before .args .covering) (c .before .before .before .before .before .before .before .before .before .args .m) (c .before .before .before .compare-with .result) (c .before .before .before .before .before .before .loop .n + 1) (c .next-wanted .result) (found .1 .0) pair, c .before .before .before .compare-with .ensures .1)),
+    )
 
--- src/compare.rt:128:1
 same-length : tie.Need-same-length Inv-loop μ-loop
-same-length c = ?
+same-length c = c .before .loop .inv .1 .1 .1 .long ∙ sym (c .before .before .before .before .pre .1 .1 .1 .1 .1 .long)
 
--- src/compare.rt:128:1
 returns : tie.Need-returns Inv-loop μ-loop
-returns c = ?
+returns c =
+    let end : c .before .loop .n ≡ c .before .before .before .before .args .count = omega (arith, c .before .loop .inv .0 .1, c .loop-test .left) in
+    (subst (λ k. ComparedTo (c .before .before .before .before .args .limits) (now (c .before .before .before .before .args .book)) (c .before .before .before .before .args .covering) (c .before .before .before .before .args .m) k (c .before .loop .word)) end (c .before .loop .inv .1 .1 .0), c .before .loop .inv .1 .1 .1 .long ∙ sym (c .before .before .before .before .pre .1 .1 .1 .1 .1 .long))
 
 pub compare-rest-spec : {M : Type 1} → statement M
 compare-rest-spec =

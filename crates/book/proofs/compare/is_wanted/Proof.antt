@@ -1,33 +1,38 @@
+-- The definition, by its tests.
+use mathlib.Core.Path.{_∙_, sym}
+use borrow.Author.Tests.{not-false, not-true}
+use Rattle.table.specs.NameSet.{has}
+use Rattle.book.specs.Tables.{wanted}
 use borrow.Author.Needs.{needs}
 use Rattle.book.proofs.compare.is_wanted.Statement.{statement}
 use Rattle.book.proofs.compare.is_wanted.Tie as tie
-use Rattle.book.proofs.compare.is_wanted.Reads as reads
-use Rattle.book.proofs.compare.is_wanted.Lts as lts
-use Rattle.book.proofs.word.has_card.Reads as has-card-reads
 
--- src/compare.rt:109:9
 has-card-requires : tie.Need-has-card-requires
 has-card-requires c κs = search needs
 
--- src/compare.rt:110:9
 returns : tie.Need-returns
-returns c = ?
+unfolding wanted
+returns c = let no = sym (c .before .has-card .ensures) ∙ not-true _ (c .if1 .taken) in sym (rw no)
 
--- src/compare.rt:112:9
 has-card-requires-2 : tie.Need-has-card-requires-2
 has-card-requires-2 c κs = search needs
 
--- src/compare.rt:113:9
 returns-2 : tie.Need-returns-2
-returns-2 c = ?
+unfolding wanted
+returns-2 c =
+    let covers = sym (c .before .before .before .has-card .ensures) ∙ not-false _ (c .before .before .if1 .left) in
+    let shown = sym (c .before .has-card2 .ensures) ∙ not-true _ (c .if2 .taken) in
+    sym (rw (covers, shown))
 
--- src/compare.rt:115:6
 has-card-requires-3 : tie.Need-has-card-requires-3
 has-card-requires-3 c κs = search needs
 
--- src/compare.rt:105:1
 returns-3 : tie.Need-returns-3
-returns-3 c = ?
+unfolding wanted
+returns-3 c =
+    let covers = sym (c .before .before .before .before .has-card .ensures) ∙ not-false _ (c .before .before .before .if1 .left) in
+    let over = sym (c .before .before .has-card2 .ensures) ∙ not-false _ (c .before .if2 .left) in
+    rw (covers, over, c .has-card3 .ensures)
 
 pub is-wanted-spec : {M : Type 1} → statement M
 is-wanted-spec =

@@ -35,8 +35,7 @@ loop-again : tie.Need-loop-again Inv-loop μ-loop
 loop-again c =
     let a = c .before .before .before .before .args in
     let l = c .before .before .before .loop in
-    let none = sym (c .before .is-wanted .ensures) ∙ c .if1 .left in
-    (
+    let none = sym (c .before .is-wanted .ensures) ∙ c .if1 .left in (
       (omega (arith, l .inv .0 .0), omega (arith, c .before .before .loop-test .taken)),
       λ k b e. elim (ℕ-discrete k (l .n)) [
         | yes s ↦ ap (wanted (a .covering) (a .hidden) (a .m)) s ∙ none

@@ -1,31 +1,30 @@
+-- What is left of the covering cards are the most specific; the work space is cleared from its first byte to its last.
+use denote.Ref.{now}
+use native.Mathlib.Omega.{arith}
+use mathlib.Core.Path.{_∙_, refl}
+use Rattle.workspace.specs.Prepare.{workSize}
+use Rattle.book.proofs.Calls.{cleared, selected-bits}
 use borrow.Author.Needs.{needs}
 use Rattle.book.proofs.compare.select_cards.Statement.{statement}
 use Rattle.book.proofs.compare.select_cards.Tie as tie
-use Rattle.book.proofs.compare.select_cards.Reads as reads
-use Rattle.book.proofs.compare.select_cards.Lts as lts
-use Rattle.book.proofs.compare.compare_cards.Reads as compare-cards-reads
-use Rattle.book.proofs.word.without.Reads as without-reads
-use Rattle.table.proofs.number.clear.Reads as clear-reads
 
--- src/compare.rt:225:9
 compare-cards-requires : tie.Need-compare-cards-requires
 compare-cards-requires c κs = search needs
 
--- src/compare.rt:226:5
 clear-requires : tie.Need-clear-requires
 clear-requires c κs = search needs
 
--- src/compare.rt:227:5
 without-requires : tie.Need-without-requires
 without-requires c κs = search needs
 
--- src/compare.rt:214:1
 same-length : tie.Need-same-length
 same-length c = search needs
 
--- src/compare.rt:214:1
 returns : tie.Need-returns
-returns c = ?
+returns c = (
+  selected-bits (c .before .before .before .before .before .before .before .before .before .before .before .args .limits) (now (c .before .before .before .before .before .before .before .before .before .before .before .args .book)) (c .before .before .before .before .before .before .before .before .before .before .before .args .covering) (c .before .before .before .before .before .before .before .before .before .before .before .args .count) (c .before .before .before .before .before .before .before .compare-cards .result) (c .without .result) (c .before .before .before .before .before .before .before .before .before .before .before .pre .1 .1 .0) (c .before .before .before .before .before .before .before .compare-cards .ensures .0) (c .without .ensures),
+  cleared _ (c .before .before .before .clear .last .0) _ (workSize (c .before .before .before .before .before .before .before .before .before .before .before .args .limits)) refl (c .before .before .before .before .before .before .before .compare-cards .ensures .1 ∙ c .before .before .before .before .before .before .before .before .before .before .before .pre .1 .1 .1) (c .before .before .before .clear .ensures),
+)
 
 pub select-cards-spec : {M : Type 1} → statement M
 select-cards-spec =

@@ -1,52 +1,45 @@
+-- The questions in their order.
+use denote.Ref.{now}
+use native.Mathlib.Omega.{arith}
+use borrow.Author.Tests.{not-false, not-true}
+use mathlib.Core.Path.{_∙_, refl, sym}
+use Rattle.book.specs.Selection.{mostSpecificCards}
+use Rattle.book.proofs.Calls.{cards-passed, cards-readable, cards-refused, form-refused}
 use borrow.Author.Needs.{needs}
 use Rattle.book.proofs.most_specific.ask_book.Statement.{statement}
 use Rattle.book.proofs.most_specific.ask_book.Tie as tie
-use Rattle.book.proofs.most_specific.ask_book.Reads as reads
-use Rattle.book.proofs.most_specific.ask_book.Lts as lts
-use Rattle.book.proofs.form.find_cards.Reads as find-cards-reads
-use Rattle.book.proofs.form.has_form.Reads as has-form-reads
-use Rattle.book.proofs.most_specific.read_cards.Reads as read-cards-reads
-use Rattle.book.proofs.most_specific.select.Reads as select-reads
 
--- src/most_specific.rt:93:9
 find-cards-requires : tie.Need-find-cards-requires
 find-cards-requires c κs = search needs
 
--- src/most_specific.rt:94:9
 has-form-requires : tie.Need-has-form-requires
 has-form-requires c κs = search needs
 
--- src/most_specific.rt:95:9
 returns : tie.Need-returns
-returns c = ?
+returns c = (form-refused (c .before .before .before .before .before .before .before .before .args .limits) (now (c .before .before .before .before .before .before .before .before .args .case)) (now (c .before .before .before .before .before .before .before .before .args .book)) (mostSpecificCards (c .before .before .before .before .before .before .before .before .args .limits) (now (c .before .before .before .before .before .before .before .before .args .case)) (now (c .before .before .before .before .before .before .before .before .args .book))) (sym (c .before .has-form .ensures) ∙ not-true _ (c .if1 .taken)), refl)
 
--- src/most_specific.rt:100:11
 read-cards-requires : tie.Need-read-cards-requires
 read-cards-requires c κs = search needs
 
--- src/most_specific.rt:101:42
 enum-told : tie.Need-enum-told
 enum-told c = search needs
 
--- src/most_specific.rt:101:23
 select-requires : tie.Need-select-requires
-select-requires c κs = ?
+select-requires c κs = (c .before .before .before .before .before .before .before .before .before .before .before .before .before .before .pre .0, (c .before .before .before .before .before .before .before .before .before .before .before .before .before .before .pre .1 .0, (cards-readable (c .before .before .before .before .before .before .before .before .before .before .before .before .before .before .args .limits) (now (c .before .before .before .before .before .before .before .before .before .before .before .before .before .before .args .case)) (now (c .before .before .before .before .before .before .before .before .before .before .before .before .before .before .args .book)) (mostSpecificCards (c .before .before .before .before .before .before .before .before .before .before .before .before .before .before .args .limits) (now (c .before .before .before .before .before .before .before .before .before .before .before .before .before .before .args .case)) (now (c .before .before .before .before .before .before .before .before .before .before .before .before .before .before .args .book))) (sym (c .before .before .before .before .before .before .before .has-form .ensures) ∙ not-false _ (c .before .before .before .before .before .before .if1 .left)) (c .before .before .before .before .before .before .before .before .before .find-cards .result) (c .before .before .before .before .before .before .before .before .before .find-cards .ensures .0) (c .before .before .before .before .read-cards .result) (c .before .before .before .before .read-cards .ensures) _ (c .before .before .before .before .before .before .before .before .before .find-cards .ensures .1) (c .before .before .enum-told .given .1), c .before .before .before .before .before .before .before .before .before .before .before .before .before .before .pre .1 .1)))
 
--- src/most_specific.rt:102:19
 enum-known-refusal : tie.Need-enum-known-refusal
 enum-known-refusal c = search needs
 
--- src/most_specific.rt:88:1
 same-length : tie.Need-same-length
 same-length c = search needs
 
--- src/most_specific.rt:88:1
 returns-2 : tie.Need-returns-2
-returns-2 c = ?
+returns-2 c =
+    let chosen = c .before .before .select in
+    (cards-passed (c .before .before .before .before .before .before .before .before .before .before .before .before .before .before .before .before .before .args .limits) (now (c .before .before .before .before .before .before .before .before .before .before .before .before .before .before .before .before .before .args .case)) (now (c .before .before .before .before .before .before .before .before .before .before .before .before .before .before .before .before .before .args .book)) (mostSpecificCards (c .before .before .before .before .before .before .before .before .before .before .before .before .before .before .before .before .before .args .limits) (now (c .before .before .before .before .before .before .before .before .before .before .before .before .before .before .before .before .before .args .case)) (now (c .before .before .before .before .before .before .before .before .before .before .before .before .before .before .before .before .before .args .book))) (sym (c .before .before .before .before .before .before .before .before .before .before .has-form .ensures) ∙ not-false _ (c .before .before .before .before .before .before .before .before .before .if1 .left)) (c .before .before .before .before .before .before .before .before .before .before .before .before .find-cards .result) (c .before .before .before .before .before .before .before .before .before .before .before .before .find-cards .ensures .0) (c .before .before .before .before .before .before .before .read-cards .result) (c .before .before .before .before .before .before .before .read-cards .ensures) (c .before .before .before .before .before .enum-told .given .1) (chosen .result) (chosen .ensures .0), chosen .ensures .1)
 
--- src/most_specific.rt:88:1
 returns-3 : tie.Need-returns-3
-returns-3 c = ?
+returns-3 c = (cards-refused (c .before .before .before .before .before .before .before .before .before .before .before .before .before .args .limits) (now (c .before .before .before .before .before .before .before .before .before .before .before .before .before .args .case)) (now (c .before .before .before .before .before .before .before .before .before .before .before .before .before .args .book)) (mostSpecificCards (c .before .before .before .before .before .before .before .before .before .before .before .before .before .args .limits) (now (c .before .before .before .before .before .before .before .before .before .before .before .before .before .args .case)) (now (c .before .before .before .before .before .before .before .before .before .before .before .before .before .args .book))) (sym (c .before .before .before .before .before .before .has-form .ensures) ∙ not-false _ (c .before .before .before .before .before .if1 .left)) (c .before .before .before .before .before .before .before .before .find-cards .result) (c .before .before .before .before .before .before .before .before .find-cards .ensures .0) (c .before .before .before .read-cards .result) (c .before .before .before .read-cards .ensures) (c .before .refusal .given .0 .0) (c .before .refusal .given .1), refl)
 
 pub ask-book-spec : {M : Type 1} → statement M
 ask-book-spec =

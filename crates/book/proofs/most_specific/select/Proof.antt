@@ -1,55 +1,54 @@
+-- Where 14 is answered yes for all, the cards that were weighed cover the case, and those that are left are the answer.
+use Prim.Native.Nat.{_+_}
+use denote.Ref.{now}
+use native.Mathlib.Omega.{arith}
+use lib.Seq.{length-take-le}
+use lib.ListN.{drop}
+use mathlib.Core.List.{_++_}
+use mathlib.Core.Path.{_∙_, ap, refl, sym}
+use Rattle.workspace.specs.Prepare.{workSize}
+use Rattle.book.proofs.Calls.{cleared-part, covering-inside, selected-word, weighed-answer, weighed-is, weighed-refused, weighed-taken}
 use borrow.Author.Needs.{needs}
 use Rattle.book.proofs.most_specific.select.Statement.{statement}
 use Rattle.book.proofs.most_specific.select.Tie as tie
-use Rattle.book.proofs.most_specific.select.Reads as reads
-use Rattle.book.proofs.most_specific.select.Lts as lts
-use Rattle.book.proofs.compare.select_cards.Reads as select-cards-reads
-use Rattle.book.proofs.weigh.weigh_book.Reads as weigh-book-reads
-use Rattle.workspace.proofs.prepare.half_size.Reads as half-size-reads
 
--- src/most_specific.rt:77:11
 weigh-book-requires : tie.Need-weigh-book-requires
 weigh-book-requires c κs = search needs
 
--- src/most_specific.rt:78:25
 enum-known-covering : tie.Need-enum-known-covering
 enum-known-covering c = search needs
 
--- src/most_specific.rt:79:17
 half-size-requires : tie.Need-half-size-requires
 half-size-requires c κs = search needs
 
--- src/most_specific.rt:80:24
 add-size : tie.Need-add-size
 add-size c = search needs
 
--- src/most_specific.rt:81:81
 slice-relend-prefix-select-cards : tie.Need-slice-relend-prefix-select-cards
 slice-relend-prefix-select-cards c = search needs
 
--- src/most_specific.rt:81:81
 slice-aggregate-select-cards : tie.Need-slice-aggregate-select-cards
-slice-aggregate-select-cards c = ?
+slice-aggregate-select-cards c = sym (length-take-le (c .before .half-size .result + c .before .half-size .result) (now (c .before .before .before .before .before .before .before .before .before .args .work)) (omega (arith, c .before .half-size .ensures, c .before .before .before .before .before .before .before .before .before .pre .1 .1 .1)))
 
--- src/most_specific.rt:81:29
 select-cards-requires : tie.Need-select-cards-requires
-select-cards-requires c κs = ?
+select-cards-requires c κs =
+    let lent = length-take-le (c .before .half-size .result + c .before .half-size .result) (now (c .before .before .before .before .before .before .before .before .before .args .work)) (omega (arith, c .before .half-size .ensures, c .before .before .before .before .before .before .before .before .before .pre .1 .1 .1)) in
+    (c .before .before .before .before .before .before .before .before .before .pre .0, (weighed-taken (c .before .before .before .before .before .before .before .before .before .args .limits) (now (c .before .before .before .before .before .before .before .before .before .args .case)) (now (c .before .before .before .before .before .before .before .before .before .args .book)) (c .before .before .before .before .before .before .before .before .before .args .count) (c .before .before .before .before .before .before .before .before .before .pre .1 .1 .0 .counted) (c .before .before .before .before .before .weigh-book .result) (c .before .before .before .before .before .weigh-book .ensures) (c .before .before .before .covering .given .0 .0) (c .before .before .before .covering .given .1) (now (c .before .before .before .before .before .before .before .before .before .args .places)) (c .before .before .before .before .before .before .before .before .before .pre .1 .1 .0), (covering-inside (c .before .before .before .before .before .before .before .before .before .args .limits) (now (c .before .before .before .before .before .before .before .before .before .args .case)) (now (c .before .before .before .before .before .before .before .before .before .args .book)) (c .before .before .before .before .before .before .before .before .before .args .count) (c .before .before .before .covering .given .0 .0) (c .before .before .before .before .before .before .before .before .before .pre .1 .1 .0 .counted) (weighed-is (c .before .before .before .before .before .before .before .before .before .args .limits) (now (c .before .before .before .before .before .before .before .before .before .args .case)) (now (c .before .before .before .before .before .before .before .before .before .args .book)) (c .before .before .before .before .before .before .before .before .before .args .count) (c .before .before .before .before .before .before .before .before .before .pre .1 .1 .0 .counted) (c .before .before .before .before .before .weigh-book .result) (c .before .before .before .before .before .weigh-book .ensures) (c .before .before .before .covering .given .0 .0) (c .before .before .before .covering .given .1)), lent ∙ omega (arith, c .before .half-size .ensures))))
 
--- src/most_specific.rt:83:27
 enum-known-refusal : tie.Need-enum-known-refusal
 enum-known-refusal c = search needs
 
--- src/most_specific.rt:66:1
 same-length : tie.Need-same-length
 same-length c = search needs
 
--- src/most_specific.rt:66:1
 returns : tie.Need-returns
-returns c = ?
+returns c = (
+  weighed-answer (c .before .before .before .before .before .before .before .before .before .before .before .before .args .limits) (now (c .before .before .before .before .before .before .before .before .before .before .before .before .args .case)) (now (c .before .before .before .before .before .before .before .before .before .before .before .before .args .book)) (c .before .before .before .before .before .before .before .before .before .before .before .before .args .count) (c .before .before .before .before .before .before .before .before .before .before .before .before .pre .1 .1 .0 .counted) (c .before .before .before .before .before .before .before .before .weigh-book .result) (c .before .before .before .before .before .before .before .before .weigh-book .ensures) (c .before .before .before .before .before .before .covering .given .0 .0) (c .before .before .before .before .before .before .covering .given .1) (c .before .before .select-cards .result) (selected-word (c .before .before .before .before .before .before .before .before .before .before .before .before .args .limits) (now (c .before .before .before .before .before .before .before .before .before .before .before .before .args .case)) (now (c .before .before .before .before .before .before .before .before .before .before .before .before .args .book)) (c .before .before .before .before .before .before .before .before .before .before .before .before .args .count) (c .before .before .before .before .before .before .covering .given .0 .0) (c .before .before .before .before .before .before .before .before .before .before .before .before .pre .1 .1 .0 .counted) (weighed-is (c .before .before .before .before .before .before .before .before .before .before .before .before .args .limits) (now (c .before .before .before .before .before .before .before .before .before .before .before .before .args .case)) (now (c .before .before .before .before .before .before .before .before .before .before .before .before .args .book)) (c .before .before .before .before .before .before .before .before .before .before .before .before .args .count) (c .before .before .before .before .before .before .before .before .before .before .before .before .pre .1 .1 .0 .counted) (c .before .before .before .before .before .before .before .before .weigh-book .result) (c .before .before .before .before .before .before .before .before .weigh-book .ensures) (c .before .before .before .before .before .before .covering .given .0 .0) (c .before .before .before .before .before .before .covering .given .1)) (c .before .before .select-cards .result) (c .before .before .select-cards .ensures .0)),
+  ap (λ l. l ++ drop (c .before .before .before .before .half-size .result + c .before .before .before .before .half-size .result) (now (c .before .before .before .before .before .before .before .before .before .before .before .before .args .work))) (c .before .before .select-cards .ensures .1) ∙ cleared-part (now (c .before .before .before .before .before .before .before .before .before .before .before .before .args .work)) (workSize (c .before .before .before .before .before .before .before .before .before .before .before .before .args .limits)) (c .before .before .before .before .half-size .result + c .before .before .before .before .half-size .result) (omega (arith, c .before .before .before .before .half-size .ensures)),
+)
 
--- src/most_specific.rt:66:1
 returns-2 : tie.Need-returns-2
-returns-2 c = ?
+returns-2 c = (weighed-refused (c .before .before .before .before .before .before .before .args .limits) (now (c .before .before .before .before .before .before .before .args .case)) (now (c .before .before .before .before .before .before .before .args .book)) (c .before .before .before .before .before .before .before .args .count) (c .before .before .before .before .before .before .before .pre .1 .1 .0 .counted) (c .before .before .before .weigh-book .result) (c .before .before .before .weigh-book .ensures) (c .before .refusal .given .0 .0) (c .before .refusal .given .1), refl)
 
 pub select-spec : {M : Type 1} → statement M
 select-spec =

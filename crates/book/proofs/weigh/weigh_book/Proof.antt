@@ -1,48 +1,44 @@
+-- The case's table stands in the scratch table where 14 is answered yes; then the cards are weighed against it.
+use native.Mathlib.Omega.{arith}
+use denote.Ref.{now}
+use lib.Seq.{length-take-le}
+use lib.ListN.{take}
+use mathlib.Core.Path.{refl, sym}
+use Rattle.table.proofs.Stores.{blank}
+use Rattle.book.proofs.Tablings.{none-many, some-few, tabled-checked, tabled-file, tabled-fits, tabled-linked}
+use Rattle.book.proofs.Weighings.{case-many, case-weighed}
 use borrow.Author.Needs.{needs}
 use Rattle.book.proofs.weigh.weigh_book.Statement.{statement}
 use Rattle.book.proofs.weigh.weigh_book.Tie as tie
-use Rattle.book.proofs.weigh.weigh_book.Reads as reads
-use Rattle.book.proofs.weigh.weigh_book.Lts as lts
-use Rattle.book.proofs.covering.tabulate.Reads as tabulate-reads
-use Rattle.book.proofs.weigh.weigh_cards.Reads as weigh-cards-reads
-use Rattle.normal.proofs.rows.fill_links.Reads as fill-links-reads
-use Rattle.table.proofs.layout.place.Reads as place-reads
 
--- src/weigh.rt:113:36
 slice-aggregate-tabulate : tie.Need-slice-aggregate-tabulate
 slice-aggregate-tabulate c = search needs
 
--- src/weigh.rt:113:9
 tabulate-requires : tie.Need-tabulate-requires
-tabulate-requires c κs = ?
+tabulate-requires c κs = (c .before .before .before .pre .0, (c .before .before .before .pre .1 .0, omega (arith, c .before .before .before .pre .0 .0)))
 
--- src/weigh.rt:115:9
 returns : tie.Need-returns
-returns c = ?
+returns c = case-many (c .before .before .before .before .before .before .args .limits) (now (c .before .before .before .before .before .before .args .case)) (now (c .before .before .before .before .before .before .args .book)) (c .before .before .before .before .before .before .args .count) (none-many (c .before .before .before .before .before .before .args .limits) (now (c .before .before .before .before .before .before .args .case)) _ (c .before .before .tabulate .result) (c .before .before .tabulate .last .1 .1 .0) (c .before .before .before .before .before .before .pre .0) (c .before .before .tabulate .ensures) (c .if1 .taken))
 
--- src/weigh.rt:120:28
 place-requires : tie.Need-place-requires
-place-requires c κs = ?
+place-requires c κs = let fits = tabled-fits (c .before .before .before .before .before .before .args .limits) (now (c .before .before .before .before .before .before .args .case)) _ (c .before .before .tabulate .result) (c .before .before .tabulate .last .1 .1 .0) (c .before .before .before .before .before .before .pre .0) (c .before .before .tabulate .ensures) (some-few (c .before .before .before .before .before .before .args .limits) (now (c .before .before .before .before .before .before .args .case)) _ (c .before .before .tabulate .result) (c .before .before .tabulate .last .1 .1 .0) (c .before .before .before .before .before .before .pre .0) (c .before .before .tabulate .ensures) (c .if1 .left)) in (omega (arith, fits, c .before .before .before .before .before .before .pre .0), omega arith)
 
--- src/weigh.rt:120:17
 array-share-prefix-scratch : tie.Need-array-share-prefix-scratch
-array-share-prefix-scratch c = ?
+array-share-prefix-scratch c = let fits = tabled-fits (c .before .before .before .before .before .before .before .args .limits) (now (c .before .before .before .before .before .before .before .args .case)) _ (c .before .before .before .tabulate .result) (c .before .before .before .tabulate .last .1 .1 .0) (c .before .before .before .before .before .before .before .pre .0) (c .before .before .before .tabulate .ensures) (some-few (c .before .before .before .before .before .before .before .args .limits) (now (c .before .before .before .before .before .before .before .args .case)) _ (c .before .before .before .tabulate .result) (c .before .before .before .tabulate .last .1 .1 .0) (c .before .before .before .before .before .before .before .pre .0) (c .before .before .before .tabulate .ensures) (c .before .if1 .left)) in omega (arith, fits, c .place .ensures, c .before .before .before .tabulate .ensures .same, c .before .before .before .before .before .before .before .pre .0 .0)
 
--- src/weigh.rt:120:9
 slice-aggregate-table : tie.Need-slice-aggregate-table
-slice-aggregate-table c = ?
+slice-aggregate-table c =
+    let fits = tabled-fits (c .before .before .before .before .before .before .before .before .args .limits) (now (c .before .before .before .before .before .before .before .before .args .case)) _ (c .before .before .before .before .tabulate .result) (c .before .before .before .before .tabulate .last .1 .1 .0) (c .before .before .before .before .before .before .before .before .pre .0) (c .before .before .before .before .tabulate .ensures) (some-few (c .before .before .before .before .before .before .before .before .args .limits) (now (c .before .before .before .before .before .before .before .before .args .case)) _ (c .before .before .before .before .tabulate .result) (c .before .before .before .before .tabulate .last .1 .1 .0) (c .before .before .before .before .before .before .before .before .pre .0) (c .before .before .before .before .tabulate .ensures) (c .before .before .if1 .left)) in
+    sym (length-take-le (c .before .place .result) (c .before .before .before .before .tabulate .last .1 .1 .0) (omega (arith, fits, (c .before .place .ensures), c .before .before .before .before .tabulate .ensures .same, c .before .before .before .before .before .before .before .before .pre .0 .0)))
 
--- src/weigh.rt:122:5
 fill-links-requires : tie.Need-fill-links-requires
-fill-links-requires c κs = ?
+fill-links-requires c κs = (tabled-checked (c .before .before .before .before .before .before .before .before .before .args .limits) (now (c .before .before .before .before .before .before .before .before .before .args .case)) _ (c .before .before .before .before .before .tabulate .result) (c .before .before .before .before .before .tabulate .last .1 .1 .0) (c .before .before .before .before .before .before .before .before .before .pre .0) (c .before .before .before .before .before .tabulate .ensures) (some-few (c .before .before .before .before .before .before .before .before .before .args .limits) (now (c .before .before .before .before .before .before .before .before .before .args .case)) _ (c .before .before .before .before .before .tabulate .result) (c .before .before .before .before .before .tabulate .last .1 .1 .0) (c .before .before .before .before .before .before .before .before .before .pre .0) (c .before .before .before .before .before .tabulate .ensures) (c .before .before .before .if1 .left)) (c .before .before .place .result) (c .before .before .place .ensures), blank 512 512 refl)
 
--- src/weigh.rt:123:5
 weigh-cards-requires : tie.Need-weigh-cards-requires
-weigh-cards-requires c κs = ?
+weigh-cards-requires c κs = (c .before .before .before .before .before .before .before .before .before .before .before .pre .0, (c .before .before .before .before .before .before .before .before .before .before .before .pre .1 .1, tabled-linked (c .before .before .before .before .before .before .before .before .before .before .before .args .limits) (now (c .before .before .before .before .before .before .before .before .before .before .before .args .case)) _ (c .before .before .before .before .before .before .before .tabulate .result) (c .before .before .before .before .before .before .before .tabulate .last .1 .1 .0) (c .before .before .before .before .before .before .before .before .before .before .before .pre .0) (c .before .before .before .before .before .before .before .tabulate .ensures) (some-few (c .before .before .before .before .before .before .before .before .before .before .before .args .limits) (now (c .before .before .before .before .before .before .before .before .before .before .before .args .case)) _ (c .before .before .before .before .before .before .before .tabulate .result) (c .before .before .before .before .before .before .before .tabulate .last .1 .1 .0) (c .before .before .before .before .before .before .before .before .before .before .before .pre .0) (c .before .before .before .before .before .before .before .tabulate .ensures) (c .before .before .before .before .before .if1 .left)) (c .before .before .before .before .place .result) (c .before .before .before .before .place .ensures) (c .before .fill-links .last .1 .1 .0) (c .before .fill-links .ensures)))
 
--- src/weigh.rt:102:1
 returns-2 : tie.Need-returns-2
-returns-2 c = ?
+returns-2 c = case-weighed (c .before .before .before .before .before .before .before .before .before .before .before .before .args .limits) (now (c .before .before .before .before .before .before .before .before .before .before .before .before .args .case)) (now (c .before .before .before .before .before .before .before .before .before .before .before .before .args .book)) (c .before .before .before .before .before .before .before .before .before .before .before .before .args .count) (c .before .before .before .before .before .before .before .before .before .before .before .before .pre .0) (some-few (c .before .before .before .before .before .before .before .before .before .before .before .before .args .limits) (now (c .before .before .before .before .before .before .before .before .before .before .before .before .args .case)) _ (c .before .before .before .before .before .before .before .before .tabulate .result) (c .before .before .before .before .before .before .before .before .tabulate .last .1 .1 .0) (c .before .before .before .before .before .before .before .before .before .before .before .before .pre .0) (c .before .before .before .before .before .before .before .before .tabulate .ensures) (c .before .before .before .before .before .before .if1 .left)) (take (c .before .before .before .before .before .place .result) (c .before .before .before .before .before .before .before .before .tabulate .last .1 .1 .0)) (tabled-file (c .before .before .before .before .before .before .before .before .before .before .before .before .args .limits) (now (c .before .before .before .before .before .before .before .before .before .before .before .before .args .case)) _ (c .before .before .before .before .before .before .before .before .tabulate .result) (c .before .before .before .before .before .before .before .before .tabulate .last .1 .1 .0) (c .before .before .before .before .before .before .before .before .before .before .before .before .pre .0) (c .before .before .before .before .before .before .before .before .tabulate .ensures) (some-few (c .before .before .before .before .before .before .before .before .before .before .before .before .args .limits) (now (c .before .before .before .before .before .before .before .before .before .before .before .before .args .case)) _ (c .before .before .before .before .before .before .before .before .tabulate .result) (c .before .before .before .before .before .before .before .before .tabulate .last .1 .1 .0) (c .before .before .before .before .before .before .before .before .before .before .before .before .pre .0) (c .before .before .before .before .before .before .before .before .tabulate .ensures) (c .before .before .before .before .before .before .if1 .left)) (c .before .before .before .before .before .place .result) (c .before .before .before .before .before .place .ensures)) (c .weigh-cards .result) (c .weigh-cards .ensures)
 
 pub weigh-book-spec : {M : Type 1} → statement M
 weigh-book-spec =

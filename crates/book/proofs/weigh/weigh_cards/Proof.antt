@@ -28,7 +28,7 @@ enum-known-one : tie.Need-enum-known-one Inv-loop μ-loop
 enum-known-one c = search needs
 
 add-word : tie.Need-add-word Inv-loop μ-loop
-add-word c = weigh-fits (c .before .before .before .before .before .before .before .before .before .before .args .limits) (now (c .before .before .before .before .before .before .before .before .before .before .args .table)) (now (c .before .before .before .before .before .before .before .before .before .before .args .book)) (c .before .before .before .before .before .before .before .before .before .before .args .count) (c .before .before .before .before .before .before .before .loop .word) (c .before .before .before .before .before .before .before .loop .k) (c .before .before .before .before .before .before .before .loop .inv .1) (c .before .before .before .before .before .before .loop-test .taken) (c .before .one .given .0 .0) (sym (%one .1) ∙ c .before .before .before .before .weigh .ensures .0) (c .before .before .before .before .before .before .before .before .before .before .pre .1 .0 .places-are .most)
+add-word c = let fits = weigh-fits (c .before .before .before .before .before .before .before .before .before .before .args .limits) (now (c .before .before .before .before .before .before .before .before .before .before .args .table)) (now (c .before .before .before .before .before .before .before .before .before .before .args .book)) (c .before .before .before .before .before .before .before .before .before .before .args .count) (c .before .before .before .before .before .before .before .loop .word) (c .before .before .before .before .before .before .before .loop .k) (c .before .before .before .before .before .before .before .loop .inv .1) (c .before .before .before .before .before .before .loop-test .taken) (c .before .one .given .0 .0) (sym (c .before .one .given .1) ∙ c .before .before .before .before .weigh .ensures .0) (c .before .before .before .before .before .before .before .before .before .before .pre .1 .0 .places-are .most) in omega (arith, fits)
 
 add-k : tie.Need-add-k Inv-loop μ-loop
 add-k c = omega (arith, c .before .before .before .before .before .before .loop-test .taken, c .before .before .before .before .before .before .before .before .before .before .pre .1 .0 .places-are .most)
@@ -37,7 +37,7 @@ loop-less : tie.Need-loop-less Inv-loop μ-loop
 loop-less c = omega (arith, c .before .before .before .before .before .before .loop-test .taken)
 
 loop-again : tie.Need-loop-again Inv-loop μ-loop
-loop-again c = (c .before .before .before .before .weigh .ensures .1 ∙ c .before .before .before .before .before .before .before .loop .inv .0, weigh-next (c .before .before .before .before .before .before .before .before .before .before .args .limits) (now (c .before .before .before .before .before .before .before .before .before .before .args .table)) (now (c .before .before .before .before .before .before .before .before .before .before .args .book)) (c .before .before .before .before .before .before .before .before .before .before .args .count) (c .before .before .before .before .before .before .before .loop .word) (c .before .before .before .before .before .before .before .loop .k) (c .before .before .before .before .before .before .before .loop .inv .1) (c .before .before .before .before .before .before .loop-test .taken) (c .before .one .given .0 .0) (sym (%one .1) ∙ c .before .before .before .before .weigh .ensures .0))
+loop-again c = (c .before .before .before .before .weigh .ensures .1 ∙ c .before .before .before .before .before .before .before .loop .inv .0, weigh-next (c .before .before .before .before .before .before .before .before .before .before .args .limits) (now (c .before .before .before .before .before .before .before .before .before .before .args .table)) (now (c .before .before .before .before .before .before .before .before .before .before .args .book)) (c .before .before .before .before .before .before .before .before .before .before .args .count) (c .before .before .before .before .before .before .before .loop .word) (c .before .before .before .before .before .before .before .loop .k) (c .before .before .before .before .before .before .before .loop .inv .1) (c .before .before .before .before .before .before .loop-test .taken) (c .before .one .given .0 .0) (sym (c .before .one .given .1) ∙ c .before .before .before .before .weigh .ensures .0))
 
 enum-known-refusal : tie.Need-enum-known-refusal Inv-loop μ-loop
 enum-known-refusal c = search needs
