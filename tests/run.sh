@@ -82,7 +82,7 @@ count() {
 
 # What the tests share is built once. Without a part of it no test builds, and each says so.
 for source in check area picture rows random pages reference normal_reference normalize evidence verify_reference \
-    witness verify subsumes lcs_reference lcs second_unit; do
+    witness verify subsumes lcs_reference lcs book most_specific_reference most_specific second_unit; do
     $c -c "tests/$source.c" -o "$out/$source.o"
 done
 for source in tests/test_*.c; do
