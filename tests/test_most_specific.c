@@ -76,7 +76,7 @@ static const struct {
     {{ROWS(ROOT(0, 0), ALL_NONE(0, R), SOME(0, R, 0, 0))}, {A, NONE}, CARD(1)},
     {A, {NONE, A}, CARD(1)},
     {A, {NONE, NONE}, 0},
-    /* 31 to 33: one with both names is one with either; what is impossible by a role is so of every value restriction. */
+    /* 31 to 33: one with both names is one with either; an impossible value restriction is subsumed by any other. */
     {{ROWS(ROOT(0, 0), SOME(0, R, NAME(3) | NAME(5), 0))},
      {{ROWS(ROOT(0, 0), SOME(0, R, NAME(3), 0), SOME(0, R, NAME(5), 0))},
       {ROWS(ROOT(0, 0), SOME(0, R, NAME(3), 0))},

@@ -87,14 +87,11 @@ static void lcs(void)
 
 static struct book book;
 
-/* Both pictures, and the second once more: as cards they are compared both ways. */
+/* As many cards as allowed, of both pictures: these are compared both ways. */
 static void make_book(void)
 {
-    book_clear(&book);
-    book_card(&book, &in.second);
-    book_card(&book, &in.first);
-    book_card(&book, &in.second);
-    book_end(&book);
+    book_copies(&book, &in.second, ZUVAROPY_MAX_CARDS);
+    book_replace(&book, 1, &in.first);
 }
 
 static void most_specific(void)
