@@ -57,7 +57,7 @@ bench: library
 	@$(CC) $(CFLAGS) -Iinclude -Itests bench/verify.c bench/inputs.c bench/audit.c bench/merge.c bench/scan.c \
 	    bench/timing.c tests/picture.c tests/rows.c tests/random.c tests/evidence.c tests/witness.c \
 	    tests/normal_reference.c tests/reference.c tests/check.c $(LIBRARY) -o build/bench/verify
-	@for call in subsumes lcs; do \
+	@for call in subsumes lcs most_specific; do \
 	    rustc --edition 2021 -O -C panic=abort -D warnings bench/$$call.rs -C link-arg=$(LIBRARY) \
 	        -o build/bench/$$call || exit; \
 	done
@@ -66,6 +66,7 @@ bench: library
 	@build/bench/subsumes
 	@build/bench/verify
 	@build/bench/lcs
+	@build/bench/most_specific
 
 clean:
 	rm -rf build target

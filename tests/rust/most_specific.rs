@@ -4,6 +4,8 @@
 //! the case is kept, so that no table is made twice. A card that cannot be read is refused before a merged table that
 //! is too large, of whichever picture: such a refusal waits until all have been read.
 
+use std::array;
+
 use super::homomorphism::Search;
 use super::normal::{self, TooLarge};
 use super::table::{Table, HEAD_BYTES, TAG_END};
@@ -19,7 +21,7 @@ pub fn find(case: &[u8], book: &[u8]) -> Result<u32, u64> {
     let mut instance = Table::EMPTY;
     let mut too_large = normal::normalize(&picture, &mut instance).err().map(|TooLarge| refusal(Input::First, 14));
     let (cards, count) = split(book).ok_or(refusal(Input::Book, 24))?;
-    let mut kept = Kept { tables: [const { None }; MAX_CARDS], cards: [0; MAX_CARDS], count: 0 };
+    let mut kept = Kept { tables: array::from_fn(|_| None), cards: [0; MAX_CARDS], count: 0 };
     for (card, file) in cards[..count].iter().enumerate() {
         picture.clear();
         picture.read(file).map_err(|question| card_refusal(card, question))?;
@@ -52,7 +54,7 @@ fn split(book: &[u8]) -> Option<([&[u8]; MAX_CARDS], usize)> {
     }
 }
 
-/// The cards that subsume the case, with their normal tables. A table is cleared when it is first needed.
+/// The cards that subsume the case, with their normal tables. There is a table in a place from when it is first needed.
 struct Kept {
     tables: [Option<Table>; MAX_CARDS],
     cards: [u8; MAX_CARDS],
@@ -62,7 +64,7 @@ struct Kept {
 impl Kept {
     /// Keeps a card if it subsumes the case.
     fn add(&mut self, card: usize, picture: &Table, instance: &Table) -> Result<(), TooLarge> {
-        let table = self.tables[self.count].get_or_insert(Table::EMPTY);
+        let table = self.tables[self.count].get_or_insert_with(|| Table::EMPTY);
         table.clear();
         normal::normalize(picture, table)?;
         if Search::new(instance, table).run() {
