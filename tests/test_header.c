@@ -59,7 +59,10 @@ static void test_sizes(void)
     CHECK(ZUVAROPY_REFUTATION_BYTES(1) == 17);
     CHECK(ZUVAROPY_REFUTATION_BYTES(1 + 1) == 31);
     CHECK(ZUVAROPY_MAX_EVIDENCE_BYTES == 46595);
+}
 
+static void test_book_sizes(void)
+{
     CHECK(ZUVAROPY_MAX_CARDS == 32);
     CHECK(ZUVAROPY_CARD_BYTES(ZUVAROPY_PICTURE_BYTES(1)) == 30);
     CHECK(2 * ZUVAROPY_CARD_BYTES(0 + 1) == 8);
@@ -88,7 +91,10 @@ static void test_codes(void)
     CHECK(ZUVAROPY_INPUT_EVIDENCE == 3);
     CHECK(ZUVAROPY_INPUT_BOOK == 4);
     CHECK(ZUVAROPY_INPUT_CARD == 5);
+}
 
+static void test_questions(void)
+{
     CHECK(ZUVAROPY_QUESTION_BUFFER == 1);
     CHECK(ZUVAROPY_QUESTION_HEAD == 2);
     CHECK(ZUVAROPY_QUESTION_TAG == 3);
@@ -352,7 +358,9 @@ static void test_most_specific(void)
 int main(void)
 {
     test_sizes();
+    test_book_sizes();
     test_codes();
+    test_questions();
     test_word();
     test_lent();
     test_validate();
