@@ -3,7 +3,7 @@
 # make test   prove everything, then run the C tests, the comparison with the Rust implementation and the
 #             tests of the verdict program; the last line is 'N passed, M failed'
 # make demo   validate the sample pictures, print their normal tables, ask which subsumes which, check the
-#             sample evidence, print common pictures, and run the verdict program
+#             sample evidence, print common pictures, look up cards, and run the verdict program
 # make bench  time the library beside the same calls hand-written in C and in Rust
 # make clean  remove what the others made
 
@@ -33,7 +33,7 @@ gate: tools
 	@mkdir -p build
 	@CC='$(CC)' sh tests/gate.sh; echo $$? >build/gate.status
 
-EXAMPLES = validate normalize subsumes verify lcs
+EXAMPLES = validate normalize subsumes verify lcs most_specific
 
 demo: library program
 	@mkdir -p build/examples
@@ -46,6 +46,7 @@ demo: library program
 	@sh samples/subsumes.sh build/examples/subsumes build/examples/verify
 	@sh samples/verify.sh build/examples/verify
 	@sh samples/lcs.sh build/examples/lcs
+	@sh samples/most_specific.sh build/examples/most_specific
 	@sh samples/verdict.sh $(PROGRAM)
 
 bench: library
@@ -56,7 +57,7 @@ bench: library
 	@$(CC) $(CFLAGS) -Iinclude -Itests bench/verify.c bench/inputs.c bench/audit.c bench/merge.c bench/scan.c \
 	    bench/timing.c tests/picture.c tests/rows.c tests/random.c tests/evidence.c tests/witness.c \
 	    tests/normal_reference.c tests/reference.c tests/check.c $(LIBRARY) -o build/bench/verify
-	@for call in subsumes lcs; do \
+	@for call in subsumes lcs most_specific; do \
 	    rustc --edition 2021 -O -C panic=abort -D warnings bench/$$call.rs -C link-arg=$(LIBRARY) \
 	        -o build/bench/$$call || exit; \
 	done
@@ -65,6 +66,7 @@ bench: library
 	@build/bench/subsumes
 	@build/bench/verify
 	@build/bench/lcs
+	@build/bench/most_specific
 
 clean:
 	rm -rf build target

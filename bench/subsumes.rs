@@ -7,6 +7,7 @@
 mod library;
 mod pair_bench;
 mod parts;
+mod race;
 #[allow(dead_code)]
 #[path = "../tests/rust/reference.rs"]
 mod reference;

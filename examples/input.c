@@ -25,6 +25,8 @@ static const char *const input_name[] = {
     [ZUVAROPY_INPUT_FIRST] = "first",
     [ZUVAROPY_INPUT_SECOND] = "second",
     [ZUVAROPY_INPUT_EVIDENCE] = "evidence",
+    [ZUVAROPY_INPUT_BOOK] = "book",
+    [ZUVAROPY_INPUT_CARD] = "card",
 };
 
 int input_read(const char *name, uint8_t *bytes, size_t room, size_t *length)
@@ -56,5 +58,8 @@ void input_print_refusal(const char *name, uint64_t word)
 
 void input_print_refused(uint64_t word)
 {
-    printf("refused %s %u\n", input_name[zuvaropy_input(word)], zuvaropy_question(word));
+    printf("refused %s", input_name[zuvaropy_input(word)]);
+    if (zuvaropy_input(word) == ZUVAROPY_INPUT_CARD)
+        printf(" %u", zuvaropy_card(word));
+    printf(" %u\n", zuvaropy_question(word));
 }

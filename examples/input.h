@@ -5,9 +5,10 @@
 
 #include "zuvaropy.h"
 
-/* One byte more than the longest picture or evidence, so that a longer file is seen to be longer. */
+/* One byte more than the longest picture, evidence or book of pictures, so that a longer file is seen to be longer. */
 #define INPUT_PICTURE_ROOM (ZUVAROPY_MAX_PICTURE_BYTES + 1)
 #define INPUT_EVIDENCE_ROOM (ZUVAROPY_MAX_EVIDENCE_BYTES + 1)
+#define INPUT_BOOK_ROOM (ZUVAROPY_MAX_BOOK_BYTES + 1)
 
 /* The first `room` bytes of a file; 0, or -1 with a message if it cannot be read. */
 int input_read(const char *name, uint8_t *bytes, size_t room, size_t *length);
@@ -15,7 +16,8 @@ int input_read(const char *name, uint8_t *bytes, size_t room, size_t *length);
 /* A line that says which question about a file was answered no. */
 void input_print_refusal(const char *name, uint64_t word);
 
-/* A line "refused WHICH N": which input was refused, and by which question. */
+/* A line "refused WHICH N": which input was refused, and by which question. A
+ * card is "card" and its number. */
 void input_print_refused(uint64_t word);
 
 #endif

@@ -81,9 +81,9 @@ extern "C" {
 #define ZUVAROPY_MAX_PICTURE_BYTES    ZUVAROPY_PICTURE_BYTES(ZUVAROPY_MAX_ROWS)
 
 /*
- * The work space of a call on two pictures, in bytes. A call that gets as far
- * as their normal tables leaves the first from byte 0 and the second from byte
- * ZUVAROPY_SECOND_TABLE_AT, and zeros in the rest of each half.
+ * The work space of a call on two pictures or on a book, in bytes. A call on two
+ * that gets as far as their normal tables leaves the first from byte 0 and the
+ * second from byte ZUVAROPY_SECOND_TABLE_AT, and zeros in the rest of each half.
  */
 #define ZUVAROPY_WORK_BYTES       (2 * ZUVAROPY_MAX_PICTURE_BYTES)
 #define ZUVAROPY_SECOND_TABLE_AT  ZUVAROPY_MAX_PICTURE_BYTES
@@ -129,15 +129,30 @@ extern "C" {
 #define ZUVAROPY_MAX_EVIDENCE_BYTES             ZUVAROPY_REFUTATION_BYTES(ZUVAROPY_MAX_INDIVIDUALS)
 
 /*
+ * A book is a catalogue of pictures, its cards: a field for each card, whose
+ * value is the file of the picture, and then the end field. Cards are numbered
+ * from 0. There may be none.
+ */
+
+#define ZUVAROPY_MAX_CARDS  32  /* cards of a book, at most */
+
+/* The whole field of a card whose picture has so many bytes, and the longest
+ * book of which every card can be a picture, in bytes. */
+#define ZUVAROPY_CARD_BYTES(picture_bytes)  (ZUVAROPY_HEAD_BYTES + (picture_bytes))
+#define ZUVAROPY_MAX_BOOK_BYTES \
+    (ZUVAROPY_MAX_CARDS * ZUVAROPY_CARD_BYTES(ZUVAROPY_MAX_PICTURE_BYTES) + ZUVAROPY_HEAD_BYTES)
+
+/*
  * The stack that each call takes at most, in bytes: measured by
  * tests/test_stack.c on pictures as deep as allowed, and rounded up. This is
  * tested and not proved.
  */
-#define ZUVAROPY_VALIDATE_STACK_BYTES   512
-#define ZUVAROPY_NORMALIZE_STACK_BYTES  (17 * 1024)
-#define ZUVAROPY_SUBSUMES_STACK_BYTES   (25 * 1024)
-#define ZUVAROPY_VERIFY_STACK_BYTES     (37 * 1024)
-#define ZUVAROPY_LCS_STACK_BYTES        (30 * 1024)
+#define ZUVAROPY_VALIDATE_STACK_BYTES       512
+#define ZUVAROPY_NORMALIZE_STACK_BYTES      (17 * 1024)
+#define ZUVAROPY_SUBSUMES_STACK_BYTES       (25 * 1024)
+#define ZUVAROPY_VERIFY_STACK_BYTES         (37 * 1024)
+#define ZUVAROPY_LCS_STACK_BYTES            (30 * 1024)
+#define ZUVAROPY_MOST_SPECIFIC_STACK_BYTES  (32 * 1024) /* NN KB */
 
 /*
  * Codes
@@ -148,6 +163,7 @@ extern "C" {
 #define ZUVAROPY_TAG_END         0x2F
 #define ZUVAROPY_TAG_MAP         0x41
 #define ZUVAROPY_TAG_INDIVIDUAL  0x42
+#define ZUVAROPY_TAG_CARD        0x51
 
 /* Kinds of row. */
 #define ZUVAROPY_KIND_ROOT    0  /* row 0, and no other */
@@ -161,7 +177,7 @@ extern "C" {
 
 /* Inputs that a refusal can concern. */
 #define ZUVAROPY_INPUT_BUFFER    0  /* a buffer lent for writing */
-#define ZUVAROPY_INPUT_FIRST     1  /* the first picture, or the only one */
+#define ZUVAROPY_INPUT_FIRST     1  /* the first picture, the only one, or the case */
 #define ZUVAROPY_INPUT_SECOND    2  /* the second picture */
 #define ZUVAROPY_INPUT_EVIDENCE  3  /* the evidence */
 #define ZUVAROPY_INPUT_BOOK      4  /* the book */
@@ -208,6 +224,9 @@ extern "C" {
 #define ZUVAROPY_QUESTION_INDIVIDUAL  21  /* each: parent below its number, role below ZUVAROPY_ROLES (both 0 in 0)? */
 #define ZUVAROPY_QUESTION_INSTANCE    22  /* is individual 0 an instance of the first picture? */
 #define ZUVAROPY_QUESTION_REFUTED     23  /* is it not an instance of the second? */
+
+/* Asked of a book, before its cards are asked 2 to 13. */
+#define ZUVAROPY_QUESTION_BOOK        24  /* is it a book, by heads, lengths and number of fields, to its last byte? */
 
 /*
  * The answer word
@@ -497,6 +516,50 @@ uint64_t zuvaropy_verify(const uint8_t *first, size_t first_len, const uint8_t *
 #define zuvaropy_verify(first, first_len, second, second_len, evidence, evidence_len, work, work_len) \
     zuvaropy_verify(zuvaropy_lent(first), (first_len), zuvaropy_lent(second), (second_len), zuvaropy_lent(evidence), \
                     (evidence_len), zuvaropy_lent_writable(work), (work_len))
+
+/*
+ * Find the most specific cards of a book that subsume a picture, the case.
+ *
+ * A card is among them if it subsumes the case, and subsumes no other card of
+ * the book that subsumes the case. Two cards that have the same instances
+ * subsume each other, so that neither is among them; so also two cards that are
+ * the same bytes.
+ *
+ * Reads:   case_picture, at most case_picture_len bytes; book, at most book_len
+ *          bytes.
+ * Writes:  work, its first ZUVAROPY_WORK_BYTES bytes: zeros. Bytes after them
+ *          keep their contents. A refusal writes nothing.
+ * Returns: ZUVAROPY_OUTCOME_YES, value: the set of these cards, card n as the
+ *          bit of weight 2^n. It is 0 if there are none, as of a book without
+ *          cards; or
+ *          ZUVAROPY_OUTCOME_REFUSAL, in this order:
+ *          question 1, input ZUVAROPY_INPUT_BUFFER, if work_len is below
+ *          ZUVAROPY_WORK_BYTES;
+ *          question 2 to 13, input ZUVAROPY_INPUT_FIRST, of the case, as
+ *          zuvaropy_validate;
+ *          question 24, input ZUVAROPY_INPUT_BOOK, if the book is not 0 to
+ *          ZUVAROPY_MAX_CARDS whole fields of tag ZUVAROPY_TAG_CARD and then
+ *          the end field, or goes on after it. The values may be of any length;
+ *          question 2 to 13, input ZUVAROPY_INPUT_CARD, of the cards in turn:
+ *          all of one card before the next card. zuvaropy_card says which;
+ *          question 14, input ZUVAROPY_INPUT_FIRST, of the case, as
+ *          zuvaropy_normalize;
+ *          question 14, input ZUVAROPY_INPUT_CARD, of the cards in turn.
+ *
+ * Any bytes of any length may be given as the case and as the book; an empty
+ * buffer is no book, and a card of length 0 is refused by question 2. The work
+ * space may hold anything beforehand. It must not overlap any other buffer; the
+ * others may overlap.
+ *
+ * The call takes at most ZUVAROPY_MOST_SPECIFIC_STACK_BYTES of stack. Its time
+ * grows at most as the square of the number of cards that subsume the case: each
+ * of them is compared with each other at most once, as zuvaropy_subsumes would.
+ */
+uint64_t zuvaropy_most_specific(const uint8_t *case_picture, size_t case_picture_len, const uint8_t *book,
+                                size_t book_len, uint8_t *work, size_t work_len);
+#define zuvaropy_most_specific(case_picture, case_picture_len, book, book_len, work, work_len) \
+    zuvaropy_most_specific(zuvaropy_lent(case_picture), (case_picture_len), zuvaropy_lent(book), (book_len), \
+                           zuvaropy_lent_writable(work), (work_len))
 
 #ifdef __cplusplus
 }

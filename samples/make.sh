@@ -1,5 +1,5 @@
 #!/bin/sh
-# Writes the sample pictures and evidence: sh samples/make.sh [FOLDER], by default beside this script.
+# Writes the sample pictures, evidence and books: sh samples/make.sh [FOLDER], by default beside this script.
 set -eu
 folder=${1:-$(dirname "$0")}
 mkdir -p "$folder"
@@ -38,6 +38,14 @@ individual() {
     bytes 0 0 0 0 0 0 0 "$3"
 }
 
+# card ROWS..: a card, which is a picture of the rows that the command writes.
+card() {
+    length=$({ "$@"; end; } | wc -c)
+    bytes 81 $((length / 256)) $((length % 256))
+    "$@"
+    end
+}
+
 root=0 some=1 all=2              # kinds
 child=0 pet=1                    # roles
 woman=1 doctor=2 smoker=4 dog=8  # names 0 to 3, by weight
@@ -60,9 +68,29 @@ friend() {
     row 0 $all $pet 0 $dog 0
 }
 
+# Anything, a woman, a doctor, a woman whose children do not smoke, and somebody with a child who has a dog.
+top() {
+    row 0 $root 0 0 0 0
+}
+woman() {
+    row 0 $root 0 0 $woman 0
+}
+doctor() {
+    row 0 $root 0 0 $doctor 0
+}
+healthy() {
+    woman
+    row 0 $all $child 0 0 $smoker
+}
+walker() {
+    top
+    row 0 $some $child 0 0 0
+    row 1 $some $pet 0 $dog 0
+}
+
 # A chain of so many edges.
 chain() {
-    row 0 $root 0 0 0 0
+    top
     parent=0
     while [ "$parent" -lt "$1" ]; do
         row "$parent" $some $child 0 $doctor 0
@@ -110,7 +138,7 @@ apart() {
 
 { family; end; } >"$folder/family.pic"
 { friend; end; } >"$folder/friend.pic"
-{ row 0 $root 0 0 0 0; end; } >"$folder/top.pic"     # what everything is an instance of
+{ top; end; } >"$folder/top.pic"                     # what everything is an instance of
 { none; end; } >"$folder/none.pic"                   # what nothing is an instance of
 { family; bytes 16 0 21 0 1 2; } >"$folder/cut.pic"  # a sixth row, cut off
 { chain 13; end; } >"$folder/deep.pic"               # one edge more than allowed
@@ -121,3 +149,16 @@ apart() {
 { map 0; end; } >"$folder/top.map"            # top subsumes everything
 { map 0 1 1; end; } >"$folder/both-each.map"  # each subsumes both: both names are at one row
 { apart; end; } >"$folder/each-both.ref"      # both does not subsume each
+
+cards() {
+    card top
+    card woman
+    card healthy
+    card walker
+    card doctor
+}
+
+{ cards; end; } >"$folder/cards.book"
+{ card woman; card woman; end; } >"$folder/twins.book"              # they subsume each other
+{ card top; card chain 13; card woman; end; } >"$folder/deep.book"  # card 1 has one edge more than allowed
+cards >"$folder/open.book"                                          # without its end field

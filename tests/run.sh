@@ -82,7 +82,7 @@ count() {
 
 # What the tests share is built once. Without a part of it no test builds, and each says so.
 for source in check area picture rows random pages reference normal_reference normalize evidence verify_reference \
-    witness verify subsumes lcs_reference lcs second_unit; do
+    witness verify subsumes lcs_reference lcs book most_specific_reference most_specific second_unit; do
     $c -c "tests/$source.c" -o "$out/$source.o"
 done
 for source in tests/test_*.c; do
@@ -153,8 +153,9 @@ readme() {
 demo() {
     awk '/^`make demo` ends with$/ { at = 1; next } at && /^```$/ { if (at++ == 2) exit; next } at == 2' README.md \
         >"$out/demo.log" &&
-        (cd samples && cat validate.stdout normalize.stdout subsumes.stdout verify.stdout lcs.stdout verdict.stdout) |
-        diff - "$out/demo.log"
+        for example in validate normalize subsumes verify lcs most_specific verdict; do
+            cat "samples/$example.stdout"
+        done | diff - "$out/demo.log"
 }
 
 if command -v nm >/dev/null; then
@@ -168,6 +169,7 @@ one 'example normalize' example normalize "$out/normalize" samples/*.pic
 one 'example verify' example verify sh samples/verify.sh "$out/verify"
 one 'example subsumes' example subsumes sh samples/subsumes.sh "$out/subsumes" "$out/verify"
 one 'example lcs' example lcs sh samples/lcs.sh "$out/lcs"
+one 'example most_specific' example most_specific sh samples/most_specific.sh "$out/most_specific"
 one 'readme, validate' readme 1 'a picture of 2 rows'
 one 'readme, yes' readme 2 'yes, with a map of 12 bytes
   row 0 goes to row 0
@@ -177,6 +179,9 @@ checked: taken' samples/both.pic samples/each.pic
 one 'readme, no' readme 2 'no, with a refutation of 45 bytes
 checked: taken' samples/each.pic samples/both.pic
 one 'readme, common' readme 3 'a common picture of 5 rows' samples/family.pic samples/friend.pic
+one 'readme, cards' readme 4 'card 2
+card 3
+card 4' samples/friend.pic samples/cards.book
 one 'readme, demo' demo
 
 count verdict sh tests/verdict.sh "$verdict"

@@ -34,3 +34,9 @@ uint64_t second_unit_lcs(const uint8_t *first, size_t first_len, const uint8_t *
 {
     return zuvaropy_lcs(first, first_len, second, second_len, work, work_len, result, result_len);
 }
+
+uint64_t second_unit_most_specific(const uint8_t *case_picture, size_t case_picture_len, const uint8_t *book,
+                                   size_t book_len, uint8_t *work, size_t work_len)
+{
+    return zuvaropy_most_specific(case_picture, case_picture_len, book, book_len, work, work_len);
+}

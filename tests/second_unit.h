@@ -15,5 +15,7 @@ uint64_t second_unit_verify(const uint8_t *first, size_t first_len, const uint8_
                             const uint8_t *evidence, size_t evidence_len, uint8_t *work, size_t work_len);
 uint64_t second_unit_lcs(const uint8_t *first, size_t first_len, const uint8_t *second, size_t second_len,
                          uint8_t *work, size_t work_len, uint8_t *result, size_t result_len);
+uint64_t second_unit_most_specific(const uint8_t *case_picture, size_t case_picture_len, const uint8_t *book,
+                                   size_t book_len, uint8_t *work, size_t work_len);
 
 #endif

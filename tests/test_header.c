@@ -18,6 +18,9 @@
 #if ZUVAROPY_WORK_BYTES != 12294 || ZUVAROPY_MAX_EVIDENCE_BYTES != 46595 || ZUVAROPY_TAG_MAP != 0x41
 #error "a size or a tag is not that of evidence"
 #endif
+#if ZUVAROPY_MAX_CARDS != 32 || ZUVAROPY_MAX_BOOK_BYTES != 196803 || ZUVAROPY_TAG_CARD != 0x51
+#error "a size or a tag is not that of a book"
+#endif
 
 static void test_sizes(void)
 {
@@ -58,12 +61,21 @@ static void test_sizes(void)
     CHECK(ZUVAROPY_MAX_EVIDENCE_BYTES == 46595);
 }
 
+static void test_book_sizes(void)
+{
+    CHECK(ZUVAROPY_MAX_CARDS == 32);
+    CHECK(ZUVAROPY_CARD_BYTES(ZUVAROPY_PICTURE_BYTES(1)) == 30);
+    CHECK(2 * ZUVAROPY_CARD_BYTES(0 + 1) == 8);
+    CHECK(ZUVAROPY_MAX_BOOK_BYTES == 32 * (3 + 6147) + 3);
+}
+
 static void test_codes(void)
 {
     CHECK(ZUVAROPY_TAG_ROW == 0x10);
     CHECK(ZUVAROPY_TAG_END == 0x2F);
     CHECK(ZUVAROPY_TAG_MAP == 0x41);
     CHECK(ZUVAROPY_TAG_INDIVIDUAL == 0x42);
+    CHECK(ZUVAROPY_TAG_CARD == 0x51);
 
     CHECK(ZUVAROPY_KIND_ROOT == 0);
     CHECK(ZUVAROPY_KIND_EXISTS == 1);
@@ -79,7 +91,10 @@ static void test_codes(void)
     CHECK(ZUVAROPY_INPUT_EVIDENCE == 3);
     CHECK(ZUVAROPY_INPUT_BOOK == 4);
     CHECK(ZUVAROPY_INPUT_CARD == 5);
+}
 
+static void test_questions(void)
+{
     CHECK(ZUVAROPY_QUESTION_BUFFER == 1);
     CHECK(ZUVAROPY_QUESTION_HEAD == 2);
     CHECK(ZUVAROPY_QUESTION_TAG == 3);
@@ -103,6 +118,7 @@ static void test_codes(void)
     CHECK(ZUVAROPY_QUESTION_INDIVIDUAL == 21);
     CHECK(ZUVAROPY_QUESTION_INSTANCE == 22);
     CHECK(ZUVAROPY_QUESTION_REFUTED == 23);
+    CHECK(ZUVAROPY_QUESTION_BOOK == 24);
 }
 
 static void test_word(void)
@@ -295,10 +311,56 @@ static void test_lcs(void)
     CHECK(next_result == result + 1);
 }
 
+/* A book whose only card is the picture. */
+static uint8_t book[ZUVAROPY_CARD_BYTES(ZUVAROPY_PICTURE_BYTES(1)) + ZUVAROPY_HEAD_BYTES];
+
+static void make_book(void)
+{
+    make_picture();
+    memset(book, 0, sizeof book);
+    book[0] = ZUVAROPY_TAG_CARD;
+    book[2] = ZUVAROPY_PICTURE_BYTES(1);
+    memcpy(book + ZUVAROPY_HEAD_BYTES, bytes, sizeof bytes);
+    book[sizeof book - ZUVAROPY_HEAD_BYTES] = ZUVAROPY_TAG_END;
+}
+
+static void test_most_specific(void)
+{
+    uint64_t (*function)(const uint8_t *, size_t, const uint8_t *, size_t, uint8_t *, size_t) = zuvaropy_most_specific;
+    const size_t length = sizeof bytes, book_length = sizeof book;
+    const uint64_t card_0 = (uint64_t)1 << 56 | 1;
+    const uint64_t no_buffer = (uint64_t)1 << 48;
+    const uint64_t no_case = (uint64_t)2 << 48 | (uint64_t)1 << 40, no_book = (uint64_t)24 << 48 | (uint64_t)4 << 40;
+    const uint8_t *next = bytes, *next_book = book;
+    uint8_t *next_work = work;
+
+    make_book();
+    work[0] = work[ZUVAROPY_WORK_BYTES - 1] = 7;
+    CHECK_WORD(zuvaropy_most_specific(bytes, length, book, book_length, work, sizeof work), card_0, 0);
+    CHECK(work[0] == 0);
+    CHECK(work[ZUVAROPY_WORK_BYTES - 1] == 0);
+    CHECK_WORD((zuvaropy_most_specific)(bytes, length, book, book_length, work, sizeof work), card_0, 0);
+    CHECK_WORD(function(bytes, length, book, book_length, work, sizeof work), card_0, 0);
+    CHECK_WORD(second_unit_most_specific(bytes, length, book, book_length, work, sizeof work), card_0, 0);
+
+    CHECK_WORD(zuvaropy_most_specific(bytes, length, book, book_length, NULL, 0), no_buffer, 0);
+    CHECK_WORD(zuvaropy_most_specific(NULL, 0, book, book_length, work, sizeof work), no_case, 0);
+    CHECK_WORD(zuvaropy_most_specific(bytes, length, NULL, 0, work, sizeof work), no_book, 0);
+    CHECK_WORD(zuvaropy_most_specific(NULL, 0, NULL, 0, NULL, 0), no_buffer, 0);
+
+    /* The macro evaluates its arguments once. */
+    zuvaropy_most_specific(next++, 0, next_book++, 0, next_work++, 0);
+    CHECK(next == bytes + 1);
+    CHECK(next_book == book + 1);
+    CHECK(next_work == work + 1);
+}
+
 int main(void)
 {
     test_sizes();
+    test_book_sizes();
     test_codes();
+    test_questions();
     test_word();
     test_lent();
     test_validate();
@@ -306,6 +368,7 @@ int main(void)
     test_subsumes();
     test_verify();
     test_lcs();
+    test_most_specific();
 #ifdef __cplusplus
     return check_summary("header as C++");
 #else

@@ -7,6 +7,7 @@
 
 #define _XOPEN_SOURCE 600 /* makecontext */
 
+#include "book.h"
 #include "check.h"
 #include "evidence.h"
 #include "rows.h"
@@ -84,6 +85,20 @@ static void lcs(void)
                         sizeof common);
 }
 
+static struct book book;
+
+/* As many cards as allowed, of both pictures: these are compared both ways. */
+static void make_book(void)
+{
+    book_copies(&book, &in.second, ZUVAROPY_MAX_CARDS);
+    book_replace(&book, 1, &in.first);
+}
+
+static void most_specific(void)
+{
+    word = zuvaropy_most_specific(in.first.bytes, in.first.length, book.bytes, book.length, work, sizeof work);
+}
+
 static void check_call(const char *name, void (*call)(void), unsigned int outcome, size_t most)
 {
     const size_t bytes = taken(call);
@@ -102,6 +117,8 @@ static void check_calls(unsigned int verdict, unsigned int common)
     check_call("subsumes", subsumes, verdict, ZUVAROPY_SUBSUMES_STACK_BYTES);
     check_call("verify", verify, verdict, ZUVAROPY_VERIFY_STACK_BYTES);
     check_call("lcs", lcs, common, ZUVAROPY_LCS_STACK_BYTES);
+    make_book();
+    check_call("most_specific", most_specific, ZUVAROPY_OUTCOME_YES, ZUVAROPY_MOST_SPECIFIC_STACK_BYTES);
 }
 
 /* A chain with a name at its end. */

@@ -1,52 +1,14 @@
 //! One pair of pictures given to the library and to the reference, and what came back compared.
 
+use super::checks::{hex, Checks};
+use super::lent::{Lent, Noise};
 use super::reference::table::{MAX_BYTES, ROW_BYTES};
 use super::reference::{answer, outcome, question, value, Input, MAX_EVIDENCE_BYTES, NO, WORK_BYTES, YES};
 use super::rng::Rng;
 use super::tally::Tally;
 use super::{damage, library, pairs, reference};
 
-/// One fault may fail many thousand checks; the first few say enough.
-const SHOWN: u64 = 5;
-
 const DAMAGES: usize = 3;
-
-/// A buffer lent to both sides with the same bytes in it.
-#[derive(Default)]
-struct Lent {
-    before: Vec<u8>,
-    expected: Vec<u8>,
-    actual: Vec<u8>,
-}
-
-impl Lent {
-    fn agree(&self) -> bool {
-        self.expected == self.actual
-    }
-
-    fn untouched(&self) -> bool {
-        self.actual == self.before
-    }
-}
-
-/// Bytes at random, of which each buffer gets a part.
-struct Noise(Vec<u8>);
-
-impl Noise {
-    /// Lends at least as many bytes as are needed; seldom too few.
-    fn lend(&self, lent: &mut Lent, needed: usize, rng: &mut Rng) {
-        let length = match rng.below(128) {
-            0 => rng.pick(&[0, 1, needed - 1, needed / 2]),
-            1..64 => needed,
-            _ => needed + rng.below(40),
-        };
-        let from = rng.below(self.0.len() - length);
-        for bytes in [&mut lent.before, &mut lent.expected, &mut lent.actual] {
-            bytes.clear();
-            bytes.extend_from_slice(&self.0[from..from + length]);
-        }
-    }
-}
 
 /// What is being compared, for the description of a mismatch.
 #[derive(Default)]
@@ -59,8 +21,7 @@ struct Subject {
 }
 
 pub struct Comparison {
-    pub passed: u64,
-    pub failed: u64,
+    pub checks: Checks,
     tally: Tally,
     noise: Noise,
     work: Lent,
@@ -70,13 +31,10 @@ pub struct Comparison {
 
 impl Comparison {
     pub fn new() -> Comparison {
-        let mut rng = Rng::new(0);
-        let noise = Noise((0..2 * MAX_EVIDENCE_BYTES).map(|_| rng.byte()).collect());
         Comparison {
-            passed: 0,
-            failed: 0,
+            checks: Checks::default(),
             tally: Tally::default(),
-            noise,
+            noise: Noise::new(),
             work: Lent::default(),
             result: Lent::default(),
             subject: Subject::default(),
@@ -84,22 +42,14 @@ impl Comparison {
     }
 
     fn check(&mut self, ok: bool, what: &str, expected: u64, actual: u64) {
-        if ok {
-            self.passed += 1;
-            return;
-        }
-        self.failed += 1;
-        if self.failed <= SHOWN {
-            let subject = &self.subject;
-            println!("failed: {what}: seed {}, {}", subject.seed, subject.shape);
-            println!("  library {actual:016x}, reference {expected:016x}");
-            println!(
-                "  first {}\n  second {}\n  evidence {}",
-                hex(&subject.first),
-                hex(&subject.second),
-                hex(&subject.evidence)
-            );
-        }
+        let Subject { seed, shape, first, second, evidence } = &self.subject;
+        self.checks.check(ok, || {
+            let words = format!("library {actual:016x}, reference {expected:016x}");
+            let (first, second, evidence) = (hex(first), hex(second), hex(evidence));
+            format!(
+                "{what}: seed {seed}, {shape}\n  {words}\n  first {first}\n  second {second}\n  evidence {evidence}"
+            )
+        });
     }
 
     fn check_word(&mut self, what: &str, expected: u64, actual: u64) {
@@ -243,22 +193,11 @@ impl Comparison {
     /// Every answer occurs; says how often.
     pub fn check_tally(&mut self) {
         self.tally.print();
-        for (answer, times) in self.tally.answers() {
-            if times == 0 {
-                println!("failed: never met: {answer}");
-                self.failed += 1;
-            } else {
-                self.passed += 1;
-            }
-        }
+        self.checks.check_met(self.tally.answers());
     }
 }
 
 /// Rows of a table in the work space.
 fn table_rows(table: &[u8]) -> usize {
     table.chunks_exact(ROW_BYTES).take_while(|field| field[0] == reference::table::TAG_ROW).count()
-}
-
-fn hex(bytes: &[u8]) -> String {
-    bytes.iter().map(|byte| format!("{byte:02x}")).collect()
 }

@@ -1,12 +1,13 @@
-//! Damaged pictures and evidence.
+//! Damaged pictures, evidence and books.
 
 use super::reference::field;
+use super::reference::most_specific::TAG_CARD;
 use super::reference::table::{HEAD_BYTES, ROW_BYTES, TAG_END, VALUE_BYTES};
 use super::reference::{INDIVIDUAL_BYTES, INDIVIDUAL_VALUE_BYTES, MAX_INDIVIDUALS, ROLES, TAG_INDIVIDUAL, TAG_MAP};
 use super::rng::Rng;
 
 /// Numbers next to those that a question compares with.
-const LIMITS: [u8; 16] = [0, 1, 2, 3, 0x0B, 0x0F, 0x10, 0x11, 0x15, 0x1F, 0x20, 0x2F, 0x30, 0x41, 0x42, 0xFF];
+const LIMITS: [u8; 17] = [0, 1, 2, 3, 0x0B, 0x0F, 0x10, 0x11, 0x15, 0x1F, 0x20, 0x2F, 0x30, 0x41, 0x42, 0x51, 0xFF];
 
 /// Changes a picture that has a row so that one of the questions 2 to 13 is likely to be answered no.
 pub fn picture(file: &mut Vec<u8>, rng: &mut Rng) {
@@ -119,4 +120,34 @@ pub fn random_refutation(rng: &mut Rng) -> Vec<u8> {
     }
     file.extend(field::head_bytes(TAG_END, 0));
     file
+}
+
+/// Changes a whole book, mostly the head of a field.
+pub fn book(file: &mut Vec<u8>, rng: &mut Rng) {
+    let heads = heads(file);
+    let at = rng.pick(&heads);
+    let end = file.len() - HEAD_BYTES;
+    match rng.below(10) {
+        0 => file[at] = rng.pick(&LIMITS),
+        1 => file[at + 1] ^= 1 << rng.below(8),
+        2 => file[at + 2] = file[at + 2].wrapping_add(rng.pick(&[1, 2, 3, 24, 253, 255])),
+        3 => file.truncate(at + rng.below(HEAD_BYTES)),
+        4 => file.truncate(end),
+        5 => file[end + 2] = 1 + rng.below(3) as u8,
+        6 => file.extend((0..1 + rng.below(30)).map(|_| rng.byte())),
+        7 => file.splice(at..at, field::head_bytes(TAG_END, 0)).for_each(drop),
+        8 => file.splice(at..at, field::head_bytes(TAG_CARD, 0)).for_each(drop),
+        _ => bytes(file, rng),
+    }
+}
+
+/// Where the fields of a whole book begin.
+fn heads(book: &[u8]) -> Vec<usize> {
+    let mut heads = vec![0];
+    let mut at = 0;
+    while book[at] == TAG_CARD {
+        at += HEAD_BYTES + usize::from(u16::from_be_bytes([book[at + 1], book[at + 2]]));
+        heads.push(at);
+    }
+    heads
 }

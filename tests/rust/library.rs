@@ -33,6 +33,14 @@ extern "C" {
         result: *mut u8,
         result_len: usize,
     ) -> u64;
+    fn zuvaropy_most_specific(
+        case: *const u8,
+        case_len: usize,
+        book: *const u8,
+        book_len: usize,
+        work: *mut u8,
+        work_len: usize,
+    ) -> u64;
 }
 
 // The pointer of a slice is never null, and a slice lent for writing overlaps no other.
@@ -87,5 +95,11 @@ pub fn lcs(first: &[u8], second: &[u8], work: &mut [u8], result: &mut [u8]) -> u
             result.as_mut_ptr(),
             result.len(),
         )
+    }
+}
+
+pub fn most_specific(case: &[u8], book: &[u8], work: &mut [u8]) -> u64 {
+    unsafe {
+        zuvaropy_most_specific(case.as_ptr(), case.len(), book.as_ptr(), book.len(), work.as_mut_ptr(), work.len())
     }
 }

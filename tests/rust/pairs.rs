@@ -49,7 +49,7 @@ pub struct Pair {
 }
 
 /// One change that may make the tree say more, or something else.
-fn change(tree: &mut Tree, draw: &Draw, rng: &mut Rng) {
+pub fn change(tree: &mut Tree, draw: &Draw, rng: &mut Rng) {
     let number = rng.below(tree.len());
     let name = draw.name(rng);
     match rng.below(7) {

@@ -1,15 +1,21 @@
-//! The library and the reference agree on pairs of pictures made at random: on the words, on every byte of the
-//! buffers lent, and on evidence, whole and damaged. Which refutation is written is the library's choice; whichever
-//! it is, both checks take it.
+//! The library and the reference agree on pairs of pictures, and on cases with books, made at random: on the words, on
+//! every byte of the buffers lent, and on evidence, whole and damaged. Which refutation is written is the library's
+//! choice; whichever it is, both checks take it.
 //!
 //!     random [--seed S] [--seconds N]
 //!
-//! A pair is made from its own seed, one more than that of the pair before: to see a pair again, give its seed.
-//! Without seconds the number of pairs is fixed, and every run makes the same ones.
+//! A pair and a book are made from a seed of their own, one more than that of those before: to see them again, give
+//! their seed. Without seconds their number is fixed, and every run makes the same ones.
 
+mod book;
+mod book_tally;
+mod books;
+mod checks;
 mod compare;
+mod compare_book;
 mod damage;
 mod draw;
+mod lent;
 mod library;
 mod pairs;
 #[path = "reference.rs"] // its modules are beside it
@@ -23,6 +29,7 @@ use std::process::ExitCode;
 use std::time::{Duration, Instant};
 
 use compare::Comparison;
+use compare_book::BookComparison;
 use rng::Rng;
 
 const PAIRS: u64 = 20_000;
@@ -56,14 +63,18 @@ fn main() -> ExitCode {
         Some(seconds) => start.elapsed() < Duration::from_secs(seconds),
         None => pairs < PAIRS,
     };
-    let mut comparison = Comparison::new();
-    let mut pairs = 0;
-    while more(pairs) {
-        let seed = arguments.seed.wrapping_add(pairs);
-        comparison.pair(seed, &mut Rng::new(seed));
-        pairs += 1;
+    let (mut pairs, mut books) = (Comparison::new(), BookComparison::new());
+    let mut made = 0;
+    while more(made) {
+        let seed = arguments.seed.wrapping_add(made);
+        pairs.pair(seed, &mut Rng::new(seed));
+        books.book(seed, &mut Rng::new(!seed));
+        made += 1;
     }
-    comparison.check_tally();
-    println!("test_rust_random: {} passed, {} failed", comparison.passed, comparison.failed);
-    ExitCode::from(u8::from(comparison.failed > 0))
+    pairs.check_tally();
+    books.check_tally();
+    let passed = pairs.checks.passed + books.checks.passed;
+    let failed = pairs.checks.failed + books.checks.failed;
+    println!("test_rust_random: {passed} passed, {failed} failed");
+    ExitCode::from(u8::from(failed > 0))
 }

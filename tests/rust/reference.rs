@@ -1,12 +1,13 @@
 //! The calls of the library once more, sharing no code with it: what the library is compared with, and timed against.
 //!
-//! | Call        | Answer                                                     |
-//! |-------------|------------------------------------------------------------|
-//! | `validate`  | rows of a picture                                          |
-//! | `normalize` | length of its normal table                                 |
-//! | `subsumes`  | verdict and length of its evidence                         |
-//! | `verify`    | which evidence was taken                                   |
-//! | `lcs`       | length of the common picture                               |
+//! | Call            | Answer                                                 |
+//! |-----------------|--------------------------------------------------------|
+//! | `validate`      | rows of a picture                                      |
+//! | `normalize`     | length of its normal table                             |
+//! | `subsumes`      | verdict and length of its evidence                     |
+//! | `verify`        | which evidence was taken                               |
+//! | `lcs`           | length of the common picture                           |
+//! | `most_specific` | set of the most specific cards that subsume a case     |
 //!
 //! Pictures are read once, into rows linked by number. Nothing is allocated: all is in the buffers lent, or on the
 //! stack.
@@ -16,6 +17,7 @@ pub mod evidence;
 pub mod field;
 pub mod homomorphism;
 pub mod lcs;
+pub mod most_specific;
 pub mod normal;
 pub mod table;
 
@@ -43,10 +45,16 @@ pub enum Input {
     First = 1,
     Second = 2,
     Evidence = 3,
+    Book = 4,
+    Card = 5,
 }
 
 pub fn refusal(input: Input, question: u8) -> u64 {
     u64::from(question) << 48 | (input as u64) << 40
+}
+
+pub fn card_refusal(card: usize, question: u8) -> u64 {
+    refusal(Input::Card, question) | (card as u64) << 32
 }
 
 pub fn answer(outcome: u64, value: usize) -> u64 {
@@ -135,6 +143,20 @@ pub fn lcs(first: &[u8], second: &[u8], work: &mut [u8], result: &mut [u8]) -> u
     match lcs::write(&first_normal, &second_normal, result) {
         Ok(length) => answer(YES, length),
         Err(lcs::TooLarge) => refusal(Input::Second, 15),
+    }
+}
+
+/// The most specific cards of a book that subsume the case.
+pub fn most_specific(case: &[u8], book: &[u8], work: &mut [u8]) -> u64 {
+    if work.len() < WORK_BYTES {
+        return refusal(Input::Buffer, 1);
+    }
+    match most_specific::find(case, book) {
+        Ok(cards) => {
+            work[..WORK_BYTES].fill(0);
+            answer(YES, cards as usize)
+        }
+        Err(refusal) => refusal,
     }
 }
 

@@ -103,6 +103,11 @@ pub struct Table {
 impl Table {
     pub const EMPTY: Table = Table { rows: [Row::EMPTY; MAX_ROWS], count: 0 };
 
+    /// Empties the table. Its rows stay where they are: none beyond the count is looked at.
+    pub fn clear(&mut self) {
+        self.count = 0;
+    }
+
     pub fn row(&self, number: u8) -> &Row {
         &self.rows[usize::from(number)]
     }

@@ -5,7 +5,7 @@ use super::reference::table::{
     HEAD_BYTES, KIND_EXISTS, KIND_FORALL, KIND_ROOT, ROW_BYTES, TAG_END, TAG_ROW, VALUE_BYTES,
 };
 
-#[derive(Clone, Copy)]
+#[derive(Clone, Copy, PartialEq)]
 pub struct Node {
     pub parent: usize,
     pub kind: u8,

@@ -1,7 +1,7 @@
-//! Trees that subsume a given one, made at random from it.
+//! Trees that subsume a given one, or have the same instances, made at random from it.
 
 use super::rng::Rng;
-use super::trees::{Node, Tree};
+use super::trees::{all, Node, Tree};
 
 /// A tree that subsumes this one.
 pub fn weaken(tree: &[Node], rng: &mut Rng) -> Tree {
@@ -12,11 +12,7 @@ pub fn weaken(tree: &[Node], rng: &mut Rng) -> Tree {
         node.excluded &= if rng.chance(fewer, 16) { rng.next() } else { !0 };
         node.impossible &= !rng.chance(fewer, 32);
     }
-    // A restriction said twice says no more.
-    let twice = rng.below(weaker.len());
-    if twice > 0 && weaker.len() < 200 && rng.chance(1, 2) {
-        weaker.push(weaker[twice]);
-    }
+    say_twice(&mut weaker, rng);
     if rng.chance(1, 2) {
         reorder(&weaker, rng)
     } else {
@@ -24,8 +20,27 @@ pub fn weaken(tree: &[Node], rng: &mut Rng) -> Tree {
     }
 }
 
+/// A tree with the same instances; mostly not the same tree.
+pub fn reword(tree: &[Node], rng: &mut Rng) -> Tree {
+    let mut same = tree.to_vec();
+    say_twice(&mut same, rng);
+    // A value restriction without names says nothing.
+    if same.len() < 200 && rng.chance(1, 2) {
+        same.push(all(rng.below(same.len().min(3)), rng.below(32) as u8, 0));
+    }
+    reorder(&same, rng)
+}
+
+/// A restriction said twice says no more.
+fn say_twice(tree: &mut Tree, rng: &mut Rng) {
+    let twice = rng.below(tree.len());
+    if twice > 0 && tree.len() < 200 && rng.chance(1, 2) {
+        tree.push(tree[twice]);
+    }
+}
+
 /// Keeps some nodes, and none below one that goes.
-fn filter(tree: &[Node], mut keep: impl FnMut(usize) -> bool) -> Tree {
+pub fn filter(tree: &[Node], mut keep: impl FnMut(usize) -> bool) -> Tree {
     let mut numbers = vec![None; tree.len()];
     let mut kept = Tree::new();
     for (number, node) in tree.iter().enumerate() {

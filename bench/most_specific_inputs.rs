@@ -1,0 +1,145 @@
+//! Cases and books that are timed: each maker gives the case and the cards.
+
+use super::parts::card;
+use super::reference::most_specific::MAX_CARDS;
+use super::reference::table::MAX_ROWS;
+use super::rng::Rng;
+use super::trees::{root, some, spread, Tree};
+
+pub type Book = (Tree, Vec<Tree>);
+
+const R: u8 = 8;
+const ROWS: usize = 20;
+const LETTERED_ROWS: usize = MAX_CARDS / 2;
+const DEPTH: usize = 3;
+
+/// A card of 10 to 20 rows.
+fn small(rng: &mut Rng) -> Tree {
+    card(10 + rng.below(11), DEPTH, rng)
+}
+
+/// A case of 20 rows with three names at each.
+fn named(rng: &mut Rng) -> Tree {
+    let mut tree = card(ROWS, DEPTH, rng);
+    for node in &mut tree {
+        node.wanted |= 1 << rng.below(32) | 1 << rng.below(32);
+    }
+    tree
+}
+
+/// The case without its last rows, up to ten, and with fewer names.
+fn weaker(case: &Tree, rng: &mut Rng) -> Tree {
+    let mut tree = case[..ROWS - rng.below(11)].to_vec();
+    for node in &mut tree {
+        node.wanted &= if rng.chance(1, 4) { rng.next() } else { !0 };
+    }
+    tree
+}
+
+/// As many cards as there may be, of which five are weaker than the case; the others have nothing to do with it.
+pub fn typical(rng: &mut Rng) -> Book {
+    let case = named(rng);
+    let cards = (0..MAX_CARDS).map(|n| if n % 6 == 3 { weaker(&case, rng) } else { small(rng) }).collect();
+    (case, cards)
+}
+
+pub fn apart(rng: &mut Rng) -> Book {
+    let case = named(rng);
+    (case, (0..MAX_CARDS).map(|_| small(rng)).collect())
+}
+
+/// All weaker than the case, each in its own way.
+pub fn covering(rng: &mut Rng) -> Book {
+    let case = named(rng);
+    let cards = (0..MAX_CARDS).map(|_| weaker(&case, rng)).collect();
+    (case, cards)
+}
+
+/// A case of 16 rows with two names at each that no other row has: as many as there may be cards.
+fn lettered(rng: &mut Rng) -> Tree {
+    let mut case = card(LETTERED_ROWS, DEPTH, rng);
+    for (number, node) in case.iter_mut().enumerate() {
+        node.wanted |= 1 << (32 + number) | 1 << (32 + LETTERED_ROWS + number);
+        node.excluded = 0;
+    }
+    case
+}
+
+/// Takes away one of these names.
+fn unletter(tree: &mut Tree, name: usize) {
+    tree[name % LETTERED_ROWS].wanted &= !(1 << (32 + name));
+}
+
+/// Each card lacks one name more than the one before it, and subsumes that. The most specific one is the first, or the
+/// last.
+pub fn chain(rng: &mut Rng) -> Book {
+    let case = lettered(rng);
+    let mut tree = case.clone();
+    let lacking = |name| {
+        unletter(&mut tree, name);
+        tree.clone()
+    };
+    let cards = (0..MAX_CARDS).map(lacking).collect();
+    (case, cards)
+}
+
+pub fn chain_reversed(rng: &mut Rng) -> Book {
+    let (case, mut cards) = chain(rng);
+    cards.reverse();
+    (case, cards)
+}
+
+/// Each card lacks one name of the case, and has all that others lack. The most specific cards are all of them.
+pub fn antichain(count: usize, rng: &mut Rng) -> Book {
+    let case = lettered(rng);
+    let lacking = |name| {
+        let mut tree = case.clone();
+        unletter(&mut tree, name);
+        tree
+    };
+    let cards = (0..count).map(lacking).collect();
+    (case, cards)
+}
+
+/// The same card at every place.
+pub fn copies(rng: &mut Rng) -> Book {
+    let case = lettered(rng);
+    (case.clone(), vec![case; MAX_CARDS])
+}
+
+pub fn empty(rng: &mut Rng) -> Book {
+    (named(rng), Vec::new())
+}
+
+/// 255 existential restrictions with these names each, but the last.
+fn fan(names: u64, last: u64) -> Tree {
+    let mut tree = vec![root()];
+    tree.extend((1..MAX_ROWS).map(|number| some(0, R, if number == MAX_ROWS - 1 { last } else { names })));
+    tree
+}
+
+/// Each row of a card asks for a name that in any other card, and in the case, only the last row has; the last row of a
+/// card asks for these higher names too, which decide.
+fn late(higher: fn(usize) -> u64) -> Book {
+    let last = |card| 0xFFFF_FFFF | higher(card) << 32;
+    (fan(0, !0), (0..MAX_CARDS).map(|card| fan(1 << card, last(card))).collect())
+}
+
+/// No card subsumes another: each is compared with each, and every row with every row.
+pub fn worst(_: &mut Rng) -> Book {
+    late(|card| 1 << card)
+}
+
+pub fn worst_chain(_: &mut Rng) -> Book {
+    late(|card| (2 << card) - 1)
+}
+
+/// Few rows that merge to the most there may be, with a name each.
+pub fn merged(_: &mut Rng) -> Book {
+    let with = |names: u64| {
+        let mut tree = spread(16, 14, R);
+        tree[0].wanted = names;
+        tree
+    };
+    (with(0xFFFF_FFFF), (0..MAX_CARDS).map(|card| with(1 << card)).collect())
+}

@@ -1,0 +1,48 @@
+/*
+ * Finds the most specific cards of a book that subsume a case.
+ *
+ *   most_specific CASE BOOK
+ *
+ * Prints "no card", or "card" or "cards" and their numbers, or "refused WHICH N":
+ * which input was refused, and by which question. Exits 1 if a file cannot be
+ * read.
+ */
+
+#include "input.h"
+
+#include <stdio.h>
+
+static void print_cards(uint32_t cards)
+{
+    unsigned int card;
+
+    if (cards == 0)
+        printf("no card");
+    else
+        printf((cards & (cards - 1)) == 0 ? "card" : "cards");
+    for (card = 0; card < ZUVAROPY_MAX_CARDS; card++)
+        if (cards >> card & 1)
+            printf(" %u", card);
+    printf("\n");
+}
+
+int main(int argc, char **argv)
+{
+    static uint8_t case_picture[INPUT_PICTURE_ROOM], book[INPUT_BOOK_ROOM], work[ZUVAROPY_WORK_BYTES];
+    size_t case_length, book_length;
+    uint64_t word;
+
+    if (argc != 3) {
+        fprintf(stderr, "usage: %s CASE BOOK\n", argv[0]);
+        return 2;
+    }
+    if (input_read(argv[1], case_picture, sizeof case_picture, &case_length) != 0 ||
+        input_read(argv[2], book, sizeof book, &book_length) != 0)
+        return 1;
+    word = zuvaropy_most_specific(case_picture, case_length, book, book_length, work, sizeof work);
+    if (zuvaropy_outcome(word) == ZUVAROPY_OUTCOME_REFUSAL)
+        input_print_refused(word);
+    else
+        print_cards(zuvaropy_value(word));
+    return 0;
+}

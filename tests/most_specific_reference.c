@@ -1,0 +1,163 @@
+#include "most_specific_reference.h"
+
+#include "normal_reference.h"
+#include "reference.h"
+
+#include <stdbool.h>
+
+struct part {
+    const uint8_t *bytes;
+    size_t length;
+};
+
+static struct part sought;                    /* the case */
+static struct part cards[ZUVAROPY_MAX_CARDS]; /* those of the book */
+static unsigned int card_count;
+static unsigned int subsuming_count;
+
+/* The questions. They give the number of the one whose answer is no, or 0. */
+
+static size_t number(const uint8_t *two_bytes)
+{
+    return two_bytes[0] * (size_t)256 + two_bytes[1];
+}
+
+/* Finds the cards; true if the book has its form. */
+static bool find_cards(const struct book *book)
+{
+    size_t at = 0, left, length;
+
+    for (card_count = 0;; card_count++) {
+        left = book->length - at;
+        if (left < ZUVAROPY_HEAD_BYTES)
+            return false;
+        length = number(book->bytes + at + ZUVAROPY_TAG_BYTES);
+        if (book->bytes[at] == ZUVAROPY_TAG_END)
+            return length == ZUVAROPY_END_VALUE_BYTES && left == ZUVAROPY_HEAD_BYTES;
+        if (book->bytes[at] != ZUVAROPY_TAG_CARD || card_count == ZUVAROPY_MAX_CARDS ||
+            left < ZUVAROPY_CARD_BYTES(length))
+            return false;
+        cards[card_count].bytes = book->bytes + at + ZUVAROPY_HEAD_BYTES;
+        cards[card_count].length = length;
+        at += ZUVAROPY_CARD_BYTES(length);
+    }
+}
+
+/* 2 to 13. */
+static unsigned int ask_reading(const struct part *picture)
+{
+    return reference_read(picture->bytes, picture->length).question;
+}
+
+/* 14. */
+static unsigned int ask_merged(const struct part *picture)
+{
+    static struct normal_reference normal;
+
+    normal_reference(&normal, picture->bytes, picture->length);
+    return normal.question;
+}
+
+static uint64_t refusal(unsigned int input, unsigned int card, unsigned int question)
+{
+    return (uint64_t)question << ZUVAROPY_QUESTION_SHIFT | (uint64_t)input << ZUVAROPY_INPUT_SHIFT |
+           (uint64_t)card << ZUVAROPY_CARD_SHIFT;
+}
+
+/* The first card that a question refuses; 0 if there is none. */
+static uint64_t ask_cards(unsigned int (*ask)(const struct part *))
+{
+    unsigned int n, question;
+
+    for (n = 0; n < card_count; n++) {
+        question = ask(&cards[n]);
+        if (question != 0)
+            return refusal(ZUVAROPY_INPUT_CARD, n, question);
+    }
+    return 0;
+}
+
+static uint64_t ask_case(unsigned int (*ask)(const struct part *))
+{
+    const unsigned int question = ask(&sought);
+
+    return question != 0 ? refusal(ZUVAROPY_INPUT_FIRST, 0, question) : 0;
+}
+
+/* The word of the refusal; 0 if there is none. */
+static uint64_t ask_all(const struct book *book)
+{
+    uint64_t word = ask_case(ask_reading);
+
+    if (word == 0 && !find_cards(book))
+        word = refusal(ZUVAROPY_INPUT_BOOK, 0, ZUVAROPY_QUESTION_BOOK);
+    if (word == 0)
+        word = ask_cards(ask_reading);
+    if (word == 0)
+        word = ask_case(ask_merged);
+    return word != 0 ? word : ask_cards(ask_merged);
+}
+
+/* The cards */
+
+static bool subsumes(const struct part *general, const struct part *specific)
+{
+    static uint8_t work[ZUVAROPY_WORK_BYTES], evidence[ZUVAROPY_MAX_EVIDENCE_BYTES];
+
+    return zuvaropy_outcome(zuvaropy_subsumes(specific->bytes, specific->length, general->bytes, general->length, work,
+                                              sizeof work, evidence, sizeof evidence)) == ZUVAROPY_OUTCOME_YES;
+}
+
+static uint32_t bit(unsigned int card)
+{
+    return UINT32_C(1) << card;
+}
+
+/* The cards that subsume the case. */
+static uint32_t find_subsuming(void)
+{
+    uint32_t found = 0;
+    unsigned int n;
+
+    subsuming_count = 0;
+    for (n = 0; n < card_count; n++)
+        if (subsumes(&cards[n], &sought)) {
+            found |= bit(n);
+            subsuming_count++;
+        }
+    return found;
+}
+
+/* Does card n subsume another one of a set? */
+static bool subsumes_another(unsigned int n, uint32_t set)
+{
+    unsigned int m;
+
+    for (m = 0; m < card_count; m++)
+        if (m != n && (set & bit(m)) != 0 && subsumes(&cards[n], &cards[m]))
+            return true;
+    return false;
+}
+
+uint64_t reference_most_specific(const struct lookup *l)
+{
+    uint32_t subsuming, found = 0;
+    uint64_t word;
+    unsigned int n;
+
+    sought.bytes = l->case_picture.bytes;
+    sought.length = l->case_picture.length;
+    word = ask_all(&l->book);
+    if (word != 0)
+        return word;
+    subsuming = find_subsuming();
+    for (n = 0; n < card_count; n++)
+        if ((subsuming & bit(n)) != 0 && !subsumes_another(n, subsuming))
+            found |= bit(n);
+    return (uint64_t)ZUVAROPY_OUTCOME_YES << ZUVAROPY_OUTCOME_SHIFT | found;
+}
+
+unsigned int reference_most_specific_subsuming(void)
+{
+    return subsuming_count;
+}

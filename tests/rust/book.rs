@@ -1,0 +1,16 @@
+//! Book files.
+
+use super::reference::field;
+use super::reference::most_specific::TAG_CARD;
+use super::reference::table::TAG_END;
+
+/// The book of these cards.
+pub fn encode(cards: &[Vec<u8>]) -> Vec<u8> {
+    let mut file = Vec::new();
+    for card in cards {
+        file.extend(field::head_bytes(TAG_CARD, card.len()));
+        file.extend(card);
+    }
+    file.extend(field::head_bytes(TAG_END, 0));
+    file
+}
