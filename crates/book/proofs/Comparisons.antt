@@ -4,7 +4,7 @@
 --   upper-long                             the upper half has room for a table
 --   upper-in, upper-kept, upper-compared   with card n's table in it both tables are there, the lower one as it was, and the search says which covers which
 --   none-compared                          no pair yet
---   row-begun, row-skipped, row-ended      card m: with none yet; cards that are not wanted left out; with all
+--   row-skipped, row-ended                 card m: cards that are not wanted left out; with all earlier ones
 --   pair-compared                          one pair more
 --   row-left                               a card that does not cover the case
 --   all-compared                           then the word has exactly the covering cards that cover another
@@ -185,56 +185,44 @@ module _ (limits : Limits) (book : List ℕ) (covering : ℕ) where
       at-some (λ k. not (eqb k i) && (has covering k && cardCovers limits book i k)) (cardCount book) 0 j (omega arith) (omega arith)
       (rw (ne-eqb j i other, covers-case, covers))
 
+  -- pairs that come earlier by one order than by another
+  earlier-compared : (m n m₂ n₂ hidden : ℕ) → ((i j : ℕ) → has covering i ≡ true → j < i → Earlier m₂ n₂ i j → Earlier m n i j) →
+      ComparedTo limits book covering m n hidden → ComparedTo limits book covering m₂ n₂ hidden
+  earlier-compared m n m₂ n₂ hidden earlier so =
+      record {
+        sound = so .sound;
+        later = λ i j a b l e. so .later i j a b l (earlier i j a l e);
+        sooner = λ i j a b l e. so .sooner i j a b l (earlier i j a l e);
+      }
+
   pub none-compared : Compared limits book covering 0 0
   none-compared =
       record {
         sound = λ i h. absurd (false≢true (sym (has-none i) ∙ h));
-        lower = λ i j a b l e. absurd (⊎-elim (λ x. omega (arith, x)) (λ x. omega (arith, x .1)) e);
-        upper = λ i j a b l e. absurd (⊎-elim (λ x. omega (arith, x)) (λ x. omega (arith, x .1)) e);
+        later = λ i j a b l e. absurd (⊎-elim (λ x. omega (arith, x)) (λ x. omega (arith, x .1)) e);
+        sooner = λ i j a b l e. absurd (⊎-elim (λ x. omega (arith, x)) (λ x. omega (arith, x .1)) e);
       }
 
   module _ (m hidden : ℕ) where
-    pub row-begun : Compared limits book covering m hidden → ComparedTo limits book covering m (m + 1) hidden
-    row-begun so =
-        record {
-          sound = so .sound;
-          lower = λ i j a b l e. so .lower i j a b l (earlier i j l e);
-          upper = λ i j a b l e. so .upper i j a b l (earlier i j l e);
-        }
-      where
-        earlier : (i j : ℕ) → i < j → Earlier m (m + 1) i j → Earlier m 0 i j
-        earlier i j l (inl x) = inl x
-        earlier i j l (inr (s, x)) = absurd (omega (arith, s, x, l))
-
     pub row-left : has covering m ≡ false → Compared limits book covering m hidden → Compared limits book covering (m + 1) hidden
-    row-left none so =
-        record {
-          sound = so .sound;
-          lower = λ i j a b l e. so .lower i j a b l (earlier i j a e);
-          upper = λ i j a b l e. so .upper i j a b l (earlier i j a e);
-        }
+    row-left none so = earlier-compared m 0 (m + 1) 0 hidden earlier so
       where
-        earlier : (i j : ℕ) → has covering i ≡ true → Earlier (m + 1) 0 i j → Earlier m 0 i j
-        earlier i j a (inl x) = elim (ℕ-discrete i m) [
+        earlier : (i j : ℕ) → has covering i ≡ true → j < i → Earlier (m + 1) 0 i j → Earlier m 0 i j
+        earlier i j a l (inl x) = elim (ℕ-discrete i m) [
           | yes s ↦ absurd (false≢true (sym none ∙ ap (has covering) (sym s) ∙ a))
           | no u ↦ inl (omega (arith, x, u))
         ]
-        earlier i j a (inr (s, x)) = absurd (omega (arith, x))
+        earlier i j a l (inr (s, x)) = absurd (omega (arith, x))
 
-    pub row-ended : (count : ℕ) → Inside count → ComparedTo limits book covering m count hidden → Compared limits book covering (m + 1) hidden
-    row-ended count inside so =
-        record {
-          sound = so .sound;
-          lower = λ i j a b l e. so .lower i j a b l (earlier i j b e);
-          upper = λ i j a b l e. so .upper i j a b l (earlier i j b e);
-        }
+    pub row-ended : ComparedTo limits book covering m m hidden → Compared limits book covering (m + 1) hidden
+    row-ended so = earlier-compared m m (m + 1) 0 hidden earlier so
       where
-        earlier : (i j : ℕ) → has covering j ≡ true → Earlier (m + 1) 0 i j → Earlier m count i j
-        earlier i j b (inl x) = elim (ℕ-discrete i m) [
-          | yes s ↦ inr (s, inside j b)
+        earlier : (i j : ℕ) → has covering i ≡ true → j < i → Earlier (m + 1) 0 i j → Earlier m m i j
+        earlier i j a l (inl x) = elim (ℕ-discrete i m) [
+          | yes s ↦ inr (s, omega (arith, s, l))
           | no u ↦ inl (omega (arith, x, u))
         ]
-        earlier i j b (inr (s, x)) = absurd (omega (arith, x))
+        earlier i j a l (inr (s, x)) = absurd (omega (arith, x))
 
     -- a card that is not wanted though it covers the case: both are passed over
     unwanted : (j : ℕ) → has covering j ≡ true → wanted covering hidden m j ≡ false → (has hidden m ≡ true) × (has hidden j ≡ true)
@@ -247,8 +235,8 @@ module _ (limits : Limits) (book : List ℕ) (covering : ℕ) where
     row-skipped n next none so =
         record {
           sound = so .sound;
-          lower = λ i j a b l e c. ⊎-elim {C = has hidden i ≡ true} (λ x. so .lower i j a b l x c) (λ x. ap (has hidden) (x .0) ∙ unwanted j b (none j (x .1) (x .2)) .0) (parted i j e);
-          upper = λ i j a b l e c. ⊎-elim {C = has hidden j ≡ true} (λ x. so .upper i j a b l x c) (λ x. unwanted j b (none j (x .1) (x .2)) .1) (parted i j e);
+          later = λ i j a b l e c. ⊎-elim {C = has hidden i ≡ true} (λ x. so .later i j a b l x c) (λ x. ap (has hidden) (x .0) ∙ unwanted j b (none j (x .1) (x .2)) .0) (parted i j e);
+          sooner = λ i j a b l e c. ⊎-elim {C = has hidden j ≡ true} (λ x. so .sooner i j a b l x c) (λ x. unwanted j b (none j (x .1) (x .2)) .1) (parted i j e);
         }
       where
         parted : (i j : ℕ) → Earlier m next i j → Earlier m n i j ⊎ ((i ≡ m) × (n ≤ j) × (j < next))
@@ -258,7 +246,7 @@ module _ (limits : Limits) (book : List ℕ) (covering : ℕ) where
           | no y ↦ inr (s, omega (arith, y), x)
         ]
 
-    module _ (n r : ℕ) (so : ComparedTo limits book covering m n hidden) (before : m < n) (inside : n < cardCount book) (covers-case : has covering m ≡ true) (want : wanted covering hidden m n ≡ true) (pair : Paired limits book m n hidden r) where
+    module _ (n r : ℕ) (so : ComparedTo limits book covering m n hidden) (before : n < m) (inside : m < cardCount book) (covers-case : has covering m ≡ true) (want : wanted covering hidden m n ≡ true) (pair : Paired limits book m n hidden r) where
       other-covers : has covering n ≡ true
       unfolding wanted
       other-covers = both (has covering n) (not (has hidden m && has hidden n)) want .0
@@ -284,10 +272,10 @@ module _ (limits : Limits) (book : List ℕ) (covering : ℕ) where
           ⊎-elim {C = passedOver limits book (has covering) i ≡ true}
           (λ e. ⊎-elim {C = passedOver limits book (has covering) i ≡ true} (λ f. so .sound i f)
           (λ f. let (s, c) = both (eqb i m) (cardCovers limits book m n) f in
-          subst (λ k. passedOver limits book (has covering) k ≡ true) (sym (eqb-true i m s)) (over m n (λ z. omega (arith, z, before)) inside other-covers c))
+          subst (λ k. passedOver limits book (has covering) k ≡ true) (sym (eqb-true i m s)) (over m n (λ z. omega (arith, z, before)) (omega arith) other-covers c))
           (either (has hidden i) (eqb i m && cardCovers limits book m n) e))
           (λ e. let (s, c) = both (eqb i n) (cardCovers limits book n m) e in
-          subst (λ k. passedOver limits book (has covering) k ≡ true) (sym (eqb-true i n s)) (over n m (λ z. omega (arith, z, before)) (omega arith) covers-case c))
+          subst (λ k. passedOver limits book (has covering) k ≡ true) (sym (eqb-true i n s)) (over n m (λ z. omega (arith, z, before)) inside covers-case c))
           (either (has hidden i || (eqb i m && cardCovers limits book m n)) (eqb i n && cardCovers limits book n m) (sym (pair i) ∙ h))
 
       parted : (i j : ℕ) → Earlier m (n + 1) i j → Earlier m n i j ⊎ ((i ≡ m) × (j ≡ n))
@@ -301,9 +289,9 @@ module _ (limits : Limits) (book : List ℕ) (covering : ℕ) where
       pair-compared =
           record {
             sound = new-sound;
-            lower = λ i j a b l e c. ⊎-elim {C = has r i ≡ true} (λ x. kept i (so .lower i j a b l x c))
+            later = λ i j a b l e c. ⊎-elim {C = has r i ≡ true} (λ x. kept i (so .later i j a b l x c))
                 (λ x. ap (has r) (x .0) ∙ of-m (ap (λ (k : ℕ). cardCovers limits book k n) (sym (x .0)) ∙ ap (λ (k : ℕ). cardCovers limits book i k) (sym (x .1)) ∙ c)) (parted i j e);
-            upper = λ i j a b l e c. ⊎-elim {C = has r j ≡ true} (λ x. kept j (so .upper i j a b l x c))
+            sooner = λ i j a b l e c. ⊎-elim {C = has r j ≡ true} (λ x. kept j (so .sooner i j a b l x c))
                 (λ x. ap (has r) (x .1) ∙ of-n (ap (λ (k : ℕ). cardCovers limits book k m) (sym (x .1)) ∙ ap (λ (k : ℕ). cardCovers limits book j k) (sym (x .0)) ∙ c)) (parted i j e);
           }
 
@@ -316,8 +304,8 @@ module _ (limits : Limits) (book : List ℕ) (covering : ℕ) where
     where
       by-place : (j : ℕ) → (j ≡ i → ⊥) → has covering j ≡ true → cardCovers limits book i j ≡ true → has hidden i ≡ true
       by-place j other b c = elim (decLt i j) [
-        | yes l ↦ so .lower i j a b l (inl (inside i a)) c
-        | no u ↦ so .upper j i b a (omega (arith, u, other)) (inl (inside j b)) c
+        | yes l ↦ so .sooner j i b a l (inl (inside j b)) c
+        | no u ↦ so .later i j a b (omega (arith, u, other)) (inl (inside i a)) c
       ]
 
       found : passedOver limits book (has covering) i ≡ true → has hidden i ≡ true

@@ -16,6 +16,7 @@ pub mod Answers
 pub mod Refusals
 -- the call as the code makes it: tables, the cards that cover the case, those that cover another, the call by its tests
 pub mod Tablings
+pub mod Keepings
 pub mod Weighings
 pub mod Comparisons
 pub mod Calls

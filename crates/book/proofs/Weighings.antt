@@ -1,9 +1,9 @@
 -- Laws of weighing the cards: 14 of each, and whether it covers the case, over the case's table t.
---   weighed-many, weighed-covers, weighed-not   the three answers for one card
 --   by-asked, by-refused                        what a word and what a refusal say of the questions
---   Weighed                                     the cards below k are weighed, and the word has those that cover the case
---   weigh-start, weigh-next, weigh-no, weigh-all   none; one more; 14 of a card is answered no; all
---   weigh-fits                                  the word has room for one card more
+--   weigh-start, weigh-all                      none is weighed; all are
+--   weigh-many, weigh-not, weigh-covers         one card more: 14 is answered no; it does not cover the case; it does
+--   weigh-fits                                  the word has room for it
+--   weigh-no                                    then 14 decides
 --   case-many, case-weighed                     14 of the case is answered no; else the table is the case's
 use Prim.Native.Nat.{_+_, _<_, _^_, _≤_, ℕ}
 use borrow.Author.Tests.{le-leb}
@@ -21,40 +21,24 @@ use Rattle.normal.specs.Call.{tooMany}
 use Rattle.picture.specs.declared.answer.Input.the-variants.{Card, First}
 use Rattle.picture.specs.declared.answer.Refusal.{Refusal}
 use Rattle.table.specs.Bounds.{Bounded}
+use Rattle.table.specs.Links.{Zeros}
 use Rattle.table.specs.Pick.{pick}
 use Rattle.table.specs.declared.layout.Limits.{Limits}
 use Rattle.book.specs.Call.{andThen, askedFrom, cardMerged, caseMerged, mergedAsked, onAsked}
 use Rattle.book.specs.Form.{card, cardCount, mostCards}
 use Rattle.book.specs.Selection.{cardWord, caseCovered}
-use Rattle.book.specs.Tables.{coversTable, weighed}
+use Rattle.book.specs.Keeping.{Kept, Shelved}
+use Rattle.book.specs.Tables.{coversTable}
 use Rattle.book.specs.declared.answer.Asked.{Asked}
 use Rattle.book.specs.declared.answer.Asked.the-variants.{No, Yes}
 use Rattle.book.specs.declared.answer.Selected.{Selected}
 use Rattle.book.specs.declared.answer.Selected.the-variants.{Cards, Refused}
+use Rattle.book.specs.declared.weigh.Shelf.{Shelf}
 use Rattle.book.proofs.CardWords.{cardWord-below, cardWord-same, cardWord-suc, cardWord-zero}
+use Rattle.book.proofs.Keepings.{none-kept}
 use Rattle.book.proofs.Questions.{from-yes, merged-yes, no-from, yes-from}
 
--- ---- one card
-
-module _ (limits : Limits) (t book : List ℕ) (k : ℕ) where
-  pub weighed-many : leb (mergedCount limits (card book k)) (limits .rows) ≡ false → Refused (tooMany (Card k)) ≡ weighed limits t book k
-  unfolding mergedAsked
-  weighed-many many = sym (rw many)
-
-  module _ (few : mergedCount limits (card book k) ≤ limits .rows) (says : Bool) (u : List ℕ) (is : says ≡ rowMaps t u (limits .depth) 0 0) (table : u ≡ normalFile limits (card book k)) where
-    answer : says ≡ coversTable limits t book k
-    answer = is ∙ ap (λ (v : List ℕ). rowMaps t v (limits .depth) 0 0) table
-
-    taken : cardMerged limits book k ≡ Yes
-    taken = merged-yes limits (Card k) (card book k) .1 few
-
-    pub weighed-covers : (one : ℕ) → says ≡ true → one ≡ 2 ^ k → Cards one ≡ weighed limits t book k
-    weighed-covers one said bit = ap Cards bit ∙ sym (rw (taken, sym answer ∙ said))
-
-    pub weighed-not : says ≡ false → Cards 0 ≡ weighed limits t book k
-    weighed-not said = sym (rw (taken, sym answer ∙ said))
-
--- ---- the cards in turn
+-- ---- what an answer says of the questions
 
 pub by-asked : (a : Asked) (word one : ℕ) → Cards one ≡ onAsked a word → (a ≡ Yes) × (one ≡ word)
 by-asked Yes word one e = (refl, cc)
@@ -64,49 +48,68 @@ pub by-refused : (a : Asked) (word : ℕ) (r : Refusal) → Refused r ≡ onAske
 by-refused Yes word r e = absurd (let z : _≡_ {A = ℕ} 0 1 = cc in omega arith)
 by-refused (No q) word r e = cc
 
-module _ (limits : Limits) (t book : List ℕ) (count : ℕ) where
-  pub record Weighed (word k : ℕ) : Type 0 where
-    pub most : k ≤ count
-    pub few : (j : ℕ) → j < k → cardMerged limits book j ≡ Yes
-    pub word-is : word ≡ cardWord (coversTable limits t book) k
+-- ---- the cards in turn
 
+module _ (limits : Limits) (t book : List ℕ) (count : ℕ) where
   abbrev Answer : Selected
   Answer = onAsked (askedFrom (cardMerged limits book) count 0) (cardWord (coversTable limits t book) count)
 
-  pub weigh-start : Weighed 0 0
-  weigh-start = record { most = omega arith; few = λ j l. absurd (omega arith); word-is = sym (cardWord-zero (coversTable limits t book)) }
+  pub weigh-start : (kept spans : List ℕ) → Zeros (mostCards + mostCards) spans → Shelved limits t book count kept spans (record { word = 0; at = 0 }) 0
+  weigh-start kept spans blank =
+      record {
+        most = omega arith;
+        few = λ j l. absurd (omega arith);
+        word-is = sym (cardWord-zero (coversTable limits t book));
+        kept-are = none-kept limits book kept spans blank;
+      }
 
-  module _ (word k : ℕ) (so : Weighed word k) (l : k < count) where
-    module _ (one : ℕ) (is : Cards one ≡ weighed limits t book k) where
-      parts : (cardMerged limits book k ≡ Yes) × (one ≡ pick (coversTable limits t book k) (2 ^ k) 0)
-      parts = by-asked (cardMerged limits book k) (pick (coversTable limits t book k) (2 ^ k) 0) one is
+  pub weigh-many : (k : ℕ) → leb (mergedCount limits (card book k)) (limits .rows) ≡ false → cardMerged limits book k ≡ No (tooMany (Card k))
+  unfolding mergedAsked
+  weigh-many k many = rw many
 
-      added : word + one ≡ cardWord (coversTable limits t book) (k + 1)
-      added = ap (λ (n : ℕ). n + one) (so .word-is) ∙ ap (λ (n : ℕ). cardWord (coversTable limits t book) k + n) (parts .1) ∙ sym (cardWord-suc (coversTable limits t book) k)
+  module _ (kept spans : List ℕ) (shelf : Shelf) (k : ℕ) (so : Shelved limits t book count kept spans shelf k) (l : k < count) where
+    module _ (few : mergedCount limits (card book k) ≤ limits .rows) (says : Bool) (u : List ℕ) (is : says ≡ rowMaps t u (limits .depth) 0 0) (table : u ≡ normalFile limits (card book k)) where
+      answer : says ≡ coversTable limits t book k
+      answer = is ∙ ap (λ (v : List ℕ). rowMaps t v (limits .depth) 0 0) table
 
-      pub weigh-next : Weighed (word + one) (k + 1)
-      weigh-next =
+      all-few : (j : ℕ) → j < k + 1 → cardMerged limits book j ≡ Yes
+      all-few j b = elim (ℕ-discrete j k) [
+        | yes e ↦ ap (cardMerged limits book) e ∙ merged-yes limits (Card k) (card book k) .1 few
+        | no u ↦ so .few j (omega (arith, u))
+      ]
+
+      -- the word with what the card adds
+      added : (one : ℕ) → one ≡ pick (coversTable limits t book k) (2 ^ k) 0 → shelf .word + one ≡ cardWord (coversTable limits t book) (k + 1)
+      added one e = ap (λ (n : ℕ). n + one) (so .word-is) ∙ ap (λ (n : ℕ). cardWord (coversTable limits t book) k + n) e ∙ sym (cardWord-suc (coversTable limits t book) k)
+
+      pub weigh-not : says ≡ false → Shelved limits t book count kept spans shelf (k + 1)
+      weigh-not said =
+          let none : 0 ≡ pick (coversTable limits t book k) (2 ^ k) 0 = sym (ap (λ (b : Bool). pick b (2 ^ k) 0) (sym answer ∙ said)) in
           record {
             most = omega arith;
-            few = λ j b. elim (ℕ-discrete j k) [
-              | yes e ↦ ap (cardMerged limits book) e ∙ parts .0
-              | no u ↦ so .few j (omega (arith, u))
-            ];
-            word-is = added;
+            few = all-few;
+            word-is = omega (arith, added 0 none);
+            kept-are = so .kept-are;
           }
 
-      pub weigh-fits : count ≤ mostCards → word + one < 2 ^ mostCards
-      weigh-fits most =
-          let wide : 2 ^ (k + 1) ≤ 2 ^ mostCards = pow-mono {j = mostCards} (omega arith) in
-          omega (arith, added, cardWord-below (coversTable limits t book) (k + 1), wide)
+      module _ (said : says ≡ true) (one : ℕ) (bit : one ≡ 2 ^ k) where
+        more : shelf .word + one ≡ cardWord (coversTable limits t book) (k + 1)
+        more = added one (bit ∙ sym (ap (λ (b : Bool). pick b (2 ^ k) 0) (sym answer ∙ said)))
 
-    pub weigh-no : (r : Refusal) → Refused r ≡ weighed limits t book k → Refused r ≡ Answer
-    weigh-no r is =
-        let no = by-refused (cardMerged limits book k) (pick (coversTable limits t book k) (2 ^ k) 0) r is in
-        sym (rw (no-from (cardMerged limits book) count 0 r k (omega arith) (omega arith) no (λ i a b. so .few i b)))
+        pub weigh-fits : count ≤ mostCards → shelf .word + one < 2 ^ mostCards
+        weigh-fits most =
+            let wide : 2 ^ (k + 1) ≤ 2 ^ mostCards = pow-mono {j = mostCards} (omega arith) in
+            omega (arith, more, cardWord-below (coversTable limits t book) (k + 1), wide)
 
-  pub weigh-all : (word k : ℕ) → Weighed word k → count ≤ k → Cards word ≡ Answer
-  weigh-all word k so done =
+        pub weigh-covers : (kept₂ spans₂ : List ℕ) (at : ℕ) → Kept limits book kept₂ spans₂ at →
+            Shelved limits t book count kept₂ spans₂ (record { word = shelf .word + one; at = at }) (k + 1)
+        weigh-covers kept₂ spans₂ at there = record { most = omega arith; few = all-few; word-is = more; kept-are = there }
+
+    pub weigh-no : (r : Refusal) → cardMerged limits book k ≡ No r → Refused r ≡ Answer
+    weigh-no r stopped = sym (rw (no-from (cardMerged limits book) count 0 r k (omega arith) (omega arith) stopped (λ i a b. so .few i b)))
+
+  pub weigh-all : (kept spans : List ℕ) (shelf : Shelf) (k : ℕ) → Shelved limits t book count kept spans shelf k → count ≤ k → Cards (shelf .word) ≡ Answer
+  weigh-all kept spans shelf k so done =
       let end : k ≡ count = omega (arith, so .most) in
       let all = yes-from (cardMerged limits book) count 0 (λ j a b. so .few j (omega arith)) in
       ap Cards (so .word-is ∙ ap (cardWord (coversTable limits t book)) end) ∙ sym (rw all)

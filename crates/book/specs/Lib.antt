@@ -3,3 +3,4 @@ pub mod Form
 pub mod Selection
 pub mod Call
 pub mod Tables
+pub mod Keeping

@@ -4,12 +4,11 @@
 --   afterCase, afterCards          the questions after 2 to 13 of the case; those after 2 to 13 of the cards
 --   Tabled                         a normal table at the start of a lent part, and its rows; 0 if 14 is answered no
 --   tableCovers, coversTable       a picture covers what a normal table is of; card k does
---   weighed                        14 of card k, and then the word of it alone if it covers the case, else of no card
 --   Lower                          card m's table, with its links, in the lower half of the work space
 --   With, WithEach, Paired         a word with card k if a test passes; with two cards; with each of two cards that covers the other
 --   wanted                         card n covers the case, and not both m and n are passed over already
---   ComparedTo, Compared           of those that cover the case each card below m is compared with each later one, card m with those below n
-use Prim.Native.Nat.{ℕ, _+_, _^_, _<_, _≤_}
+--   ComparedTo, Compared           of those that cover the case each card below m is compared with each earlier one, card m with those below n
+use Prim.Native.Nat.{ℕ, _+_, _<_, _≤_}
 use lib.Dec.{eqb, leb}
 use lib.ListN.{getD, length, take}
 use mathlib.Core.Bool.{Bool, _&&_, _||_, not, true}
@@ -25,11 +24,10 @@ use Rattle.picture.specs.View.{Readable}
 use Rattle.meaning.specs.NormalTable.{mergedCount, normalFile}
 use Rattle.homomorphism.specs.Search.{LinkedTable, rowMaps}
 use Rattle.workspace.specs.Prepare.{tableRows, workSize}
-use Rattle.book.specs.Call.{andThen, askedFrom, cardMerged, cardRead, caseMerged, formAsked, onAsked}
+use Rattle.book.specs.Call.{andThen, askedFrom, cardMerged, cardRead, caseMerged, formAsked}
 use Rattle.book.specs.Form.{card, cardCount, fieldPlace, mostCards}
 use Rattle.book.specs.Selection.{cardCovers, passedOver}
 use Rattle.book.specs.declared.answer.Asked.{Asked}
-use Rattle.book.specs.declared.answer.Selected.{Selected}
 
 -- ---- the book
 
@@ -67,9 +65,6 @@ tableCovers limits t s = rowMaps t (normalFile limits s) (limits .depth) 0 0
 abbrev pub coversTable : Limits → List ℕ → List ℕ → ℕ → Bool
 coversTable limits t book k = tableCovers limits t (card book k)
 
-abbrev pub weighed : Limits → List ℕ → List ℕ → ℕ → Selected
-weighed limits t book k = onAsked (cardMerged limits book k) (pick (coversTable limits t book k) (2 ^ k) 0)
-
 pub record Lower (limits : Limits) (book : List ℕ) (m a : ℕ) (links work : List ℕ) : Type 0 where
   pub long : length work ≡ workSize limits
   pub fits : place a endSize ≤ pictureSize limits
@@ -95,8 +90,8 @@ Earlier m n i j = (i < m) ⊎ ((i ≡ m) × (j < n))
 
 pub record ComparedTo (limits : Limits) (book : List ℕ) (covering m n hidden : ℕ) : Type 0 where
   pub sound : (i : ℕ) → has hidden i ≡ true → passedOver limits book (has covering) i ≡ true
-  pub lower : (i j : ℕ) → has covering i ≡ true → has covering j ≡ true → i < j → Earlier m n i j → cardCovers limits book i j ≡ true → has hidden i ≡ true
-  pub upper : (i j : ℕ) → has covering i ≡ true → has covering j ≡ true → i < j → Earlier m n i j → cardCovers limits book j i ≡ true → has hidden j ≡ true
+  pub later : (i j : ℕ) → has covering i ≡ true → has covering j ≡ true → j < i → Earlier m n i j → cardCovers limits book i j ≡ true → has hidden i ≡ true
+  pub sooner : (i j : ℕ) → has covering i ≡ true → has covering j ≡ true → j < i → Earlier m n i j → cardCovers limits book j i ≡ true → has hidden j ≡ true
 
 abbrev pub Compared : Limits → List ℕ → ℕ → ℕ → ℕ → Type 0
 Compared limits book covering m hidden = ComparedTo limits book covering m 0 hidden

@@ -1,8 +1,10 @@
-// Which of the covering cards cover another of them. Two tables stand in the work space at a time: card m's in the lower half, while those of the later cards
-// come into the upper one, each once, and the two are compared both ways. A pair of which both are passed over already says nothing new and is left out.
+// Which of the covering cards cover another of them. Two tables stand in the work space at a time: card m's in the lower half, while those of the earlier cards
+// come into the upper one, and the two are compared both ways. A pair of which both are passed over already says nothing new and is left out. Tables that are
+// kept are copied, others made again; those of the first cards are kept, so card m's, which is made once for all earlier ones, is the later one of a pair.
 use crate::covering::table_covers;
-use crate::covering::tabulate_card;
 use crate::form::PLACES;
+use crate::kept::SPANS;
+use crate::kept::fetch;
 use crate::word::has_card;
 use crate::word::with_card;
 use crate::word::without;
@@ -17,16 +19,17 @@ use workspace::prepare::half_size;
 ghost use mathlib.Core.Path.{_≡_};
 ghost use mathlib.Core.Bool.{_&&_, false, not, true};
 ghost use Prim.Native.Nat.{ℕ, _≤_, _<_, _+_};
-ghost use lib.ListN.{length, take};
-ghost use Rattle.table.specs.Bounds.{Bounded, pictureSize};
+ghost use lib.ListN.{length};
+ghost use Rattle.table.specs.Bounds.{Bounded};
 ghost use Rattle.table.specs.NameSet.{has};
 ghost use Rattle.table.specs.Put.{zeros};
 ghost use Rattle.homomorphism.specs.Search.{LinkedTable, rowMaps};
 ghost use Rattle.workspace.specs.Prepare.{workSize};
 ghost use Rattle.workspace.specs.Tables.{TablesIn, firstIn, secondIn};
 ghost use Rattle.book.specs.Form.{mostCards};
-ghost use Rattle.book.specs.Selection.{cardCovers, passedOver};
-ghost use Rattle.book.specs.Tables.{CardsTaken, Compared, ComparedTo, Lower, Paired, With, WithEach, wanted};
+ghost use Rattle.book.specs.Selection.{passedOver};
+ghost use Rattle.book.specs.Keeping.{Stocked};
+ghost use Rattle.book.specs.Tables.{Compared, ComparedTo, Lower, Paired, With, WithEach, wanted};
 
 // The word with card k if the second table, which is card k's, covers the first.
 fn pass_over(
@@ -82,6 +85,8 @@ fn compare_with(
     places: &[usize; PLACES],
     count: usize,
     limits: Limits,
+    kept: &[u8],
+    spans: &[usize; SPANS],
     m: usize,
     a: usize,
     links: &[u8; LINKS],
@@ -89,11 +94,20 @@ fn compare_with(
     hidden: u32,
     work: &mut [u8],
 ) -> u32
-    requires { ⌜ (Bounded limits) × ((CardsTaken limits (now book) (now places) count) × (((m < count) × (n < count)) × (Lower limits (now book) m a (now links) (now work)))) ⌝ }
+    requires { ⌜ (Bounded limits) × ((Stocked limits (now book) (now places) count (now kept) (now spans)) × (((m < count) × (n < count)) × (Lower limits (now book) m a (now links) (now work)))) ⌝ }
     ensures { λ r. ⌜ (Paired limits (now (book .entry)) m n hidden r) × (Lower limits (now (book .entry)) m a (now (links .entry)) (now (work .exit))) ⌝ }
 {
     let half = half_size(limits);
-    let b = tabulate_card(book, places, count, n, limits, &mut work[half..]);
+    let b = fetch(
+        book,
+        places,
+        count,
+        n,
+        limits,
+        kept,
+        spans,
+        &mut work[half..],
+    );
     let pair = Pair {
         first: a,
         second: b,
@@ -115,13 +129,13 @@ fn is_wanted(covering: u32, hidden: u32, m: usize, n: usize) -> bool
     !has_card(hidden, n)
 }
 
-// The first such card from one on; the number of cards if there is none.
-fn next_wanted(covering: u32, hidden: u32, m: usize, from: usize, count: usize) -> usize
-    requires { ⌜ (m < mostCards) × ((from ≤ count) × (count ≤ mostCards)) ⌝ }
-    ensures { λ r. ⌜ ((from ≤ r) × (r ≤ count)) × (((k : ℕ) → from ≤ k → k < r → wanted covering hidden m k ≡ false) × (r < count → wanted covering hidden m r ≡ true)) ⌝ }
+// The first such card from one on; `end` if there is none before it.
+fn next_wanted(covering: u32, hidden: u32, m: usize, from: usize, end: usize) -> usize
+    requires { ⌜ (m < mostCards) × ((from ≤ end) × (end ≤ mostCards)) ⌝ }
+    ensures { λ r. ⌜ ((from ≤ r) × (r ≤ end)) × (((k : ℕ) → from ≤ k → k < r → wanted covering hidden m k ≡ false) × (r < end → wanted covering hidden m r ≡ true)) ⌝ }
 {
     let mut n = from;
-    while n < count {
+    while n < end {
         if is_wanted(covering, hidden, m, n) {
             return n;
         }
@@ -130,12 +144,14 @@ fn next_wanted(covering: u32, hidden: u32, m: usize, from: usize, count: usize) 
     n
 }
 
-// Card m, whose table stands in the lower half, with the later ones from one on.
+// Card m, whose table stands in the lower half, with the earlier ones from one on.
 fn compare_rest(
     book: &[u8],
     places: &[usize; PLACES],
     count: usize,
     limits: Limits,
+    kept: &[u8],
+    spans: &[usize; SPANS],
     covering: u32,
     m: usize,
     a: usize,
@@ -144,41 +160,65 @@ fn compare_rest(
     hidden: u32,
     work: &mut [u8],
 ) -> u32
-    requires { ⌜ (Bounded limits) × ((CardsTaken limits (now book) (now places) count) × (((m < from) × (from < count)) × (((has covering m ≡ true) × (wanted covering hidden m from ≡ true)) × ((ComparedTo limits (now book) covering m from hidden) × (Lower limits (now book) m a (now links) (now work)))))) ⌝ }
-    ensures { λ r. ⌜ (ComparedTo limits (now (book .entry)) covering m count r) × (length (now (work .exit)) ≡ length (now (work .entry))) ⌝ }
+    requires { ⌜ (Bounded limits) × ((Stocked limits (now book) (now places) count (now kept) (now spans)) × (((m < count) × (from < m)) × (((has covering m ≡ true) × (wanted covering hidden m from ≡ true)) × ((ComparedTo limits (now book) covering m from hidden) × (Lower limits (now book) m a (now links) (now work)))))) ⌝ }
+    ensures { λ r. ⌜ (Compared limits (now (book .entry)) covering (m + 1) r) × (length (now (work .exit)) ≡ length (now (work .entry))) ⌝ }
 {
     let mut word = hidden;
     let mut n = from;
-    while n < count {
-        word = compare_with(book, places, count, limits, m, a, links, n, word, work);
-        n = next_wanted(covering, word, m, n + 1, count);
+    while n < m {
+        word = compare_with(
+            book,
+            places,
+            count,
+            limits,
+            kept,
+            spans,
+            m,
+            a,
+            links,
+            n,
+            word,
+            work,
+        );
+        n = next_wanted(covering, word, m, n + 1, m);
     }
     word
 }
 
-// Card m, if it covers the case, with all later ones.
+// Card m, if it covers the case, with all earlier ones.
 fn compare_card(
     book: &[u8],
     places: &[usize; PLACES],
     count: usize,
     limits: Limits,
+    kept: &[u8],
+    spans: &[usize; SPANS],
     covering: u32,
     m: usize,
     hidden: u32,
     work: &mut [u8],
 ) -> u32
-    requires { ⌜ (Bounded limits) × ((CardsTaken limits (now book) (now places) count) × ((m < count) × (((k : ℕ) → has covering k ≡ true → k < count) × ((Compared limits (now book) covering m hidden) × (length (now work) ≡ workSize limits))))) ⌝ }
+    requires { ⌜ (Bounded limits) × ((Stocked limits (now book) (now places) count (now kept) (now spans)) × ((m < count) × ((Compared limits (now book) covering m hidden) × (length (now work) ≡ workSize limits)))) ⌝ }
     ensures { λ r. ⌜ (Compared limits (now (book .entry)) covering (m + 1) r) × (length (now (work .exit)) ≡ length (now (work .entry))) ⌝ }
 {
     if !has_card(covering, m) {
         return hidden;
     }
-    let from = next_wanted(covering, hidden, m, m + 1, count);
-    if from == count {
+    let from = next_wanted(covering, hidden, m, 0, m);
+    if from == m {
         return hidden;
     }
     let half = half_size(limits);
-    let a = tabulate_card(book, places, count, m, limits, &mut work[..half]);
+    let a = fetch(
+        book,
+        places,
+        count,
+        m,
+        limits,
+        kept,
+        spans,
+        &mut work[..half],
+    );
     let mut links = [0u8; LINKS];
     fill_links(&work[..place(a, END_SIZE)], a, &mut links);
     compare_rest(
@@ -186,6 +226,8 @@ fn compare_card(
         places,
         count,
         limits,
+        kept,
+        spans,
         covering,
         m,
         a,
@@ -202,16 +244,29 @@ fn compare_cards(
     places: &[usize; PLACES],
     count: usize,
     limits: Limits,
+    kept: &[u8],
+    spans: &[usize; SPANS],
     covering: u32,
     work: &mut [u8],
 ) -> u32
-    requires { ⌜ (Bounded limits) × ((CardsTaken limits (now book) (now places) count) × (((k : ℕ) → has covering k ≡ true → k < count) × (length (now work) ≡ workSize limits))) ⌝ }
+    requires { ⌜ (Bounded limits) × ((Stocked limits (now book) (now places) count (now kept) (now spans)) × (length (now work) ≡ workSize limits)) ⌝ }
     ensures { λ r. ⌜ (Compared limits (now (book .entry)) covering count r) × (length (now (work .exit)) ≡ length (now (work .entry))) ⌝ }
 {
     let mut hidden: u32 = 0;
     let mut m = 0;
     while m < count {
-        hidden = compare_card(book, places, count, limits, covering, m, hidden, work);
+        hidden = compare_card(
+            book,
+            places,
+            count,
+            limits,
+            kept,
+            spans,
+            covering,
+            m,
+            hidden,
+            work,
+        );
         m += 1;
     }
     hidden
@@ -223,13 +278,15 @@ pub fn select_cards(
     places: &[usize; PLACES],
     count: usize,
     limits: Limits,
+    kept: &[u8],
+    spans: &[usize; SPANS],
     covering: u32,
     work: &mut [u8],
 ) -> u32
-    requires { ⌜ (Bounded limits) × ((CardsTaken limits (now book) (now places) count) × (((k : ℕ) → has covering k ≡ true → k < count) × (length (now work) ≡ workSize limits))) ⌝ }
+    requires { ⌜ (Bounded limits) × ((Stocked limits (now book) (now places) count (now kept) (now spans)) × (((k : ℕ) → has covering k ≡ true → k < count) × (length (now work) ≡ workSize limits))) ⌝ }
     ensures { λ r. ⌜ ((k : ℕ) → has r k ≡ (has covering k && not (passedOver limits (now (book .entry)) (has covering) k))) × (now (work .exit) ≡ zeros (workSize limits)) ⌝ }
 {
-    let hidden = compare_cards(book, places, count, limits, covering, work);
+    let hidden = compare_cards(book, places, count, limits, kept, spans, covering, work);
     clear(work, 0, work.len());
     without(covering, hidden)
 }

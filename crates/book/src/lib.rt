@@ -3,6 +3,7 @@ pub mod answer;
 pub mod compare;
 pub mod covering;
 pub mod form;
+pub mod kept;
 pub mod most_specific;
 pub mod weigh;
 pub mod word;

@@ -5,6 +5,8 @@ use crate::compare::select_cards;
 use crate::form::PLACES;
 use crate::form::find_cards;
 use crate::form::has_form;
+use crate::kept::SPANS;
+use crate::kept::TABLE;
 use crate::weigh::weigh_book;
 use picture::answer::Answer;
 use picture::answer::Input;
@@ -74,11 +76,22 @@ fn select(
     requires { ⌜ (Bounded limits) × ((Readable limits (now case)) × ((CardsRead limits (now book) (now places) count) × (workSize limits ≤ length (now work)))) ⌝ }
     ensures { λ r. ⌜ (r ≡ onAsked (afterCards limits (now (case .entry)) (now (book .entry))) (mostSpecificCards limits (now (case .entry)) (now (book .entry)))) × (now (work .exit) ≡ onSelected r (put (now (work .entry)) 0 (zeros (workSize limits))) (now (work .entry))) ⌝ }
 {
-    match weigh_book(case, book, places, count, limits) {
+    let mut kept = [0u8; TABLE];
+    let mut spans = [0usize; SPANS];
+    match weigh_book(case, book, places, count, limits, &mut kept, &mut spans) {
         Selected::Cards(covering) => {
             let half = half_size(limits);
             let size = half + half;
-            Selected::Cards(select_cards(book, places, count, limits, covering, &mut work[..size]))
+            Selected::Cards(select_cards(
+                book,
+                places,
+                count,
+                limits,
+                &kept,
+                &spans,
+                covering,
+                &mut work[..size],
+            ))
         }
         Selected::Refused(refusal) => Selected::Refused(refusal),
     }

@@ -9,10 +9,10 @@ use Rattle.book.proofs.compare.next_wanted.Statement.{statement}
 use Rattle.book.proofs.compare.next_wanted.Tie as tie
 
 abbrev Inv-loop : tie.InvT-loop
-Inv-loop covering hidden m from count n₀ n = ((from ≤ n) × (n ≤ count)) × ((k : ℕ) → from ≤ k → k < n → wanted covering hidden m k ≡ false)
+Inv-loop covering hidden m from end n₀ n = ((from ≤ n) × (n ≤ end)) × ((k : ℕ) → from ≤ k → k < n → wanted covering hidden m k ≡ false)
 
 abbrev μ-loop : tie.MeasureT-loop
-μ-loop covering hidden m from count n₀ n = count - n
+μ-loop covering hidden m from end n₀ n = end - n
 
 loop-holds : tie.Need-loop-holds Inv-loop μ-loop
 loop-holds c = ((omega arith, c .pre .1 .0), λ k a b. absurd (omega arith))
