@@ -31,6 +31,7 @@ use Rattle.book.specs.declared.answer.Asked.the-variants.{No, Yes}
 use Rattle.book.specs.declared.answer.Selected.{Selected}
 use Rattle.book.specs.declared.answer.Selected.the-variants.{Cards, Refused}
 use Rattle.book.proofs.Orders.{FirstNo, asked-no, asked-yes}
+use Rattle.book.proofs.Questions.{apart, by-asked, by-refused}
 
 -- ---- the answer
 
@@ -60,9 +61,8 @@ module _ (limits : Limits) (case book : List ℕ) (room : ℕ) where
   -- b is the test of 1, a what the questions answer
   cards-by : (word : ℕ) (b : Bool) (a : Asked) → pick b (onAsked a selected) (Refused shortBuffer) ≡ Cards word →
       (b ≡ true) × (a ≡ Yes) × (word ≡ selected)
-  cards-by word true Yes e = (refl, refl, cc)
-  cards-by word true (No r) e = absurd (let z : _≡_ {A = ℕ} 0 1 = cc in omega arith)
-  cards-by word false a e = absurd (let z : _≡_ {A = ℕ} 0 1 = cc in omega arith)
+  cards-by word true a e = let (all, is) = by-asked a selected word (sym e) in (refl, all, is)
+  cards-by word false a e = absurd (apart word shortBuffer (sym e))
 
   pub answered-acceptable : (word : ℕ) → mostSpecificAnswer limits case book room ≡ Cards word → Answered word
   unfolding mostSpecificAnswer
@@ -78,8 +78,7 @@ module _ (limits : Limits) (case book : List ℕ) (room : ℕ) where
 
   refused-by : (r : Refusal) (b : Bool) (a : Asked) → pick b (onAsked a selected) (Refused shortBuffer) ≡ Refused r →
       ((b ≡ false) × (r ≡ shortBuffer)) ⊎ ((b ≡ true) × (a ≡ No r))
-  refused-by r true Yes e = absurd (let z : _≡_ {A = ℕ} 0 1 = cc in omega arith)
-  refused-by r true (No q) e = inr (refl, cc)
+  refused-by r true a e = inr (refl, by-refused a selected r (sym e))
   refused-by r false a e = inl (refl, cc)
 
   pub refused-answer : (r : Refusal) → mostSpecificAnswer limits case book room ≡ Refused r →

@@ -40,8 +40,7 @@ use Rattle.book.specs.declared.answer.Selected.{Selected}
 use Rattle.book.specs.declared.answer.Selected.the-variants.{Cards, Refused}
 use Rattle.book.proofs.CardWords.{has-cardWord, word-is}
 use Rattle.book.proofs.Comparisons.{all-compared}
-use Rattle.book.proofs.Questions.{and-yes, from-yes, merged-yes, no-from, read-yes, yes-from}
-use Rattle.book.proofs.Weighings.{by-asked, by-refused}
+use Rattle.book.proofs.Questions.{and-yes, by-asked, by-refused, from-yes, merged-yes, no-from, read-yes, yes-from}
 
 -- ---- the cards, read in turn
 
@@ -78,10 +77,10 @@ and-same : (a b c : Bool) → (a ≡ true → b ≡ c) → (a && not b) ≡ (a &
 and-same true b c h = ap not (h refl)
 and-same false b c h = refl
 
-pub selected-bits : (limits : Limits) (book : List ℕ) (covering count hidden r : ℕ) → ((k : ℕ) → has covering k ≡ true → k < count) → Compared limits book covering count hidden →
-    ((k : ℕ) → has r k ≡ (has covering k && not (has hidden k))) → (k : ℕ) → has r k ≡ (has covering k && not (passedOver limits book (has covering) k))
-selected-bits limits book covering count hidden r inside so is k =
-    is k ∙ and-same (has covering k) (has hidden k) (passedOver limits book (has covering) k) (λ a. all-compared limits book covering count hidden inside so k a)
+pub selected-bits : (limits : Limits) (book : List ℕ) (covering count over r : ℕ) → ((k : ℕ) → has covering k ≡ true → k < count) → Compared limits book covering count over →
+    ((k : ℕ) → has r k ≡ (has covering k && not (has over k))) → (k : ℕ) → has r k ≡ (has covering k && not (passedOver limits book (has covering) k))
+selected-bits limits book covering count over r inside so is k =
+    is k ∙ and-same (has covering k) (has over k) (passedOver limits book (has covering) k) (λ a. all-compared limits book covering count over inside so k a)
 
 pub cleared : (d end : List ℕ) (n size : ℕ) → n ≡ length d → length d ≡ size → end ≡ put d 0 (zeros (n - 0)) → end ≡ zeros size
 cleared d end n size e f is =

@@ -7,22 +7,20 @@ use borrow.Author.Tests.{eqb-false, eqb-true, ne-eqb}
 use lib.Bits.{bitAnd, bitOr}
 use lib.Dec.{eqb}
 use mathlib.Core.Bool.{Bool, _&&_, _||_, false, not, true}
-use mathlib.Core.Path.{_∙_, _≡_, ap, refl, subst, sym}
+use mathlib.Core.Path.{_∙_, _≡_, ap, sym}
 use native.Mathlib.Decide.{decLt}
 use native.Mathlib.Omega.{arith}
+use Rattle.normal.proofs.Tests.{and-none}
 use Rattle.normal.proofs.Words.{has-power}
 use Rattle.table.proofs.Bits.{bit-below, bit-bound, bit-complement}
 use Rattle.table.proofs.Bools.{by-test, or-none}
 use Rattle.table.proofs.NameSets.{has-intersection, has-union}
 use Rattle.table.specs.NameSet.{bit, has}
 use Rattle.book.specs.Tables.{With}
+use Rattle.book.proofs.CardWords.{and-all}
 
 pub with-bit : (word k r i : ℕ) → r ≡ 2 ^ k → has (bitOr word r) i ≡ (has word i || eqb i k)
 with-bit word k r i e = has-union word r i ∙ ap (λ (n : ℕ). has word i || has n i) e ∙ ap (λ (b : Bool). has word i || b) (has-power k i)
-
-and-none : (b : Bool) → (b && false) ≡ false
-and-none true = refl
-and-none false = refl
 
 has-past : (width a i : ℕ) → a < 2 ^ width → width ≤ i → has a i ≡ false
 unfolding has
@@ -63,10 +61,6 @@ module _ (word k : ℕ) where
 
   pub with-more : (test : Bool) (r : ℕ) → test ≡ true → ((i : ℕ) → has r i ≡ (has word i || eqb i k)) → With word k test r
   with-more test r passes is i = is i ∙ rw passes (ap (λ (b : Bool). has word i || b) (sym (and-all (eqb i k))))
-    where
-      and-all : (b : Bool) → (b && true) ≡ b
-      and-all true = refl
-      and-all false = refl
 
   pub with-none : (test : Bool) → test ≡ false → With word k test word
   with-none test fails i = rw (fails, and-none (eqb i k)) (sym (or-none (has word i)))

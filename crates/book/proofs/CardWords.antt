@@ -13,12 +13,17 @@ use mathlib.Core.Path.{_∙_, _≡_, ap, refl, sym}
 use native.Mathlib.Decide.{decLt, ℕ-discrete}
 use native.Mathlib.Numerals.{add-one}
 use native.Mathlib.Omega.{arith}
+use Rattle.normal.proofs.Tests.{and-none}
 use Rattle.normal.proofs.Words.{has-power}
 use Rattle.table.proofs.Bools.{by-test, or-none}
 use Rattle.table.proofs.NameSets.{has-none, has-union, set-ext}
 use Rattle.table.specs.NameSet.{has, union}
 use Rattle.table.specs.Pick.{pick}
 use Rattle.book.specs.Selection.{cardWord}
+
+pub and-all : (b : Bool) → (b && true) ≡ b
+and-all true = refl
+and-all false = refl
 
 module _ (f : ℕ → Bool) where
   pub cardWord-zero : cardWord f 0 ≡ 0
@@ -47,21 +52,13 @@ module _ (f : ℕ → Bool) where
   card-more : (n k : ℕ) → ((ltb k n && f k) || (f n && eqb k n)) ≡ (ltb k (suc n) && f k)
   card-more n k =
       elim (ℕ-discrete k n) [
-        | yes e ↦ rw (le-ltb k n (omega arith), lt-ltb k (suc n) (omega arith), eq-eqb k n e, e) (last (f n))
+        | yes e ↦ rw (le-ltb k n (omega arith), lt-ltb k (suc n) (omega arith), eq-eqb k n e, e) (and-all (f n))
         | no u ↦ elim (decLt k n) [
           | yes l ↦ rw (lt-ltb k n l, lt-ltb k (suc n) (omega arith), ne-eqb k n u) (earlier (f k) (f n))
-          | no o ↦ rw (le-ltb k n (omega arith), le-ltb k (suc n) (omega arith), ne-eqb k n u) (none-left (f n))
+          | no o ↦ rw (le-ltb k n (omega arith), le-ltb k (suc n) (omega arith), ne-eqb k n u) (and-none (f n))
         ]
       ]
     where
-      last : (b : Bool) → (b && true) ≡ b
-      last true = refl
-      last false = refl
-
-      none-left : (b : Bool) → (b && false) ≡ false
-      none-left true = refl
-      none-left false = refl
-
       earlier : (a b : Bool) → (a || (b && false)) ≡ a
       earlier true b = refl
       earlier false true = refl

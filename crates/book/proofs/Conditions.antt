@@ -19,7 +19,7 @@ use lib.ListN.{getD, length}
 use mathlib.Core.Bool.{false, true}
 use mathlib.Core.List.{List}
 use mathlib.Core.Logic.{_↔_, _⊎_, inl, inr, ⊎-elim}
-use mathlib.Core.Path.{_≡_, refl, subst, sym}
+use mathlib.Core.Path.{_∙_, _≡_, refl, subst, sym}
 use native.Mathlib.Omega.{arith}
 use Rattle.normal.specs.Call.{shortBuffer}
 use Rattle.picture.specs.declared.answer.Refusal.{Refusal}
@@ -37,6 +37,7 @@ use Rattle.book.proofs.Answers.{answered-acceptable, answered-exactly, 
 use Rattle.book.proofs.Orders.{FirstNo}
 use Rattle.book.proofs.Refusals.{Named, book-refusal}
 use Rattle.book.proofs.Selections.{most-specific-exactly, past-last, word-below}
+use Rattle.book.proofs.Questions.{apart}
 
 abbrev pub SaysCards : Selected → Type 0
 SaysCards answer = (word : ℕ) × (answer ≡ Cards word)
@@ -77,7 +78,7 @@ pub record NearestCards (limits : Limits) (case book : List ℕ) : Type 0 where
 module _ (limits : Limits) (case book : List ℕ) (room : ℕ) where
   -- one answer is not both
   refused-not : SaysRefusal (mostSpecificAnswer limits case book room) → SaysCards (mostSpecificAnswer limits case book room) → ⊥
-  refused-not (r, e) (word, f) = let z : _≡_ {A = ℕ} 0 1 = cc in omega arith
+  refused-not (r, e) (word, f) = apart word r (sym f ∙ e)
 
   refused-unless : SaysRefusal (mostSpecificAnswer limits case book room) ↔ ((room < workSize limits) ⊎ (AcceptableBook limits case book → ⊥))
   refused-unless =

@@ -18,11 +18,12 @@ use lib.Seq.{length-take-le}
 use mathlib.Core.Bool.{Bool, false, false≢true, true}
 use mathlib.Core.List.{List}
 use mathlib.Core.Logic.{_↔_, ⊎-elim}
-use mathlib.Core.Path.{_∙_, _≡_, refl, sym}
+use mathlib.Core.Path.{_∙_, _≡_, sym}
 use native.Mathlib.Decide.{decLt}
 use native.Mathlib.Nat.{eq-or-lt-of-le}
 use native.Mathlib.Numerals.{add-one}
 use native.Mathlib.Omega.{arith}
+use Rattle.normal.proofs.Tests.{refuted}
 use Rattle.table.proofs.Bools.{both, by-test}
 use Rattle.table.proofs.Rows.{ends-parts}
 use Rattle.table.specs.Fields.{endsAt}
@@ -122,12 +123,8 @@ module _ (book : List ℕ) where
   pub form-count : (n : ℕ) → BookOf book n → (bookForm book ≡ true) × (cardCount book ≡ n)
   unfolding bookForm
   form-count n b =
-      let e = count-is book n (b .most) (b .cards) (λ l. not-card (cardAt book (fieldPlace book n)) (end-other (fieldPlace book n) (b .ends))) in
+      let e = count-is book n (b .most) (b .cards) (λ l. refuted (cardAt book (fieldPlace book n)) (end-other (fieldPlace book n) (b .ends))) in
       (rw e (b .ends), e)
-    where
-      not-card : (t : Bool) → (t ≡ true → ⊥) → t ≡ false
-      not-card true u = absurd (u refl)
-      not-card false u = refl
 
   pub count-form : bookForm book ≡ true → BookOf book (cardCount book)
   unfolding bookForm

@@ -6,8 +6,7 @@
 --   kept-few, kept-inside    a table that is kept has as many rows as it may, and stands inside
 use Prim.Native.Nat.{_+_, _-_, _<_, _≤_, ℕ}
 use borrow.Author.Tests.{le-leb}
-use lib.Dec.{leb}
-use lib.ListN.{drop, getD, length, length-append, length-drop, length-set, set, take, take-append-drop}
+use lib.ListN.{drop, getD, length, length-drop, length-set, set, take, take-append-drop}
 use lib.Seq.{drop-append-le, drop-at, getD-set-other, getD-set-same, length-take-le, take-append-le, take-at}
 use mathlib.Core.Bool.{Bool}
 use mathlib.Core.List.{List, _++_, append-assoc}

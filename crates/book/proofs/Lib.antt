@@ -18,6 +18,7 @@ pub mod Refusals
 pub mod Tablings
 pub mod Keepings
 pub mod Weighings
+pub mod HalfTables
 pub mod Comparisons
 pub mod Calls
 -- the condition

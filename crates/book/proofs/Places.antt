@@ -3,7 +3,7 @@
 --   Scanned                              the first k fields are cards, and their places are kept
 --   scan-start, scan-next, scan-stop, scan-full   no field; one more; the first that is no card; as many as there may be
 --   place-from, place-to, place-part     the part of the book from one kept place to the next is the card
-use Prim.Native.Nat.{_+_, _-_, _<_, _≤_, suc, zero, ℕ}
+use Prim.Native.Nat.{_+_, _-_, _<_, _≤_, zero, ℕ}
 use borrow.Author.Tests.{eq-eqb, le-leb, leb-false, leb-true, lt-leb, ne-eqb}
 use lib.Dec.{eqb, leb}
 use lib.ListN.{drop, getD, length, length-set, set, take}
@@ -12,19 +12,16 @@ use mathlib.Core.Bool.{Bool, _&&_, false, true}
 use mathlib.Core.List.{List}
 use mathlib.Core.Path.{_∙_, _≡_, ap, refl, subst, sym}
 use native.Mathlib.Decide.{ℕ-discrete}
-use native.Mathlib.Numerals.{add-one}
 use native.Mathlib.Omega.{arith}
-use Rattle.table.proofs.Bools.{both, by-test}
+use Rattle.normal.proofs.Tests.{and-none}
+use Rattle.table.proofs.Bools.{by-test}
 use Rattle.table.proofs.Ranges.{left-suc}
 use Rattle.table.specs.Layout.{headSize}
 use Rattle.book.specs.Form.{card, cardAt, cardCount, cardTag, cardsFrom, fieldPlace, lengthSaid, mostCards, nextPlace}
 use Rattle.book.specs.Tables.{Placed}
+use Rattle.book.proofs.Forms.{after-card}
 
 -- ---- one field
-
-and-none : (b : Bool) → (b && false) ≡ false
-and-none true = refl
-and-none false = refl
 
 module _ (book : List ℕ) (at : ℕ) where
   pub not-head : length book < at + headSize → false ≡ cardAt book at
@@ -48,15 +45,7 @@ module _ (book : List ℕ) (at : ℕ) where
       tagged : (eqb (getD book at 0) cardTag && leb (nextPlace book at) (length book)) ≡ leb (nextPlace book at) (length book)
       tagged = ap (λ (b : Bool). b && leb (nextPlace book at) (length book)) (eq-eqb (getD book at 0) cardTag tag)
 
-  pub card-inside : cardAt book at ≡ true → nextPlace book at ≤ length book
-  unfolding cardAt
-  card-inside is = leb-true (nextPlace book at) (length book) (both (eqb (getD book at 0) cardTag) (leb (nextPlace book at) (length book)) is .1)
-
 -- ---- the fields in turn
-
-pub field-next : (book : List ℕ) (k : ℕ) → fieldPlace book (k + 1) ≡ nextPlace book (fieldPlace book k)
-unfolding fieldPlace
-field-next book k = rw add-one
 
 pub field-first : (book : List ℕ) → fieldPlace book 0 ≡ 0
 unfolding fieldPlace
@@ -104,7 +93,7 @@ module _ (book places : List ℕ) where
     pub scan-next : (next : ℕ) → k < mostCards → cardAt book at ≡ true → next ≡ nextPlace book at → next ≤ length book → Scanned book (set places (k + 1) next) (k + 1) next
     scan-next next l is e fits =
         let here = subst (λ n. cardAt book n ≡ true) (scanned .at-is) is in
-        let there : next ≡ fieldPlace book (k + 1) = e ∙ ap (nextPlace book) (scanned .at-is) ∙ sym (field-next book k) in
+        let there : next ≡ fieldPlace book (k + 1) = e ∙ ap (nextPlace book) (scanned .at-is) ∙ sym (after-card book k) in
         record {
           most = omega arith;
           size = length-set places (k + 1) next ∙ scanned .size;
@@ -137,7 +126,7 @@ module _ (book places : List ℕ) where
 module _ (book places : List ℕ) (count : ℕ) (p : Placed book places count) (k : ℕ) (l : k < count) where
   next-place : getD places (k + 1) 0 ≡ getD places k 0 + headSize + lengthSaid book (fieldPlace book k)
   next-place =
-      p .placed (k + 1) (omega arith) ∙ field-next book k
+      p .placed (k + 1) (omega arith) ∙ after-card book k
       ∙ ap (λ (n : ℕ). n + headSize + lengthSaid book (fieldPlace book k)) (sym (p .placed k (omega arith)))
 
   pub place-from : getD places k 0 + headSize ≤ getD places (k + 1) 0

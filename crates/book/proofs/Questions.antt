@@ -1,4 +1,5 @@
 -- Laws of the questions about a case and a book, one by one: what a yes says and what a no says.
+--   apart, by-asked, by-refused          a word is no refusal; what either says of the questions
 --   and-yes, yes-and, and-no, no-and     two questions
 --   from-yes, yes-from, from-no, no-from one question of every card in turn: the first no is the answer
 --   read-yes, read-no                    2 to 13 of a picture
@@ -23,16 +24,38 @@ use Rattle.picture.specs.declared.answer.Refusal.{Refusal}
 use Rattle.picture.specs.declared.read.Reading.{Reading}
 use Rattle.picture.specs.declared.read.Reading.the-variants as reading
 use Rattle.table.specs.declared.layout.Limits.{Limits}
-use Rattle.book.specs.Call.{andThen, askedFrom, formAsked, mergedAsked, noBook, readAsked, readingAsked}
+use Rattle.book.specs.Call.{andThen, askedFrom, formAsked, mergedAsked, noBook, onAsked, readAsked, readingAsked}
 use Rattle.book.specs.Form.{bookForm}
 use Rattle.book.specs.declared.answer.Asked.{Asked}
 use Rattle.book.specs.declared.answer.Asked.the-variants.{No, Yes}
+use Rattle.book.specs.declared.answer.Selected.the-variants.{Cards, Refused}
 
 -- ---- two questions
 
 -- a no is no yes
 clash : (r : Refusal) → _≡_ {A = Asked} (No r) Yes → ⊥
 clash r e = let z : _≡_ {A = ℕ} 0 1 = cc in omega arith
+
+-- a word is no refusal
+pub apart : (word : ℕ) (r : Refusal) → Cards word ≡ Refused r → ⊥
+apart word r e = let z : _≡_ {A = ℕ} 0 1 = cc in omega arith
+
+pub by-asked : (a : Asked) (word one : ℕ) → Cards one ≡ onAsked a word → (a ≡ Yes) × (one ≡ word)
+by-asked Yes word one e = (refl, cc)
+by-asked (No r) word one e = absurd (apart one r e)
+
+pub by-refused : (a : Asked) (word : ℕ) (r : Refusal) → Refused r ≡ onAsked a word → a ≡ No r
+by-refused Yes word r e = absurd (apart word r (sym e))
+by-refused (No q) word r e = cc
+
+-- one question by its test, and the refusal
+by-yes : (b : Bool) (q : Refusal) → pick b Yes (No q) ≡ Yes → b ≡ true
+by-yes true q h = refl
+by-yes false q h = absurd (clash q h)
+
+by-no : (b : Bool) (q r : Refusal) → pick b Yes (No q) ≡ No r → (b ≡ false) × (r ≡ q)
+by-no true q r h = absurd (clash r (sym h))
+by-no false q r h = (refl, cc)
 
 pub and-yes : (a b : Asked) → andThen a b ≡ Yes → (a ≡ Yes) × (b ≡ Yes)
 and-yes Yes b e = (refl, e)
@@ -120,38 +143,22 @@ module _ (limits : Limits) (input : Input) (s : List ℕ) where
   pub merged-yes : (mergedAsked limits input s ≡ Yes) ↔ (mergedCount limits s ≤ limits .rows)
   unfolding mergedAsked
   merged-yes = (
-    λ h. leb-true (mergedCount limits s) (limits .rows) (by-yes (leb (mergedCount limits s) (limits .rows)) h),
+    λ h. leb-true (mergedCount limits s) (limits .rows) (by-yes (leb (mergedCount limits s) (limits .rows)) (tooMany input) h),
     λ few. rw (le-leb (mergedCount limits s) (limits .rows) few),
   )
-    where
-      by-yes : (b : Bool) → pick b Yes (No (tooMany input)) ≡ Yes → b ≡ true
-      by-yes true h = refl
-      by-yes false h = absurd (clash (tooMany input) h)
 
   pub merged-no : (r : Refusal) → (mergedAsked limits input s ≡ No r) ↔ ((limits .rows < mergedCount limits s) × (r ≡ tooMany input))
   unfolding mergedAsked
   merged-no r = (
-    λ h. let (many, is) = by-no (leb (mergedCount limits s) (limits .rows)) h in (leb-false (mergedCount limits s) (limits .rows) many, is),
+    λ h. let (many, is) = by-no (leb (mergedCount limits s) (limits .rows)) (tooMany input) r h in (leb-false (mergedCount limits s) (limits .rows) many, is),
     λ (many, is). rw (lt-leb (mergedCount limits s) (limits .rows) many) (ap No (sym is)),
   )
-    where
-      by-no : (b : Bool) → pick b Yes (No (tooMany input)) ≡ No r → (b ≡ false) × (r ≡ tooMany input)
-      by-no true h = absurd (clash r (sym h))
-      by-no false h = (refl, cc)
 
 -- ---- 24
 
 module _ (book : List ℕ) where
   pub form-yes : (formAsked book ≡ Yes) ↔ (bookForm book ≡ true)
-  form-yes = (by-yes (bookForm book), λ h. rw h)
-    where
-      by-yes : (b : Bool) → pick b Yes (No noBook) ≡ Yes → b ≡ true
-      by-yes true h = refl
-      by-yes false h = absurd (clash noBook h)
+  form-yes = (by-yes (bookForm book) noBook, λ h. rw h)
 
   pub form-no : (r : Refusal) → (formAsked book ≡ No r) ↔ ((bookForm book ≡ false) × (r ≡ noBook))
-  form-no r = (by-no (bookForm book), λ (h, is). rw h (ap No (sym is)))
-    where
-      by-no : (b : Bool) → pick b Yes (No noBook) ≡ No r → (b ≡ false) × (r ≡ noBook)
-      by-no true h = absurd (clash r (sym h))
-      by-no false h = (refl, cc)
+  form-no r = (by-no (bookForm book) noBook r, λ (h, is). rw h (ap No (sym is)))

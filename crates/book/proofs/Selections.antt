@@ -16,11 +16,12 @@ use lib.Pow.{pow-mono}
 use mathlib.Core.Bool.{Bool, _&&_, false, false≢true, not, true}
 use mathlib.Core.List.{List}
 use mathlib.Core.Logic.{_↔_}
-use mathlib.Core.Path.{_∙_, _≡_, refl, sym}
+use mathlib.Core.Path.{_∙_, _≡_, sym}
 use native.Mathlib.Nat.{lt-of-lt-of-le}
 use native.Mathlib.Omega.{arith}
 use Rattle.meaning.proofs.Coverings.{covers-exactly}
 use Rattle.meaning.specs.Covering.{Covers}
+use Rattle.normal.proofs.Tests.{refuted}
 use Rattle.table.proofs.Bools.{both, by-test}
 use Rattle.table.proofs.Ranges.{at-some, some-at}
 use Rattle.table.specs.NameSet.{has}
@@ -101,17 +102,13 @@ module _ (limits : Limits) (case book : List ℕ) where
               tests-mean n (ltb-true n (cardCount book) l) c (not-true over kept),
           λ s.
               has-selected n
-              ∙ rw (lt-ltb n (cardCount book) (s .in-book), case-exactly n (s .in-book) .0 (s .covers-case), not-so over (meant-kept n s)),
+              ∙ rw (lt-ltb n (cardCount book) (s .in-book), case-exactly n (s .in-book) .0 (s .covers-case), refuted over (meant-kept n s)),
         )
-      where
-        not-so : (b : Bool) → (b ≡ true → ⊥) → b ≡ false
-        not-so true u = absurd (u refl)
-        not-so false u = refl
 
     pub most-specific-not : (n : ℕ) → (has (mostSpecificCards limits case book) n ≡ false) ↔ (MostSpecific limits case book n → ⊥)
     most-specific-not n = (
       λ e s. false≢true (sym e ∙ most-specific-exactly n .1 s),
-      λ u. by-test (has (mostSpecificCards limits case book) n) (λ e. absurd (u (most-specific-exactly n .0 e))) (λ e. e),
+      λ u. refuted (has (mostSpecificCards limits case book) n) (λ e. u (most-specific-exactly n .0 e)),
     )
 
     pub most-specific-decidable : (n : ℕ) → Dec (MostSpecific limits case book n)

@@ -1,12 +1,10 @@
 -- Laws of weighing the cards: 14 of each, and whether it covers the case, over the case's table t.
---   by-asked, by-refused                        what a word and what a refusal say of the questions
 --   weigh-start, weigh-all                      none is weighed; all are
 --   weigh-many, weigh-not, weigh-covers         one card more: 14 is answered no; it does not cover the case; it does
 --   weigh-fits                                  the word has room for it
 --   weigh-no                                    then 14 decides
 --   case-many, case-weighed                     14 of the case is answered no; else the table is the case's
 use Prim.Native.Nat.{_+_, _<_, _^_, _≤_, ℕ}
-use borrow.Author.Tests.{le-leb}
 use lib.Dec.{leb}
 use lib.Pow.{pow-mono}
 use mathlib.Core.Bool.{Bool, false, true}
@@ -25,7 +23,7 @@ use Rattle.table.specs.Links.{Zeros}
 use Rattle.table.specs.Pick.{pick}
 use Rattle.table.specs.declared.layout.Limits.{Limits}
 use Rattle.book.specs.Call.{andThen, askedFrom, cardMerged, caseMerged, mergedAsked, onAsked}
-use Rattle.book.specs.Form.{card, cardCount, mostCards}
+use Rattle.book.specs.Form.{card, mostCards}
 use Rattle.book.specs.Selection.{cardWord, caseCovered}
 use Rattle.book.specs.Keeping.{Kept, Shelved}
 use Rattle.book.specs.Tables.{coversTable}
@@ -37,16 +35,6 @@ use Rattle.book.specs.declared.weigh.Shelf.{Shelf}
 use Rattle.book.proofs.CardWords.{cardWord-below, cardWord-same, cardWord-suc, cardWord-zero}
 use Rattle.book.proofs.Keepings.{none-kept}
 use Rattle.book.proofs.Questions.{from-yes, merged-yes, no-from, yes-from}
-
--- ---- what an answer says of the questions
-
-pub by-asked : (a : Asked) (word one : ℕ) → Cards one ≡ onAsked a word → (a ≡ Yes) × (one ≡ word)
-by-asked Yes word one e = (refl, cc)
-by-asked (No r) word one e = absurd (let z : _≡_ {A = ℕ} 0 1 = cc in omega arith)
-
-pub by-refused : (a : Asked) (word : ℕ) (r : Refusal) → Refused r ≡ onAsked a word → a ≡ No r
-by-refused Yes word r e = absurd (let z : _≡_ {A = ℕ} 0 1 = cc in omega arith)
-by-refused (No q) word r e = cc
 
 -- ---- the cards in turn
 

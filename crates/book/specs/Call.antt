@@ -2,12 +2,13 @@
 --   AcceptableBook       2 to 13, 24 and 14 are answered yes for the case, the book and every card
 --   andThen              the first no of two questions
 --   askedFrom            the first no of one question of `more` cards from card k on
---   readAsked            2 to 13 of a picture
---   formAsked            24; it names the book
+--   readingAsked, readAsked   2 to 13 of a picture
+--   noBook, formAsked    24; it names the book
 --   mergedAsked          14 of a picture
+--   caseMerged, cardRead, cardMerged   14 of the case; 2 to 13 and 14 of card k
 --   bookAsked            all of them, in their order
---   mostSpecificAnswer   1; the questions; the word of the most specific cards
---   mostSpecificWork     the work space: so many bytes as are lent by name zero where a word is answered; else nothing written
+--   onAsked, mostSpecificAnswer   1; the questions; the word of the most specific cards
+--   onSelected, mostSpecificWork  the work space: so many bytes as are lent by name zero where a word is answered; else nothing written
 use Prim.Native.Nat.{ℕ, zero, suc, _+_, _<_, _≤_}
 use lib.Dec.{leb}
 use lib.ListN.{length}

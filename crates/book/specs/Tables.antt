@@ -3,10 +3,10 @@
 --   CardsRead, CardsTaken          the cards have passed 2 to 13; and 14
 --   afterCase, afterCards          the questions after 2 to 13 of the case; those after 2 to 13 of the cards
 --   Tabled                         a normal table at the start of a lent part, and its rows; 0 if 14 is answered no
---   tableCovers, coversTable       a picture covers what a normal table is of; card k does
+--   coversTable                    card k covers what a normal table is of
 --   Lower                          card m's table, with its links, in the lower half of the work space
 --   With, WithEach, Paired         a word with card k if a test passes; with two cards; with each of two cards that covers the other
---   wanted                         card n covers the case, and not both m and n are passed over already
+--   undecided                         card n covers the case, and not both m and n are passed over already
 --   ComparedTo, Compared           of those that cover the case each card below m is compared with each earlier one, card m with those below n
 use Prim.Native.Nat.{ℕ, _+_, _<_, _≤_}
 use lib.Dec.{eqb, leb}
@@ -59,11 +59,8 @@ pub record Tabled (limits : Limits) (s out : List ℕ) (r : ℕ) (end : List ℕ
   pub rows-are : r ≡ pick (leb (mergedCount limits s) (limits .rows)) (tableRows limits s) 0
   pub file : mergedCount limits s ≤ limits .rows → take (place r endSize) end ≡ normalFile limits s
 
-abbrev pub tableCovers : Limits → List ℕ → List ℕ → Bool
-tableCovers limits t s = rowMaps t (normalFile limits s) (limits .depth) 0 0
-
 abbrev pub coversTable : Limits → List ℕ → List ℕ → ℕ → Bool
-coversTable limits t book k = tableCovers limits t (card book k)
+coversTable limits t book k = rowMaps t (normalFile limits (card book k)) (limits .depth) 0 0
 
 pub record Lower (limits : Limits) (book : List ℕ) (m a : ℕ) (links work : List ℕ) : Type 0 where
   pub long : length work ≡ workSize limits
@@ -82,16 +79,16 @@ WithEach word m test n other r = (i : ℕ) → has r i ≡ ((has word i || (eqb 
 abbrev pub Paired : Limits → List ℕ → ℕ → ℕ → ℕ → ℕ → Type 0
 Paired limits book m n word r = WithEach word m (cardCovers limits book m n) n (cardCovers limits book n m) r
 
-unfoldable pub wanted : ℕ → ℕ → ℕ → ℕ → Bool
-wanted covering hidden m n = has covering n && not (has hidden m && has hidden n)
+unfoldable pub undecided : ℕ → ℕ → ℕ → ℕ → Bool
+undecided covering passed m n = has covering n && not (has passed m && has passed n)
 
 abbrev pub Earlier : ℕ → ℕ → ℕ → ℕ → Type 0
 Earlier m n i j = (i < m) ⊎ ((i ≡ m) × (j < n))
 
-pub record ComparedTo (limits : Limits) (book : List ℕ) (covering m n hidden : ℕ) : Type 0 where
-  pub sound : (i : ℕ) → has hidden i ≡ true → passedOver limits book (has covering) i ≡ true
-  pub later : (i j : ℕ) → has covering i ≡ true → has covering j ≡ true → j < i → Earlier m n i j → cardCovers limits book i j ≡ true → has hidden i ≡ true
-  pub sooner : (i j : ℕ) → has covering i ≡ true → has covering j ≡ true → j < i → Earlier m n i j → cardCovers limits book j i ≡ true → has hidden j ≡ true
+pub record ComparedTo (limits : Limits) (book : List ℕ) (covering m n passed : ℕ) : Type 0 where
+  pub sound : (i : ℕ) → has passed i ≡ true → passedOver limits book (has covering) i ≡ true
+  pub later : (i j : ℕ) → has covering i ≡ true → has covering j ≡ true → j < i → Earlier m n i j → cardCovers limits book i j ≡ true → has passed i ≡ true
+  pub sooner : (i j : ℕ) → has covering i ≡ true → has covering j ≡ true → j < i → Earlier m n i j → cardCovers limits book j i ≡ true → has passed j ≡ true
 
 abbrev pub Compared : Limits → List ℕ → ℕ → ℕ → ℕ → Type 0
-Compared limits book covering m hidden = ComparedTo limits book covering m 0 hidden
+Compared limits book covering m passed = ComparedTo limits book covering m 0 passed

@@ -7,7 +7,7 @@ pub enum Asked {
     No(Refusal),
 }
 
-// The word of the most specific cards, card n as bit n, or the refusal.
+// A word of cards, card n as bit n, or the refusal.
 pub enum Selected {
     Cards(u32),
     Refused(Refusal),

@@ -29,11 +29,11 @@ ghost use Rattle.workspace.specs.Tables.{TablesIn, firstIn, secondIn};
 ghost use Rattle.book.specs.Form.{mostCards};
 ghost use Rattle.book.specs.Selection.{passedOver};
 ghost use Rattle.book.specs.Keeping.{Stocked};
-ghost use Rattle.book.specs.Tables.{Compared, ComparedTo, Lower, Paired, With, WithEach, wanted};
+ghost use Rattle.book.specs.Tables.{Compared, ComparedTo, Lower, Paired, With, WithEach, undecided};
 
 // The word with card k if the second table, which is card k's, covers the first.
 fn pass_over(
-    hidden: u32,
+    passed: u32,
     k: usize,
     first: &[u8],
     n: usize,
@@ -44,15 +44,15 @@ fn pass_over(
     depth: usize,
 ) -> u32
     requires { ⌜ (LinkedTable (now first) n (now links)) × ((LinkedTable (now second) m (now others)) × (k < mostCards)) ⌝ }
-    ensures { λ r. ⌜ With hidden k (rowMaps (now (first .entry)) (now (second .entry)) depth 0 0) r ⌝ }
+    ensures { λ r. ⌜ With passed k (rowMaps (now (first .entry)) (now (second .entry)) depth 0 0) r ⌝ }
 {
-    if has_card(hidden, k) {
-        return hidden;
+    if has_card(passed, k) {
+        return passed;
     }
     if table_covers(first, n, links, second, m, others, depth) {
-        return with_card(hidden, k);
+        return with_card(passed, k);
     }
-    hidden
+    passed
 }
 
 // Card m, whose table stands in the lower half, and card n, whose table stands in the upper one, each with the other.
@@ -63,10 +63,10 @@ fn compare_halves(
     limits: Limits,
     m: usize,
     n: usize,
-    hidden: u32,
+    passed: u32,
 ) -> u32
     requires { ⌜ (Bounded limits) × ((TablesIn limits (now work) pair) × ((LinkedTable (firstIn pair (now work)) (pair .first) (now links)) × ((m < mostCards) × (n < mostCards)))) ⌝ }
-    ensures { λ r. ⌜ WithEach hidden m (rowMaps (secondIn limits pair (now (work .entry))) (firstIn pair (now (work .entry))) (limits .depth) 0 0) n (rowMaps (firstIn pair (now (work .entry))) (secondIn limits pair (now (work .entry))) (limits .depth) 0 0) r ⌝ }
+    ensures { λ r. ⌜ WithEach passed m (rowMaps (secondIn limits pair (now (work .entry))) (firstIn pair (now (work .entry))) (limits .depth) 0 0) n (rowMaps (firstIn pair (now (work .entry))) (secondIn limits pair (now (work .entry))) (limits .depth) 0 0) r ⌝ }
 {
     let half = half_size(limits);
     let a = pair.first;
@@ -75,7 +75,7 @@ fn compare_halves(
     let high = &work[half..half + place(b, END_SIZE)];
     let mut others = [0u8; LINKS];
     fill_links(high, b, &mut others);
-    let more = pass_over(hidden, m, high, b, &others, low, a, links, limits.depth);
+    let more = pass_over(passed, m, high, b, &others, low, a, links, limits.depth);
     pass_over(more, n, low, a, links, high, b, &others, limits.depth)
 }
 
@@ -91,11 +91,11 @@ fn compare_with(
     a: usize,
     links: &[u8; LINKS],
     n: usize,
-    hidden: u32,
+    passed: u32,
     work: &mut [u8],
 ) -> u32
     requires { ⌜ (Bounded limits) × ((Stocked limits (now book) (now places) count (now kept) (now spans)) × (((m < count) × (n < count)) × (Lower limits (now book) m a (now links) (now work)))) ⌝ }
-    ensures { λ r. ⌜ (Paired limits (now (book .entry)) m n hidden r) × (Lower limits (now (book .entry)) m a (now (links .entry)) (now (work .exit))) ⌝ }
+    ensures { λ r. ⌜ (Paired limits (now (book .entry)) m n passed r) × (Lower limits (now (book .entry)) m a (now (links .entry)) (now (work .exit))) ⌝ }
 {
     let half = half_size(limits);
     let b = fetch(
@@ -112,31 +112,31 @@ fn compare_with(
         first: a,
         second: b,
     };
-    compare_halves(work, pair, links, limits, m, n, hidden)
+    compare_halves(work, pair, links, limits, m, n, passed)
 }
 
 // Whether card n is to be compared with card m: it covers the case, and not both are passed over already.
-fn is_wanted(covering: u32, hidden: u32, m: usize, n: usize) -> bool
+fn is_undecided(covering: u32, passed: u32, m: usize, n: usize) -> bool
     requires { ⌜ (m < mostCards) × (n < mostCards) ⌝ }
-    ensures { λ r. ⌜ r ≡ wanted covering hidden m n ⌝ }
+    ensures { λ r. ⌜ r ≡ undecided covering passed m n ⌝ }
 {
     if !has_card(covering, n) {
         return false;
     }
-    if !has_card(hidden, m) {
+    if !has_card(passed, m) {
         return true;
     }
-    !has_card(hidden, n)
+    !has_card(passed, n)
 }
 
 // The first such card from one on; `end` if there is none before it.
-fn next_wanted(covering: u32, hidden: u32, m: usize, from: usize, end: usize) -> usize
+fn next_undecided(covering: u32, passed: u32, m: usize, from: usize, end: usize) -> usize
     requires { ⌜ (m < mostCards) × ((from ≤ end) × (end ≤ mostCards)) ⌝ }
-    ensures { λ r. ⌜ ((from ≤ r) × (r ≤ end)) × (((k : ℕ) → from ≤ k → k < r → wanted covering hidden m k ≡ false) × (r < end → wanted covering hidden m r ≡ true)) ⌝ }
+    ensures { λ r. ⌜ ((from ≤ r) × (r ≤ end)) × (((k : ℕ) → from ≤ k → k < r → undecided covering passed m k ≡ false) × (r < end → undecided covering passed m r ≡ true)) ⌝ }
 {
     let mut n = from;
     while n < end {
-        if is_wanted(covering, hidden, m, n) {
+        if is_undecided(covering, passed, m, n) {
             return n;
         }
         n += 1;
@@ -157,13 +157,13 @@ fn compare_rest(
     a: usize,
     links: &[u8; LINKS],
     from: usize,
-    hidden: u32,
+    passed: u32,
     work: &mut [u8],
 ) -> u32
-    requires { ⌜ (Bounded limits) × ((Stocked limits (now book) (now places) count (now kept) (now spans)) × (((m < count) × (from < m)) × (((has covering m ≡ true) × (wanted covering hidden m from ≡ true)) × ((ComparedTo limits (now book) covering m from hidden) × (Lower limits (now book) m a (now links) (now work)))))) ⌝ }
+    requires { ⌜ (Bounded limits) × ((Stocked limits (now book) (now places) count (now kept) (now spans)) × (((m < count) × (from < m)) × (((has covering m ≡ true) × (undecided covering passed m from ≡ true)) × ((ComparedTo limits (now book) covering m from passed) × (Lower limits (now book) m a (now links) (now work)))))) ⌝ }
     ensures { λ r. ⌜ (Compared limits (now (book .entry)) covering (m + 1) r) × (length (now (work .exit)) ≡ length (now (work .entry))) ⌝ }
 {
-    let mut word = hidden;
+    let mut word = passed;
     let mut n = from;
     while n < m {
         word = compare_with(
@@ -180,7 +180,7 @@ fn compare_rest(
             word,
             work,
         );
-        n = next_wanted(covering, word, m, n + 1, m);
+        n = next_undecided(covering, word, m, n + 1, m);
     }
     word
 }
@@ -195,18 +195,18 @@ fn compare_card(
     spans: &[usize; SPANS],
     covering: u32,
     m: usize,
-    hidden: u32,
+    passed: u32,
     work: &mut [u8],
 ) -> u32
-    requires { ⌜ (Bounded limits) × ((Stocked limits (now book) (now places) count (now kept) (now spans)) × ((m < count) × ((Compared limits (now book) covering m hidden) × (length (now work) ≡ workSize limits)))) ⌝ }
+    requires { ⌜ (Bounded limits) × ((Stocked limits (now book) (now places) count (now kept) (now spans)) × ((m < count) × ((Compared limits (now book) covering m passed) × (length (now work) ≡ workSize limits)))) ⌝ }
     ensures { λ r. ⌜ (Compared limits (now (book .entry)) covering (m + 1) r) × (length (now (work .exit)) ≡ length (now (work .entry))) ⌝ }
 {
     if !has_card(covering, m) {
-        return hidden;
+        return passed;
     }
-    let from = next_wanted(covering, hidden, m, 0, m);
+    let from = next_undecided(covering, passed, m, 0, m);
     if from == m {
-        return hidden;
+        return passed;
     }
     let half = half_size(limits);
     let a = fetch(
@@ -233,7 +233,7 @@ fn compare_card(
         a,
         &links,
         from,
-        hidden,
+        passed,
         work,
     )
 }
@@ -252,10 +252,10 @@ fn compare_cards(
     requires { ⌜ (Bounded limits) × ((Stocked limits (now book) (now places) count (now kept) (now spans)) × (length (now work) ≡ workSize limits)) ⌝ }
     ensures { λ r. ⌜ (Compared limits (now (book .entry)) covering count r) × (length (now (work .exit)) ≡ length (now (work .entry))) ⌝ }
 {
-    let mut hidden: u32 = 0;
+    let mut passed: u32 = 0;
     let mut m = 0;
     while m < count {
-        hidden = compare_card(
+        passed = compare_card(
             book,
             places,
             count,
@@ -264,12 +264,12 @@ fn compare_cards(
             spans,
             covering,
             m,
-            hidden,
+            passed,
             work,
         );
         m += 1;
     }
-    hidden
+    passed
 }
 
 // Those that cover no other; the work space is cleared.
@@ -286,7 +286,7 @@ pub fn select_cards(
     requires { ⌜ (Bounded limits) × ((Stocked limits (now book) (now places) count (now kept) (now spans)) × (((k : ℕ) → has covering k ≡ true → k < count) × (length (now work) ≡ workSize limits))) ⌝ }
     ensures { λ r. ⌜ ((k : ℕ) → has r k ≡ (has covering k && not (passedOver limits (now (book .entry)) (has covering) k))) × (now (work .exit) ≡ zeros (workSize limits)) ⌝ }
 {
-    let hidden = compare_cards(book, places, count, limits, kept, spans, covering, work);
+    let passed = compare_cards(book, places, count, limits, kept, spans, covering, work);
     clear(work, 0, work.len());
-    without(covering, hidden)
+    without(covering, passed)
 }

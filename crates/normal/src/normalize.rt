@@ -19,9 +19,9 @@ ghost use Rattle.table.specs.Bounds.{Bounded, maxRows, pictureSize};
 ghost use Rattle.table.specs.Fields.{endBytes};
 ghost use Rattle.table.specs.Layout.{«place», endSize};
 ghost use Rattle.table.specs.Put.{put};
-ghost use Rattle.meaning.specs.NormalTable.{mergedCount, normalFile};
+ghost use Rattle.meaning.specs.NormalTable.{normalFile};
 ghost use Rattle.normal.specs.Rows.{Checked};
-ghost use Rattle.normal.specs.Grown.{capped, prefix};
+ghost use Rattle.normal.specs.Grown.{prefix};
 ghost use Rattle.normal.specs.Call.{normalizeAnswer, normalizeResult, onAnswer, onReading};
 
 // As many bytes as the rows of a table take.
@@ -31,16 +31,6 @@ pub const SCRATCH: usize = ROW_SIZE * MAX_ROWS;
 pub enum Normalized {
     Length(usize),
     Refused(Refusal),
-}
-
-// What 14 asks for: the merged rows of a picture, counted up to the limit and one more. Nothing that was lent is written.
-pub fn count_merged(picture: &[u8], rows: usize, limits: Limits) -> usize
-    requires { ⌜ (Checked (now picture) rows) × (Bounded limits) ⌝ }
-    ensures { λ r. ⌜ r ≡ capped (limits .rows) (mergedCount limits (now (picture .entry))) ⌝ }
-{
-    let mut scratch = [0u8; SCRATCH];
-    let built = build(picture, rows, limits, &mut scratch);
-    built.merged
 }
 
 // Copies the rows of a table under construction to the start of a lent part and ends the table there; its length in bytes.

@@ -13,7 +13,7 @@ use Prim.Native.Nat.{_*_, _<_, _^_, _≤_, ℕ}
 use borrow.Author.Tests.{eq-eqb}
 use lib.Dec.{T}
 use lib.ListN.{getD, length}
-use mathlib.Core.Bool.{false, false≢true, true}
+use mathlib.Core.Bool.{false, true}
 use mathlib.Core.List.{List}
 use mathlib.Core.Logic.{_↔_}
 use mathlib.Core.Path.{_∙_, _≡_, subst, sym}
@@ -22,7 +22,7 @@ use Rattle.ale.proofs.Concepts.{subsumed-concepts}
 use Rattle.ale.proofs.CountermodelRoles.{countermodel-known}
 use Rattle.ale.proofs.LowestMap.{lowest-homomorphism}
 use Rattle.ale.proofs.Sizes.{countermodel-bound}
-use Rattle.ale.proofs.Subsumption.{not-subsumed, subsumption-homomorphism}
+use Rattle.ale.proofs.Subsumption.{not-subsumed}
 use Rattle.ale.specs.Concept.{ConceptSubsumed, conceptOf}
 use Rattle.ale.specs.Countermodel.{countermodel, encoded-inhabited, numbered}
 use Rattle.ale.specs.Encoding.{encode, encoded}
@@ -55,7 +55,7 @@ use Rattle.meaning.proofs.Pictures.{picture-known, picture-parents}
 use Rattle.meaning.specs.Covering.{Covers, covers}
 use Rattle.meaning.specs.Meaning.{pictureTable, pictureTree}
 use Rattle.meaning.specs.NormalTable.{mergedCount, normalFile, normalTreeOf}
-use Rattle.table.proofs.Bools.{by-test, false-is, is-true, true-is}
+use Rattle.table.proofs.Bools.{by-test, false-is, true-is}
 use Rattle.table.specs.Bounds.{Bounded}
 use Rattle.table.specs.Layout.{lengthAt, numberSize}
 use Rattle.table.specs.Number.{Bytes, be}

@@ -1,5 +1,5 @@
 -- A card that does not cover the case, or has no earlier one to be compared with, changes nothing; else its table comes into the lower half.
-use Prim.Native.Nat.{_+_, _<_}
+use Prim.Native.Nat.{_<_}
 use native.Mathlib.Omega.{arith}
 use borrow.Author.Tests.{not-false, not-true}
 use denote.Ref.{now}
@@ -7,7 +7,8 @@ use lib.Seq.{length-take-le}
 use mathlib.Core.Path.{_∙_, refl, subst, sym}
 use Rattle.table.proofs.Stores.{blank}
 use Rattle.book.specs.Tables.{ComparedTo}
-use Rattle.book.proofs.Comparisons.{lower-checked, lower-fits, lower-length, lower-made, row-ended, row-left, row-skipped}
+use Rattle.book.proofs.Comparisons.{row-ended, row-left, row-skipped}
+use Rattle.book.proofs.HalfTables.{lower-checked, lower-fits, lower-length, lower-made}
 use borrow.Author.Needs.{needs}
 use Rattle.book.proofs.compare.compare_card.Statement.{statement}
 use Rattle.book.proofs.compare.compare_card.Tie as tie
@@ -16,13 +17,13 @@ has-card-requires : tie.Need-has-card-requires
 has-card-requires c κs = search needs
 
 returns : tie.Need-returns
-returns c = (row-left (c .before .before .before .before .before .args .limits) (now (c .before .before .before .before .before .args .book)) (c .before .before .before .before .before .args .covering) (c .before .before .before .before .before .args .m) (c .before .before .before .before .before .args .hidden) (sym (c .before .has-card .ensures) ∙ not-true _ (c .if1 .taken)) (c .before .before .before .before .before .pre .1 .1 .1 .0), refl)
+returns c = (row-left (c .before .before .before .before .before .args .limits) (now (c .before .before .before .before .before .args .book)) (c .before .before .before .before .before .args .covering) (c .before .before .before .before .before .args .m) (c .before .before .before .before .before .args .passed) (sym (c .before .has-card .ensures) ∙ not-true _ (c .if1 .taken)) (c .before .before .before .before .before .pre .1 .1 .1 .0), refl)
 
-next-wanted-requires : tie.Need-next-wanted-requires
-next-wanted-requires c κs = search needs
+next-undecided-requires : tie.Need-next-undecided-requires
+next-undecided-requires c κs = search needs
 
 returns-2 : tie.Need-returns-2
-returns-2 c = (row-ended (c .before .before .before .before .before .before .before .args .limits) (now (c .before .before .before .before .before .before .before .args .book)) (c .before .before .before .before .before .before .before .args .covering) (c .before .before .before .before .before .before .before .args .m) (c .before .before .before .before .before .before .before .args .hidden) (subst (λ k. ComparedTo (c .before .before .before .before .before .before .before .args .limits) (now (c .before .before .before .before .before .before .before .args .book)) (c .before .before .before .before .before .before .before .args .covering) (c .before .before .before .before .before .before .before .args .m) k (c .before .before .before .before .before .before .before .args .hidden)) (c .if2 .taken) (row-skipped (c .before .before .before .before .before .before .before .args .limits) (now (c .before .before .before .before .before .before .before .args .book)) (c .before .before .before .before .before .before .before .args .covering) (c .before .before .before .before .before .before .before .args .m) (c .before .before .before .before .before .before .before .args .hidden) 0 (c .before .next-wanted .result) (c .before .next-wanted .ensures .1 .0) (c .before .before .before .before .before .before .before .pre .1 .1 .1 .0))), refl)
+returns-2 c = (row-ended (c .before .before .before .before .before .before .before .args .limits) (now (c .before .before .before .before .before .before .before .args .book)) (c .before .before .before .before .before .before .before .args .covering) (c .before .before .before .before .before .before .before .args .m) (c .before .before .before .before .before .before .before .args .passed) (subst (λ k. ComparedTo (c .before .before .before .before .before .before .before .args .limits) (now (c .before .before .before .before .before .before .before .args .book)) (c .before .before .before .before .before .before .before .args .covering) (c .before .before .before .before .before .before .before .args .m) k (c .before .before .before .before .before .before .before .args .passed)) (c .if2 .taken) (row-skipped (c .before .before .before .before .before .before .before .args .limits) (now (c .before .before .before .before .before .before .before .args .book)) (c .before .before .before .before .before .before .before .args .covering) (c .before .before .before .before .before .before .before .args .m) (c .before .before .before .before .before .before .before .args .passed) 0 (c .before .next-undecided .result) (c .before .next-undecided .ensures .1 .0) (c .before .before .before .before .before .before .before .pre .1 .1 .1 .0))), refl)
 
 half-size-requires : tie.Need-half-size-requires
 half-size-requires c κs = search needs
@@ -52,8 +53,8 @@ fill-links-requires c κs = (lower-checked (c .before .before .before .before .b
 
 compare-rest-requires : tie.Need-compare-rest-requires
 compare-rest-requires c κs =
-    let less : c .before .before .before .before .before .before .before .before .before .before .before .before .next-wanted .result < c .before .before .before .before .before .before .before .before .before .before .before .before .before .before .before .before .before .before .args .m = omega (arith, c .before .before .before .before .before .before .before .before .before .before .before .before .next-wanted .ensures .0 .1, c .before .before .before .before .before .before .before .before .before .before .before .if2 .left) in
-    (c .before .before .before .before .before .before .before .before .before .before .before .before .before .before .before .before .before .before .pre .0, (c .before .before .before .before .before .before .before .before .before .before .before .before .before .before .before .before .before .before .pre .1 .0, ((c .before .before .before .before .before .before .before .before .before .before .before .before .before .before .before .before .before .before .pre .1 .1 .0, less), (((sym (c .before .before .before .before .before .before .before .before .before .before .before .before .before .before .has-card .ensures) ∙ not-false _ (c .before .before .before .before .before .before .before .before .before .before .before .before .before .if1 .left)), c .before .before .before .before .before .before .before .before .before .before .before .before .next-wanted .ensures .1 .1 less), ((row-skipped (c .before .before .before .before .before .before .before .before .before .before .before .before .before .before .before .before .before .before .args .limits) (now (c .before .before .before .before .before .before .before .before .before .before .before .before .before .before .before .before .before .before .args .book)) (c .before .before .before .before .before .before .before .before .before .before .before .before .before .before .before .before .before .before .args .covering) (c .before .before .before .before .before .before .before .before .before .before .before .before .before .before .before .before .before .before .args .m) (c .before .before .before .before .before .before .before .before .before .before .before .before .before .before .before .before .before .before .args .hidden) 0 (c .before .before .before .before .before .before .before .before .before .before .before .before .next-wanted .result) (c .before .before .before .before .before .before .before .before .before .before .before .before .next-wanted .ensures .1 .0) (c .before .before .before .before .before .before .before .before .before .before .before .before .before .before .before .before .before .before .pre .1 .1 .1 .0)), lower-made (c .before .before .before .before .before .before .before .before .before .before .before .before .before .before .before .before .before .before .args .limits) (now (c .before .before .before .before .before .before .before .before .before .before .before .before .before .before .before .before .before .before .args .book)) (now (c .before .before .before .before .before .before .before .before .before .before .before .before .before .before .before .before .before .before .args .places)) (c .before .before .before .before .before .before .before .before .before .before .before .before .before .before .before .before .before .before .args .count) (c .before .before .before .before .before .before .before .before .before .before .before .before .before .before .before .before .before .before .pre .1 .0 .taken) (c .before .before .before .before .before .before .before .before .before .before .before .before .before .before .before .before .before .before .pre .0) (c .before .before .before .before .before .before .before .before .before .before .half-size .result) (c .before .before .before .before .before .before .before .before .before .before .half-size .ensures) (c .before .before .before .before .before .before .before .before .before .before .before .before .before .before .before .before .before .before .args .m) (c .before .before .before .before .before .before .before .before .fetch .result) (c .before .before .before .before .before .before .before .before .before .before .before .before .before .before .before .before .before .before .pre .1 .1 .0) (now (c .before .before .before .before .before .before .before .before .before .before .before .before .before .before .before .before .before .before .args .work)) (c .before .before .before .before .before .before .before .before .fetch .last .1 .1 .1 .1 .1 .1 .1 .0) (c .before .before .before .before .before .before .before .before .before .before .before .before .before .before .before .before .before .before .pre .1 .1 .1 .1) (c .before .before .before .before .before .before .before .before .fetch .ensures) (c .before .before .before .before .before .place .result) (c .before .before .before .before .before .place .ensures) (c .before .before .fill-links .last .1 .1 .0) (c .before .before .fill-links .ensures))))))
+    let less : c .before .before .before .before .before .before .before .before .before .before .before .before .next-undecided .result < c .before .before .before .before .before .before .before .before .before .before .before .before .before .before .before .before .before .before .args .m = omega (arith, c .before .before .before .before .before .before .before .before .before .before .before .before .next-undecided .ensures .0 .1, c .before .before .before .before .before .before .before .before .before .before .before .if2 .left) in
+    (c .before .before .before .before .before .before .before .before .before .before .before .before .before .before .before .before .before .before .pre .0, (c .before .before .before .before .before .before .before .before .before .before .before .before .before .before .before .before .before .before .pre .1 .0, ((c .before .before .before .before .before .before .before .before .before .before .before .before .before .before .before .before .before .before .pre .1 .1 .0, less), (((sym (c .before .before .before .before .before .before .before .before .before .before .before .before .before .before .has-card .ensures) ∙ not-false _ (c .before .before .before .before .before .before .before .before .before .before .before .before .before .if1 .left)), c .before .before .before .before .before .before .before .before .before .before .before .before .next-undecided .ensures .1 .1 less), ((row-skipped (c .before .before .before .before .before .before .before .before .before .before .before .before .before .before .before .before .before .before .args .limits) (now (c .before .before .before .before .before .before .before .before .before .before .before .before .before .before .before .before .before .before .args .book)) (c .before .before .before .before .before .before .before .before .before .before .before .before .before .before .before .before .before .before .args .covering) (c .before .before .before .before .before .before .before .before .before .before .before .before .before .before .before .before .before .before .args .m) (c .before .before .before .before .before .before .before .before .before .before .before .before .before .before .before .before .before .before .args .passed) 0 (c .before .before .before .before .before .before .before .before .before .before .before .before .next-undecided .result) (c .before .before .before .before .before .before .before .before .before .before .before .before .next-undecided .ensures .1 .0) (c .before .before .before .before .before .before .before .before .before .before .before .before .before .before .before .before .before .before .pre .1 .1 .1 .0)), lower-made (c .before .before .before .before .before .before .before .before .before .before .before .before .before .before .before .before .before .before .args .limits) (now (c .before .before .before .before .before .before .before .before .before .before .before .before .before .before .before .before .before .before .args .book)) (now (c .before .before .before .before .before .before .before .before .before .before .before .before .before .before .before .before .before .before .args .places)) (c .before .before .before .before .before .before .before .before .before .before .before .before .before .before .before .before .before .before .args .count) (c .before .before .before .before .before .before .before .before .before .before .before .before .before .before .before .before .before .before .pre .1 .0 .taken) (c .before .before .before .before .before .before .before .before .before .before .before .before .before .before .before .before .before .before .pre .0) (c .before .before .before .before .before .before .before .before .before .before .half-size .result) (c .before .before .before .before .before .before .before .before .before .before .half-size .ensures) (c .before .before .before .before .before .before .before .before .before .before .before .before .before .before .before .before .before .before .args .m) (c .before .before .before .before .before .before .before .before .fetch .result) (c .before .before .before .before .before .before .before .before .before .before .before .before .before .before .before .before .before .before .pre .1 .1 .0) (now (c .before .before .before .before .before .before .before .before .before .before .before .before .before .before .before .before .before .before .args .work)) (c .before .before .before .before .before .before .before .before .fetch .last .1 .1 .1 .1 .1 .1 .1 .0) (c .before .before .before .before .before .before .before .before .before .before .before .before .before .before .before .before .before .before .pre .1 .1 .1 .1) (c .before .before .before .before .before .before .before .before .fetch .ensures) (c .before .before .before .before .before .place .result) (c .before .before .before .before .before .place .ensures) (c .before .before .fill-links .last .1 .1 .0) (c .before .before .fill-links .ensures))))))
 
 same-length : tie.Need-same-length
 same-length c = search needs
@@ -69,7 +70,7 @@ compare-card-spec =
     (tie.spec
     has-card-requires
     returns
-    next-wanted-requires
+    next-undecided-requires
     returns-2
     half-size-requires
     slice-relend-prefix-fetch

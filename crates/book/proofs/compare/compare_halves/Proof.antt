@@ -11,7 +11,7 @@ use Rattle.homomorphism.specs.Search.{LinkedTable, rowMaps}
 use Rattle.workspace.proofs.TablesIn.{first-part, of-parts, second-part}
 use Rattle.workspace.specs.Tables.{firstIn, secondIn}
 use Rattle.book.specs.Tables.{WithEach}
-use Rattle.book.proofs.Comparisons.{with-each}
+use Rattle.book.proofs.HalfTables.{with-each}
 use borrow.Author.Needs.{needs}
 use Rattle.book.proofs.compare.compare_halves.Statement.{statement}
 use Rattle.book.proofs.compare.compare_halves.Tie as tie
@@ -52,9 +52,9 @@ pass-over-requires-2 c κs = ((subst (λ t. LinkedTable t (c .before .before .be
 returns : tie.Need-returns
 returns c =
     of-parts
-    (λ s t. WithEach (c .before .before .before .before .before .before .before .before .before .before .before .before .args .hidden) (c .before .before .before .before .before .before .before .before .before .before .before .before .args .m) (rowMaps t s (c .before .before .before .before .before .before .before .before .before .before .before .before .args .limits .depth) 0 0) (c .before .before .before .before .before .before .before .before .before .before .before .before .args .n) (rowMaps s t (c .before .before .before .before .before .before .before .before .before .before .before .before .args .limits .depth) 0 0) (c .pass-over2 .result))
+    (λ s t. WithEach (c .before .before .before .before .before .before .before .before .before .before .before .before .args .passed) (c .before .before .before .before .before .before .before .before .before .before .before .before .args .m) (rowMaps t s (c .before .before .before .before .before .before .before .before .before .before .before .before .args .limits .depth) 0 0) (c .before .before .before .before .before .before .before .before .before .before .before .before .args .n) (rowMaps s t (c .before .before .before .before .before .before .before .before .before .before .before .before .args .limits .depth) 0 0) (c .pass-over2 .result))
     (firstIn (c .before .before .before .before .before .before .before .before .before .before .before .before .args .pair) (now (c .before .before .before .before .before .before .before .before .before .before .before .before .args .work))) (take (c .before .before .before .before .before .before .before .before .before .place .result) (now (c .before .before .before .before .before .before .before .before .before .before .before .before .args .work))) (secondIn (c .before .before .before .before .before .before .before .before .before .before .before .before .args .limits) (c .before .before .before .before .before .before .before .before .before .before .before .before .args .pair) (now (c .before .before .before .before .before .before .before .before .before .before .before .before .args .work))) (take (c .before .before .before .before .before .before .before .before .before .before .half-size .result + c .before .before .before .before .before .before .before .place2 .result - c .before .before .before .before .before .before .before .before .before .before .half-size .result) (drop (c .before .before .before .before .before .before .before .before .before .before .half-size .result) (now (c .before .before .before .before .before .before .before .before .before .before .before .before .args .work)))) (sym (first-part (c .before .before .before .before .before .before .before .before .before .before .before .before .args .limits) (c .before .before .before .before .before .before .before .before .before .before .before .before .args .pair) (now (c .before .before .before .before .before .before .before .before .before .before .before .before .args .work)) (c .before .before .before .before .before .before .before .before .before .place .result) (c .before .before .before .before .before .before .before .before .before .place .ensures))) (sym (second-part (c .before .before .before .before .before .before .before .before .before .before .before .before .args .limits) (c .before .before .before .before .before .before .before .before .before .before .before .before .args .pair) (now (c .before .before .before .before .before .before .before .before .before .before .before .before .args .work)) (c .before .before .before .before .before .before .before .before .before .before .half-size .result) (c .before .before .before .before .before .before .before .place2 .result) (c .before .before .before .before .before .before .before .before .before .before .half-size .ensures) (c .before .before .before .before .before .before .before .place2 .ensures)))
-    (with-each (c .before .before .before .before .before .before .before .before .before .before .before .before .args .hidden) (c .before .before .before .before .before .before .before .before .before .before .before .before .args .m) (rowMaps (take (c .before .before .before .before .before .before .before .before .before .before .half-size .result + c .before .before .before .before .before .before .before .place2 .result - c .before .before .before .before .before .before .before .before .before .before .half-size .result) (drop (c .before .before .before .before .before .before .before .before .before .before .half-size .result) (now (c .before .before .before .before .before .before .before .before .before .before .before .before .args .work)))) (take (c .before .before .before .before .before .before .before .before .before .place .result) (now (c .before .before .before .before .before .before .before .before .before .before .before .before .args .work))) (c .before .before .before .before .before .before .before .before .before .before .before .before .args .limits .depth) 0 0) (c .before .before .pass-over .result) (c .before .before .before .before .before .before .before .before .before .before .before .before .args .n) (rowMaps (take (c .before .before .before .before .before .before .before .before .before .place .result) (now (c .before .before .before .before .before .before .before .before .before .before .before .before .args .work))) (take (c .before .before .before .before .before .before .before .before .before .before .half-size .result + c .before .before .before .before .before .before .before .place2 .result - c .before .before .before .before .before .before .before .before .before .before .half-size .result) (drop (c .before .before .before .before .before .before .before .before .before .before .half-size .result) (now (c .before .before .before .before .before .before .before .before .before .before .before .before .args .work)))) (c .before .before .before .before .before .before .before .before .before .before .before .before .args .limits .depth) 0 0) (c .pass-over2 .result)
+    (with-each (c .before .before .before .before .before .before .before .before .before .before .before .before .args .passed) (c .before .before .before .before .before .before .before .before .before .before .before .before .args .m) (rowMaps (take (c .before .before .before .before .before .before .before .before .before .before .half-size .result + c .before .before .before .before .before .before .before .place2 .result - c .before .before .before .before .before .before .before .before .before .before .half-size .result) (drop (c .before .before .before .before .before .before .before .before .before .before .half-size .result) (now (c .before .before .before .before .before .before .before .before .before .before .before .before .args .work)))) (take (c .before .before .before .before .before .before .before .before .before .place .result) (now (c .before .before .before .before .before .before .before .before .before .before .before .before .args .work))) (c .before .before .before .before .before .before .before .before .before .before .before .before .args .limits .depth) 0 0) (c .before .before .pass-over .result) (c .before .before .before .before .before .before .before .before .before .before .before .before .args .n) (rowMaps (take (c .before .before .before .before .before .before .before .before .before .place .result) (now (c .before .before .before .before .before .before .before .before .before .before .before .before .args .work))) (take (c .before .before .before .before .before .before .before .before .before .before .half-size .result + c .before .before .before .before .before .before .before .place2 .result - c .before .before .before .before .before .before .before .before .before .before .half-size .result) (drop (c .before .before .before .before .before .before .before .before .before .before .half-size .result) (now (c .before .before .before .before .before .before .before .before .before .before .before .before .args .work)))) (c .before .before .before .before .before .before .before .before .before .before .before .before .args .limits .depth) 0 0) (c .pass-over2 .result)
     (c .before .before .pass-over .ensures) (c .pass-over2 .ensures))
 
 pub compare-halves-spec : {M : Type 1} → statement M

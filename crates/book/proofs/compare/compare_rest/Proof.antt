@@ -1,20 +1,20 @@
--- At the loop's head card m is compared with the wanted cards below n, and n is wanted or the end.
+-- At the loop's head card m is compared with the undecided cards below n, and n is undecided or the end.
 use Prim.Native.Nat.{_+_, _-_, _<_, _≤_}
 use native.Mathlib.Omega.{arith}
 use denote.Ref.{now}
 use mathlib.Core.Bool.{true}
 use mathlib.Core.Path.{_∙_, _≡_, subst, sym}
-use Rattle.book.specs.Tables.{ComparedTo, Lower, wanted}
+use Rattle.book.specs.Tables.{ComparedTo, Lower, undecided}
 use Rattle.book.proofs.Comparisons.{pair-compared, row-ended, row-skipped}
 use Rattle.book.proofs.compare.compare_rest.Statement.{statement}
 use Rattle.book.proofs.compare.compare_rest.Tie as tie
 
 abbrev Inv-loop : tie.InvT-loop
-Inv-loop book places count limits kept spans covering m a links from hidden work₀ word₀ n₀ work word n =
-    (n ≤ m) × ((n < m → wanted covering word m n ≡ true) × (ComparedTo limits book covering m n word × Lower limits book m a links work))
+Inv-loop book places count limits kept spans covering m a links from passed work₀ word₀ n₀ work word n =
+    (n ≤ m) × ((n < m → undecided covering word m n ≡ true) × (ComparedTo limits book covering m n word × Lower limits book m a links work))
 
 abbrev μ-loop : tie.MeasureT-loop
-μ-loop book places count limits kept spans covering m a links from hidden work₀ word₀ n₀ work word n =
+μ-loop book places count limits kept spans covering m a links from passed work₀ word₀ n₀ work word n =
     m - n
 
 loop-holds : tie.Need-loop-holds Inv-loop μ-loop
@@ -25,21 +25,21 @@ loop-holds c =
 compare-with-requires : tie.Need-compare-with-requires Inv-loop μ-loop
 compare-with-requires c κs = (c .before .before .before .before .before .before .pre .0, (c .before .before .before .before .before .before .pre .1 .0, ((c .before .before .before .before .before .before .pre .1 .1 .0 .0, omega (arith, c .before .loop-test .taken, c .before .before .before .before .before .before .pre .1 .1 .0 .0)), c .before .before .loop .inv .1 .1 .1)))
 
-add-next-wanted : tie.Need-add-next-wanted Inv-loop μ-loop
-add-next-wanted c = omega (arith, c .before .before .before .before .loop-test .taken, c .before .before .before .before .before .before .before .before .before .pre .1 .1 .0 .0, c .before .before .before .before .before .before .before .before .before .pre .1 .0 .taken .cards-read .places-are .most)
+add-next-undecided : tie.Need-add-next-undecided Inv-loop μ-loop
+add-next-undecided c = omega (arith, c .before .before .before .before .loop-test .taken, c .before .before .before .before .before .before .before .before .before .pre .1 .1 .0 .0, c .before .before .before .before .before .before .before .before .before .pre .1 .0 .taken .cards-read .places-are .most)
 
-next-wanted-requires : tie.Need-next-wanted-requires Inv-loop μ-loop
-next-wanted-requires c κs = (omega (arith, c .before .before .before .before .before .before .before .before .before .pre .1 .1 .0 .0, c .before .before .before .before .before .before .before .before .before .pre .1 .0 .taken .cards-read .places-are .most), (omega (arith, c .before .before .before .before .loop-test .taken), omega (arith, c .before .before .before .before .before .before .before .before .before .pre .1 .1 .0 .0, c .before .before .before .before .before .before .before .before .before .pre .1 .0 .taken .cards-read .places-are .most)))
+next-undecided-requires : tie.Need-next-undecided-requires Inv-loop μ-loop
+next-undecided-requires c κs = (omega (arith, c .before .before .before .before .before .before .before .before .before .pre .1 .1 .0 .0, c .before .before .before .before .before .before .before .before .before .pre .1 .0 .taken .cards-read .places-are .most), (omega (arith, c .before .before .before .before .loop-test .taken), omega (arith, c .before .before .before .before .before .before .before .before .before .pre .1 .1 .0 .0, c .before .before .before .before .before .before .before .before .before .pre .1 .0 .taken .cards-read .places-are .most)))
 
 loop-less : tie.Need-loop-less Inv-loop μ-loop
-loop-less c = omega (arith, c .next-wanted .ensures .0 .0, c .before .before .before .before .before .loop-test .taken)
+loop-less c = omega (arith, c .next-undecided .ensures .0 .0, c .before .before .before .before .before .loop-test .taken)
 
 loop-again : tie.Need-loop-again Inv-loop μ-loop
 loop-again c =
-    let found = c .next-wanted .ensures in
+    let found = c .next-undecided .ensures in
     let pair =
     pair-compared (c .before .before .before .before .before .before .before .before .before .before .args .limits) (now (c .before .before .before .before .before .before .before .before .before .before .args .book)) (c .before .before .before .before .before .before .before .before .before .before .args .covering) (c .before .before .before .before .before .before .before .before .before .before .args .m) (c .before .before .before .before .before .before .loop .word) (c .before .before .before .before .before .before .loop .n) (c .before .before .before .compare-with .result) (c .before .before .before .before .before .before .loop .inv .1 .1 .0) (c .before .before .before .before .before .loop-test .taken) (omega (arith, c .before .before .before .before .before .before .before .before .before .before .pre .1 .1 .0 .0, c .before .before .before .before .before .before .before .before .before .before .pre .1 .0 .taken .cards-read .counted)) (c .before .before .before .before .before .before .before .before .before .before .pre .1 .1 .1 .0 .0) (c .before .before .before .before .before .before .loop .inv .1 .0 (c .before .before .before .before .before .loop-test .taken)) (c .before .before .before .compare-with .ensures .0) in
-    (found .0 .1, (found .1 .1, (row-skipped (c .before .before .before .before .before .before .before .before .before .before .args .limits) (now (c .before .before .before .before .before .before .before .before .before .before .args .book)) (c .before .before .before .before .before .before .before .before .before .before .args .covering) (c .before .before .before .before .before .before .before .before .before .before .args .m) (c .before .before .before .compare-with .result) (c .before .before .before .before .before .before .loop .n + 1) (c .next-wanted .result) (found .1 .0) pair, c .before .before .before .compare-with .ensures .1)))
+    (found .0 .1, (found .1 .1, (row-skipped (c .before .before .before .before .before .before .before .before .before .before .args .limits) (now (c .before .before .before .before .before .before .before .before .before .before .args .book)) (c .before .before .before .before .before .before .before .before .before .before .args .covering) (c .before .before .before .before .before .before .before .before .before .before .args .m) (c .before .before .before .compare-with .result) (c .before .before .before .before .before .before .loop .n + 1) (c .next-undecided .result) (found .1 .0) pair, c .before .before .before .compare-with .ensures .1)))
 
 same-length : tie.Need-same-length Inv-loop μ-loop
 same-length c = c .before .loop .inv .1 .1 .1 .long ∙ sym (c .before .before .before .before .before .pre .1 .1 .1 .1 .1 .long)
@@ -59,8 +59,8 @@ compare-rest-spec =
     μ-loop
     loop-holds
     compare-with-requires
-    add-next-wanted
-    next-wanted-requires
+    add-next-undecided
+    next-undecided-requires
     loop-less
     loop-again
     same-length

@@ -1,7 +1,7 @@
 -- Card n's table comes into the upper half; the lower one stays.
 use native.Mathlib.Omega.{arith}
 use denote.Ref.{now}
-use Rattle.book.proofs.Comparisons.{upper-compared, upper-in, upper-kept, upper-long}
+use Rattle.book.proofs.HalfTables.{upper-compared, upper-in, upper-kept, upper-long}
 use borrow.Author.Needs.{needs}
 use Rattle.book.proofs.compare.compare_with.Statement.{statement}
 use Rattle.book.proofs.compare.compare_with.Tie as tie
@@ -28,7 +28,7 @@ same-length : tie.Need-same-length
 same-length c = search needs
 
 returns : tie.Need-returns
-returns c = (upper-compared (c .before .before .before .before .before .before .before .before .before .before .args .limits) (now (c .before .before .before .before .before .before .before .before .before .before .args .book)) (now (c .before .before .before .before .before .before .before .before .before .before .args .places)) (c .before .before .before .before .before .before .before .before .before .before .args .count) (c .before .before .before .before .before .before .before .before .before .before .pre .1 .0 .taken) (c .before .before .before .before .before .before .before .before .before .before .pre .0) (c .before .before .before .before .before .before .half-size .result) (c .before .before .before .before .before .before .half-size .ensures) (c .before .before .before .before .before .before .before .before .before .before .args .m) (c .before .before .before .before .before .before .before .before .before .before .args .a) (c .before .before .before .before .before .before .before .before .before .before .pre .1 .1 .0 .0) (now (c .before .before .before .before .before .before .before .before .before .before .args .links)) (now (c .before .before .before .before .before .before .before .before .before .before .args .work)) (c .before .before .before .before .before .before .before .before .before .before .pre .1 .1 .1) (c .before .before .before .before .before .before .before .before .before .before .args .n) (c .before .before .before .before .before .before .before .before .before .before .pre .1 .1 .0 .1) (c .before .before .before .before .fetch .result) (c .before .before .before .before .fetch .last .1 .1 .1 .1 .1 .1 .1 .0) (c .before .before .before .before .fetch .ensures) (c .before .before .before .before .before .before .before .before .before .before .args .hidden) (c .compare-halves .result) (c .compare-halves .ensures), upper-kept (c .before .before .before .before .before .before .before .before .before .before .args .limits) (now (c .before .before .before .before .before .before .before .before .before .before .args .book)) (now (c .before .before .before .before .before .before .before .before .before .before .args .places)) (c .before .before .before .before .before .before .before .before .before .before .args .count) (c .before .before .before .before .before .before .before .before .before .before .pre .1 .0 .taken) (c .before .before .before .before .before .before .before .before .before .before .pre .0) (c .before .before .before .before .before .before .half-size .result) (c .before .before .before .before .before .before .half-size .ensures) (c .before .before .before .before .before .before .before .before .before .before .args .m) (c .before .before .before .before .before .before .before .before .before .before .args .a) (c .before .before .before .before .before .before .before .before .before .before .pre .1 .1 .0 .0) (now (c .before .before .before .before .before .before .before .before .before .before .args .links)) (now (c .before .before .before .before .before .before .before .before .before .before .args .work)) (c .before .before .before .before .before .before .before .before .before .before .pre .1 .1 .1) (c .before .before .before .before .before .before .before .before .before .before .args .n) (c .before .before .before .before .before .before .before .before .before .before .pre .1 .1 .0 .1) (c .before .before .before .before .fetch .result) (c .before .before .before .before .fetch .last .1 .1 .1 .1 .1 .1 .1 .0) (c .before .before .before .before .fetch .ensures))
+returns c = (upper-compared (c .before .before .before .before .before .before .before .before .before .before .args .limits) (now (c .before .before .before .before .before .before .before .before .before .before .args .book)) (now (c .before .before .before .before .before .before .before .before .before .before .args .places)) (c .before .before .before .before .before .before .before .before .before .before .args .count) (c .before .before .before .before .before .before .before .before .before .before .pre .1 .0 .taken) (c .before .before .before .before .before .before .before .before .before .before .pre .0) (c .before .before .before .before .before .before .half-size .result) (c .before .before .before .before .before .before .half-size .ensures) (c .before .before .before .before .before .before .before .before .before .before .args .m) (c .before .before .before .before .before .before .before .before .before .before .args .a) (c .before .before .before .before .before .before .before .before .before .before .pre .1 .1 .0 .0) (now (c .before .before .before .before .before .before .before .before .before .before .args .links)) (now (c .before .before .before .before .before .before .before .before .before .before .args .work)) (c .before .before .before .before .before .before .before .before .before .before .pre .1 .1 .1) (c .before .before .before .before .before .before .before .before .before .before .args .n) (c .before .before .before .before .before .before .before .before .before .before .pre .1 .1 .0 .1) (c .before .before .before .before .fetch .result) (c .before .before .before .before .fetch .last .1 .1 .1 .1 .1 .1 .1 .0) (c .before .before .before .before .fetch .ensures) (c .before .before .before .before .before .before .before .before .before .before .args .passed) (c .compare-halves .result) (c .compare-halves .ensures), upper-kept (c .before .before .before .before .before .before .before .before .before .before .args .limits) (now (c .before .before .before .before .before .before .before .before .before .before .args .book)) (now (c .before .before .before .before .before .before .before .before .before .before .args .places)) (c .before .before .before .before .before .before .before .before .before .before .args .count) (c .before .before .before .before .before .before .before .before .before .before .pre .1 .0 .taken) (c .before .before .before .before .before .before .before .before .before .before .pre .0) (c .before .before .before .before .before .before .half-size .result) (c .before .before .before .before .before .before .half-size .ensures) (c .before .before .before .before .before .before .before .before .before .before .args .m) (c .before .before .before .before .before .before .before .before .before .before .args .a) (c .before .before .before .before .before .before .before .before .before .before .pre .1 .1 .0 .0) (now (c .before .before .before .before .before .before .before .before .before .before .args .links)) (now (c .before .before .before .before .before .before .before .before .before .before .args .work)) (c .before .before .before .before .before .before .before .before .before .before .pre .1 .1 .1) (c .before .before .before .before .before .before .before .before .before .before .args .n) (c .before .before .before .before .before .before .before .before .before .before .pre .1 .1 .0 .1) (c .before .before .before .before .fetch .result) (c .before .before .before .before .fetch .last .1 .1 .1 .1 .1 .1 .1 .0) (c .before .before .before .before .fetch .ensures))
 
 pub compare-with-spec : {M : Type 1} → statement M
 compare-with-spec =

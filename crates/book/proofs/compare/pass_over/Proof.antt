@@ -11,7 +11,7 @@ has-card-requires : tie.Need-has-card-requires
 has-card-requires c κs = search needs
 
 returns : tie.Need-returns
-returns c = with-there (c .before .before .before .before .args .hidden) (c .before .before .before .before .args .k) (rowMaps (now (c .before .before .before .before .args .first)) (now (c .before .before .before .before .args .second)) (c .before .before .before .before .args .depth) 0 0) (sym (c .before .has-card .ensures) ∙ c .if1 .taken)
+returns c = with-there (c .before .before .before .before .args .passed) (c .before .before .before .before .args .k) (rowMaps (now (c .before .before .before .before .args .first)) (now (c .before .before .before .before .args .second)) (c .before .before .before .before .args .depth) 0 0) (sym (c .before .has-card .ensures) ∙ c .if1 .taken)
 
 table-covers-requires : tie.Need-table-covers-requires
 table-covers-requires c κs = search needs
@@ -20,10 +20,10 @@ with-card-requires : tie.Need-with-card-requires
 with-card-requires c κs = search needs
 
 returns-2 : tie.Need-returns-2
-returns-2 c = with-more (c .before .before .before .before .before .before .before .args .hidden) (c .before .before .before .before .before .before .before .args .k) (rowMaps (now (c .before .before .before .before .before .before .before .args .first)) (now (c .before .before .before .before .before .before .before .args .second)) (c .before .before .before .before .before .before .before .args .depth) 0 0) (c .with-card .result) (sym (c .before .before .table-covers .ensures) ∙ c .before .if2 .taken) (c .with-card .ensures)
+returns-2 c = with-more (c .before .before .before .before .before .before .before .args .passed) (c .before .before .before .before .before .before .before .args .k) (rowMaps (now (c .before .before .before .before .before .before .before .args .first)) (now (c .before .before .before .before .before .before .before .args .second)) (c .before .before .before .before .before .before .before .args .depth) 0 0) (c .with-card .result) (sym (c .before .before .table-covers .ensures) ∙ c .before .if2 .taken) (c .with-card .ensures)
 
 returns-3 : tie.Need-returns-3
-returns-3 c = with-none (c .before .before .before .before .before .before .args .hidden) (c .before .before .before .before .before .before .args .k) (rowMaps (now (c .before .before .before .before .before .before .args .first)) (now (c .before .before .before .before .before .before .args .second)) (c .before .before .before .before .before .before .args .depth) 0 0) (sym (c .before .table-covers .ensures) ∙ c .if2 .left)
+returns-3 c = with-none (c .before .before .before .before .before .before .args .passed) (c .before .before .before .before .before .before .args .k) (rowMaps (now (c .before .before .before .before .before .before .args .first)) (now (c .before .before .before .before .before .before .args .second)) (c .before .before .before .before .before .before .args .depth) 0 0) (sym (c .before .table-covers .ensures) ∙ c .if2 .left)
 
 pub pass-over-spec : {M : Type 1} → statement M
 pass-over-spec =

@@ -1,7 +1,6 @@
 -- Each field that is a card is counted, and the place after it kept; the first other one, or the most there may be, ends the count.
 use Prim.Native.Nat.{_-_}
 use native.Mathlib.Omega.{arith}
-use borrow.Author.Needs.{needs}
 use borrow.Author.Tests.{not-false, not-true}
 use denote.Ref.{now}
 use mathlib.Core.Path.{_∙_, sym}

@@ -2,7 +2,7 @@
 use Prim.Native.Nat.{_+_, _-_}
 use native.Mathlib.Omega.{arith}
 use denote.Ref.{now}
-use lib.ListN.{drop, getD, length, take}
+use lib.ListN.{drop, getD}
 use lib.Seq.{length-take-le}
 use lib.ListN.{length-drop}
 use Rattle.book.specs.Form.{card, mostCards}

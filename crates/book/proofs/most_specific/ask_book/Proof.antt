@@ -1,6 +1,5 @@
 -- The questions in their order.
 use denote.Ref.{now}
-use native.Mathlib.Omega.{arith}
 use borrow.Author.Tests.{not-false, not-true}
 use mathlib.Core.Path.{_∙_, refl, sym}
 use Rattle.book.specs.Selection.{mostSpecificCards}

@@ -2,7 +2,7 @@
 use native.Mathlib.Omega.{arith}
 use denote.Ref.{now}
 use lib.ListN.{take}
-use mathlib.Core.Path.{_∙_, refl, sym}
+use mathlib.Core.Path.{refl}
 use borrow.Author.Tests.{not-false, not-true}
 use Rattle.table.specs.Layout.{endSize, «place»}
 use Rattle.book.specs.Form.{card}

@@ -1,29 +1,29 @@
--- At the loop's head no card from `from` on before n is wanted.
+-- At the loop's head no card from `from` on before n is undecided.
 use Prim.Native.Nat.{ℕ, _≤_, _<_, _-_}
 use mathlib.Core.Bool.{false}
 use mathlib.Core.Path.{_∙_, _≡_, ap, sym}
 use native.Mathlib.Decide.{ℕ-discrete}
 use native.Mathlib.Omega.{arith}
-use Rattle.book.specs.Tables.{wanted}
-use Rattle.book.proofs.compare.next_wanted.Statement.{statement}
-use Rattle.book.proofs.compare.next_wanted.Tie as tie
+use Rattle.book.specs.Tables.{undecided}
+use Rattle.book.proofs.compare.next_undecided.Statement.{statement}
+use Rattle.book.proofs.compare.next_undecided.Tie as tie
 
 abbrev Inv-loop : tie.InvT-loop
-Inv-loop covering hidden m from end n₀ n = ((from ≤ n) × (n ≤ end)) × ((k : ℕ) → from ≤ k → k < n → wanted covering hidden m k ≡ false)
+Inv-loop covering passed m from end n₀ n = ((from ≤ n) × (n ≤ end)) × ((k : ℕ) → from ≤ k → k < n → undecided covering passed m k ≡ false)
 
 abbrev μ-loop : tie.MeasureT-loop
-μ-loop covering hidden m from end n₀ n = end - n
+μ-loop covering passed m from end n₀ n = end - n
 
 loop-holds : tie.Need-loop-holds Inv-loop μ-loop
 loop-holds c = ((omega arith, c .pre .1 .0), λ k a b. absurd (omega arith))
 
-is-wanted-requires : tie.Need-is-wanted-requires Inv-loop μ-loop
-is-wanted-requires c κs = (c .before .before .pre .0, omega (arith, c .loop-test .taken, c .before .before .pre .1 .1))
+is-undecided-requires : tie.Need-is-undecided-requires Inv-loop μ-loop
+is-undecided-requires c κs = (c .before .before .pre .0, omega (arith, c .loop-test .taken, c .before .before .pre .1 .1))
 
 returns : tie.Need-returns Inv-loop μ-loop
 returns c =
     let l = c .before .before .before .loop in
-    (l .inv .0, (l .inv .1, λ _. sym (c .before .is-wanted .ensures) ∙ c .if1 .taken))
+    (l .inv .0, (l .inv .1, λ _. sym (c .before .is-undecided .ensures) ∙ c .if1 .taken))
 
 add-n : tie.Need-add-n Inv-loop μ-loop
 add-n c = omega (arith, c .before .before .loop-test .taken, c .before .before .before .before .pre .1 .1)
@@ -35,10 +35,10 @@ loop-again : tie.Need-loop-again Inv-loop μ-loop
 loop-again c =
     let a = c .before .before .before .before .args in
     let l = c .before .before .before .loop in
-    let none = sym (c .before .is-wanted .ensures) ∙ c .if1 .left in (
+    let none = sym (c .before .is-undecided .ensures) ∙ c .if1 .left in (
       (omega (arith, l .inv .0 .0), omega (arith, c .before .before .loop-test .taken)),
       λ k b e. elim (ℕ-discrete k (l .n)) [
-        | yes s ↦ ap (wanted (a .covering) (a .hidden) (a .m)) s ∙ none
+        | yes s ↦ ap (undecided (a .covering) (a .passed) (a .m)) s ∙ none
         | no u ↦ l .inv .1 k b (omega (arith, u))
       ],
     )
@@ -48,14 +48,14 @@ returns-2 c =
     let l = c .before .loop in
     (l .inv .0, (l .inv .1, λ b. absurd (omega (arith, b, c .loop-test .left))))
 
-pub next-wanted-spec : {M : Type 1} → statement M
-next-wanted-spec =
+pub next-undecided-spec : {M : Type 1} → statement M
+next-undecided-spec =
     tie.close
     (tie.spec
     Inv-loop
     μ-loop
     loop-holds
-    is-wanted-requires
+    is-undecided-requires
     returns
     add-n
     loop-less
