@@ -5,7 +5,8 @@
 
 #include "zuvaropy.h"
 
-/* One byte more than the longest picture, evidence or book of pictures, so that a longer file is seen to be longer. */
+/* One byte more than the longest picture, evidence or book of pictures, so that a longer file is seen to be longer. A
+ * longer book is refused as cut off (24), where the whole of it could be refused for one of its cards. */
 #define INPUT_PICTURE_ROOM (ZUVAROPY_MAX_PICTURE_BYTES + 1)
 #define INPUT_EVIDENCE_ROOM (ZUVAROPY_MAX_EVIDENCE_BYTES + 1)
 #define INPUT_BOOK_ROOM (ZUVAROPY_MAX_BOOK_BYTES + 1)

@@ -6,8 +6,9 @@
  * tree is a row of the picture.
  *
  * Every call takes numbers and byte buffers and returns one 64-bit answer
- * word. The library allocates nothing, keeps no state and calls nothing, so
- * every call may be made from any thread at any time.
+ * word. The library allocates nothing, keeps no state and calls nothing but
+ * memcpy, memset and their like, so every call may be made from any thread at
+ * any time.
  *
  * A buffer is a pointer and a length in bytes. The pointer may be NULL where
  * the length is 0. A buffer lent for writing overlaps no other buffer of its
@@ -551,9 +552,10 @@ uint64_t zuvaropy_verify(const uint8_t *first, size_t first_len, const uint8_t *
  * space may hold anything beforehand. It must not overlap any other buffer; the
  * others may overlap.
  *
- * The call takes at most ZUVAROPY_MOST_SPECIFIC_STACK_BYTES of stack. Its time
- * grows at most as the square of the number of cards that subsume the case: each
- * of them is compared with each other at most once, as zuvaropy_subsumes would.
+ * The call takes at most ZUVAROPY_MOST_SPECIFIC_STACK_BYTES of stack. The normal
+ * table of each card is made once and compared with that of the case. Then each
+ * two cards that subsume the case are compared at most once, both ways; tables
+ * that do not fit into that stack are made again for it.
  */
 uint64_t zuvaropy_most_specific(const uint8_t *case_picture, size_t case_picture_len, const uint8_t *book,
                                 size_t book_len, uint8_t *work, size_t work_len);
