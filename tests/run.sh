@@ -22,13 +22,12 @@ absolute() {
 archive=$(absolute "$1")
 verdict=$(absolute "$2")
 cd "$(dirname "$0")/.." || exit 2
+. tests/count.sh
 
 warnings='-Wall -Wextra -Wpedantic -Werror'
 c="${CC:-gcc} -std=c99 -O2 -g $warnings -Iinclude"
 cxx="${CXX:-g++}"
 out=build/tests
-passed=0
-failed=0
 rm -rf "$out"
 mkdir -p "$out"
 
@@ -37,18 +36,11 @@ one() {
     name=$1
     shift
     if "$@"; then
-        passed=$((passed + 1))
+        pass
         echo "$name: 1 passed, 0 failed"
     else
-        failed=$((failed + 1))
-        echo "$name: 0 passed, 1 failed"
+        fail "$name" "0 passed, 1 failed"
     fi
-}
-
-# fail NAME WHAT: a failure that no summary counts.
-fail() {
-    failed=$((failed + 1))
-    echo "$1: $2"
 }
 
 # program NAME COMPILER..: builds a test program and counts it.
@@ -189,5 +181,4 @@ one 'verdict, samples' verdict_samples
 one 'verdict, data' data
 
 echo "$failed" >"$out/failed"
-echo "C tests: $passed passed, $failed failed"
-[ "$failed" -eq 0 ]
+summary 'C tests'

@@ -12,9 +12,8 @@ case ${1-} in
 *) program=$PWD/$1 ;;
 esac
 cd "$(dirname "$0")/../samples" || exit 2
+. ../tests/count.sh
 
-passed=0
-failed=0
 room=$(mktemp -d) || exit 2
 trap 'rm -rf "$room"' EXIT
 mkdir "$room/files"
@@ -34,10 +33,9 @@ run() {
 expect() {
     printf '%s\n' "$3" >"$room/expected"
     if run "$1" "$2" && cmp -s "$room/printed" "$room/expected"; then
-        passed=$((passed + 1))
+        pass
     else
-        failed=$((failed + 1))
-        echo "tests/verdict.sh: $1 $2: printed '$(cat "$room/printed")', not '$3'"
+        fail tests/verdict.sh "$1 $2: printed '$(cat "$room/printed")', not '$3'"
     fi
 }
 
@@ -143,5 +141,4 @@ long 5 257 0
 long 5 257 1
 long 5 300 0
 
-echo "verdict program: $passed passed, $failed failed"
-[ "$failed" -eq 0 ]
+summary 'verdict program'
