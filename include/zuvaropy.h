@@ -14,7 +14,7 @@
  * the length is 0. A buffer lent for writing overlaps no other buffer of its
  * call.
  *
- * Contents: sizes, codes, the answer word, calls.
+ * Contents: version, sizes, codes, the answer word, calls.
  */
 
 #ifndef ZUVAROPY_H
@@ -26,6 +26,17 @@
 #ifdef __cplusplus
 extern "C" {
 #endif
+
+/*
+ * Version
+ *
+ * The major number changes whenever a program that was compiled with an earlier
+ * header has to be compiled again, the minor one when something is added.
+ */
+
+#define ZUVAROPY_VERSION_MAJOR  1
+#define ZUVAROPY_VERSION_MINOR  0
+#define ZUVAROPY_VERSION_PATCH  0
 
 /*
  * Sizes

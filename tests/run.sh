@@ -90,7 +90,19 @@ if command -v rustc >/dev/null; then
 else
     echo "random pairs against the Rust implementation: not tested, no rustc"
 fi
+
+# alone COMPILER..: a unit of the header alone, and one that makes every call.
+alone() {
+    echo '#include "zuvaropy.h"' | "$@" $warnings -Wconversion -Iinclude -c - -o "$out/alone" &&
+        "$@" $warnings -Wconversion -Iinclude -c tests/second_unit.c -o "$out/alone"
+}
+for standard in c99 c11; do
+    one "header alone, $standard" alone ${CC:-gcc} -x c -std=$standard
+done
 if command -v "$cxx" >/dev/null; then
+    for standard in c++11 c++17; do
+        one "header alone, $standard" alone "$cxx" -x c++ -std=$standard
+    done
     program test_header_cxx "$cxx" -x c++ -std=c++11 $warnings -Iinclude tests/test_header.c tests/check.c \
         tests/second_unit.c -x none
 else
