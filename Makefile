@@ -33,13 +33,14 @@ gate: tools
 	@mkdir -p build
 	@CC='$(CC)' sh tests/gate.sh; echo $$? >build/gate.status
 
-EXAMPLES = validate normalize subsumes verify lcs most_specific
+EXAMPLES = validate normalize subsumes verify lcs most_specific explain
+EXAMPLE_PARTS = examples/input.c examples/rows.c examples/evidence.c
 
 demo: library program
 	@mkdir -p build/examples
 	@for example in $(EXAMPLES); do \
-	    $(CC) $(CFLAGS) -Iinclude examples/$$example.c examples/input.c examples/rows.c $(LIBRARY) \
-	        -o build/examples/$$example || exit; \
+	    $(CC) $(CFLAGS) -Iinclude examples/$$example.c $(EXAMPLE_PARTS) $(LIBRARY) -o build/examples/$$example || \
+	        exit; \
 	done
 	@build/examples/validate samples/*.pic
 	@build/examples/normalize samples/*.pic
@@ -47,6 +48,7 @@ demo: library program
 	@sh samples/verify.sh build/examples/verify
 	@sh samples/lcs.sh build/examples/lcs
 	@sh samples/most_specific.sh build/examples/most_specific
+	@sh samples/explain.sh build/examples/explain
 	@sh samples/verdict.sh $(PROGRAM)
 
 bench: library

@@ -48,6 +48,11 @@ int input_read(const char *name, uint8_t *bytes, size_t room, size_t *length)
     return 0;
 }
 
+unsigned int input_number(const uint8_t *bytes)
+{
+    return bytes[0] * 256u + bytes[1];
+}
+
 void input_print_refusal(const char *name, uint64_t word)
 {
     const unsigned int question = zuvaropy_question(word);

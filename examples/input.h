@@ -1,4 +1,4 @@
-/* What the examples share: reading a file, and saying why an input was refused. */
+/* What the examples share: reading a file and a number in it, and saying why an input was refused. */
 
 #ifndef INPUT_H
 #define INPUT_H
@@ -13,6 +13,9 @@
 
 /* The first `room` bytes of a file; 0, or -1 with a message if it cannot be read. */
 int input_read(const char *name, uint8_t *bytes, size_t room, size_t *length);
+
+/* A number of two bytes, the high byte first. */
+unsigned int input_number(const uint8_t *bytes);
 
 /* A line that says which question about a file was answered no. */
 void input_print_refusal(const char *name, uint64_t word);

@@ -1,5 +1,7 @@
 #include "rows.h"
 
+#include "input.h"
+
 #include <stdio.h>
 
 /* The numbers of the names of a set, if there are any. */
@@ -14,7 +16,7 @@ static void print_names(const char *what, const uint8_t *set)
 
 static void print_edge(const uint8_t *value)
 {
-    const unsigned int parent = value[ZUVAROPY_PARENT_AT] * 256u + value[ZUVAROPY_PARENT_AT + 1];
+    const unsigned int parent = input_number(value + ZUVAROPY_PARENT_AT);
     const unsigned int kind = value[ZUVAROPY_KIND_AT];
 
     if (kind == ZUVAROPY_KIND_ROOT)
@@ -23,9 +25,11 @@ static void print_edge(const uint8_t *value)
         printf("%s %u below row %u", kind == ZUVAROPY_KIND_FORALL ? "all" : "some", value[ZUVAROPY_ROLE_AT], parent);
 }
 
-static void print_row(unsigned int row, const uint8_t *value)
+void rows_print_one(const uint8_t *picture, unsigned int row)
 {
-    printf("  row %u: ", row);
+    const uint8_t *value = picture + (size_t)row * ZUVAROPY_ROW_BYTES + ZUVAROPY_HEAD_BYTES;
+
+    printf("row %u: ", row);
     print_edge(value);
     print_names("; wanted", value + ZUVAROPY_WANTED_AT);
     print_names("; excluded", value + ZUVAROPY_EXCLUDED_AT);
@@ -36,6 +40,8 @@ void rows_print(const uint8_t *picture, unsigned int rows)
 {
     unsigned int row;
 
-    for (row = 0; row < rows; row++)
-        print_row(row, picture + (size_t)row * ZUVAROPY_ROW_BYTES + ZUVAROPY_HEAD_BYTES);
+    for (row = 0; row < rows; row++) {
+        printf("  ");
+        rows_print_one(picture, row);
+    }
 }

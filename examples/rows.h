@@ -8,4 +8,7 @@
 /* A line for each of so many rows of a picture that was not refused. */
 void rows_print(const uint8_t *picture, unsigned int rows);
 
+/* The line of one of them, not indented. */
+void rows_print_one(const uint8_t *picture, unsigned int row);
+
 #endif

@@ -10,42 +10,31 @@
  * written.
  */
 
+#include "evidence.h"
 #include "input.h"
 
 #include <stdio.h>
 
 static uint8_t evidence[ZUVAROPY_MAX_EVIDENCE_BYTES];
 
-static void print_count(const char *what, size_t count, const char *of)
+static void print_images(unsigned int rows)
 {
-    printf("%s of %lu %s%s\n", what, (unsigned long)count, of, count == 1 ? "" : "s");
-}
+    unsigned int row;
 
-static void print_map(size_t length)
-{
-    const size_t rows = (length - ZUVAROPY_MAP_BYTES(0)) / ZUVAROPY_IMAGE_BYTES;
-    size_t row;
-
-    print_count("yes, a map", rows, "row");
-    for (row = 0; row < rows; row++) {
-        const uint8_t *image = evidence + ZUVAROPY_HEAD_BYTES + row * ZUVAROPY_IMAGE_BYTES;
-
-        printf("  row %lu goes to row %u\n", (unsigned long)row, image[0] * 256u + image[1]);
-    }
+    for (row = 0; row < rows; row++)
+        printf("  row %u goes to row %u\n", row, evidence_image(evidence, row));
 }
 
 static void print_word(uint64_t word)
 {
-    switch (zuvaropy_outcome(word)) {
-    case ZUVAROPY_OUTCOME_YES:
-        print_map(zuvaropy_value(word));
-        break;
-    case ZUVAROPY_OUTCOME_NO:
-        print_count("no, a refutation", zuvaropy_value(word) / ZUVAROPY_INDIVIDUAL_BYTES, "individual");
-        break;
-    default:
+    if (zuvaropy_outcome(word) == ZUVAROPY_OUTCOME_REFUSAL) {
         input_print_refused(word);
+        return;
     }
+    printf(zuvaropy_outcome(word) == ZUVAROPY_OUTCOME_YES ? "yes, " : "no, ");
+    evidence_print_kind(word);
+    printf("\n");
+    print_images(evidence_images(word));
 }
 
 /* 0, or -1 with a message if the file cannot be written. */

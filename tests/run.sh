@@ -124,7 +124,7 @@ samples() {
 example() {
     example=$1
     shift
-    $c "examples/$example.c" examples/input.c examples/rows.c "$archive" -o "$out/$example" &&
+    $c "examples/$example.c" examples/input.c examples/rows.c examples/evidence.c "$archive" -o "$out/$example" &&
         "$@" >"$out/$example.log" && diff "samples/$example.stdout" "$out/$example.log"
 }
 
@@ -157,7 +157,7 @@ readme() {
 demo() {
     awk '/^`make demo` ends with$/ { at = 1; next } at && /^```$/ { if (at++ == 2) exit; next } at == 2' README.md \
         >"$out/demo.log" &&
-        for example in validate normalize subsumes verify lcs most_specific verdict; do
+        for example in validate normalize subsumes verify lcs most_specific explain verdict; do
             cat "samples/$example.stdout"
         done | diff - "$out/demo.log"
 }
@@ -174,6 +174,7 @@ one 'example verify' example verify sh samples/verify.sh "$out/verify"
 one 'example subsumes' example subsumes sh samples/subsumes.sh "$out/subsumes" "$out/verify"
 one 'example lcs' example lcs sh samples/lcs.sh "$out/lcs"
 one 'example most_specific' example most_specific sh samples/most_specific.sh "$out/most_specific"
+one 'example explain' example explain sh samples/explain.sh "$out/explain"
 one 'readme, validate' readme 1 'a picture of 2 rows'
 one 'readme, yes' readme 2 'yes, with a map of 12 bytes
   row 0 goes to row 0
