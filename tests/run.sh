@@ -167,6 +167,7 @@ if command -v nm >/dev/null; then
 else
     echo "symbols: not tested, no nm"
 fi
+count manual sh tests/manual.sh "$archive"
 one samples samples
 one 'example validate' example validate "$out/validate" samples/*.pic
 one 'example normalize' example normalize "$out/normalize" samples/*.pic
