@@ -1,19 +1,33 @@
-# make        prove the library and the verdict program, and write target/staticlib/libzuvaropy.a and
-#             target/bin/verdict
-# make test   prove everything, then run the C tests, the comparison with the Rust implementation and the
-#             tests of the verdict program; the last line is 'N passed, M failed'
-# make demo   validate the sample pictures, print their normal tables, ask which subsumes which, check the
-#             sample evidence, print common pictures, look up cards, and run the verdict program
-# make bench  time the library beside the same calls hand-written in C and in Rust
-# make clean  remove what the others made
+# make            prove the library and the verdict program, and write target/staticlib/libzuvaropy.a and
+#                 target/bin/verdict
+# make test       prove everything, then run the C tests, the comparison with the Rust implementation, the
+#                 tests of the verdict program and those of the installed library; the last line is
+#                 'N passed, M failed'
+# make demo       validate the sample pictures, print their normal tables, ask which subsumes which, check the
+#                 sample evidence, print common pictures, look up cards and explain them, and run the verdict
+#                 program
+# make bench      time the library beside the same calls hand-written in C and in Rust
+# make shared     link the built library as build/shared/libzuvaropy.so
+# make install    put the built library, its header and manual page and the verdict program below PREFIX
+# make uninstall  remove what make install put there
+# make clean      remove what the others made
 
 CC = gcc
 CFLAGS = -std=c99 -O2 -Wall -Wextra -Wpedantic -Werror
 LIBRARY = target/staticlib/libzuvaropy.a
-
 PROGRAM = target/bin/verdict
+SHARED = build/shared
 
-.PHONY: all library program test gate demo bench clean tools
+# Where make install puts things; DESTDIR comes in front of every path.
+PREFIX = /usr/local
+BINDIR = $(PREFIX)/bin
+INCLUDEDIR = $(PREFIX)/include
+LIBDIR = $(PREFIX)/lib
+PKGCONFIGDIR = $(LIBDIR)/pkgconfig
+MANDIR = $(PREFIX)/share/man
+INSTALL = install
+
+.PHONY: all library program test gate demo bench shared install uninstall clean tools
 
 all: library program
 
@@ -69,6 +83,55 @@ bench: library
 	@build/bench/verify
 	@build/bench/lcs
 	@build/bench/most_specific
+
+# What is built is taken as it is: shared and install prove nothing.
+$(LIBRARY) $(PROGRAM):
+	@echo '$@ is not there: run make first' >&2; false
+
+# The header has the version.
+version_number = $(shell sed -n 's/^.define ZUVAROPY_VERSION_$(1) *//p' include/zuvaropy.h)
+MAJOR := $(call version_number,MAJOR)
+VERSION := $(MAJOR).$(call version_number,MINOR).$(call version_number,PATCH)
+LINK_NAME = libzuvaropy.so
+SONAME = $(LINK_NAME).$(MAJOR)
+SHARED_NAME = $(LINK_NAME).$(VERSION)
+
+# link_shared FOLDER: the names by which programs and linkers find the shared library.
+link_shared = ln -sf $(SHARED_NAME) '$(1)/$(SONAME)' && ln -sf $(SONAME) '$(1)/$(LINK_NAME)'
+
+shared: $(SHARED)/$(SHARED_NAME)
+
+# Without start files, since there is nothing to start: they would bring symbols of their own.
+$(SHARED)/$(SHARED_NAME): $(LIBRARY) package/zuvaropy.map
+	@mkdir -p $(@D)
+	@$(CC) -shared -nostartfiles $(LDFLAGS) -Wl,-soname,$(SONAME) -Wl,--version-script=package/zuvaropy.map \
+	    -Wl,-z,defs,-z,relro,-z,now -Wl,--whole-archive $(LIBRARY) -Wl,--no-whole-archive -o $@
+	@$(call link_shared,$(@D))
+
+# below_prefix PATH: as the pkg-config file says it, so that the prefix can be changed there.
+below_prefix = $(patsubst $(PREFIX)/%,$${prefix}/%,$(1))
+CALLS = $(shell sh package/calls.sh)
+installed = '$(DESTDIR)$(1)'
+
+install: $(LIBRARY) $(PROGRAM) shared
+	$(INSTALL) -d $(foreach folder,$(BINDIR) $(INCLUDEDIR) $(LIBDIR) $(PKGCONFIGDIR) $(MANDIR)/man3,\
+	    $(call installed,$(folder)))
+	$(INSTALL) -m 644 include/zuvaropy.h $(call installed,$(INCLUDEDIR)/zuvaropy.h)
+	$(INSTALL) -m 644 $(LIBRARY) $(call installed,$(LIBDIR)/libzuvaropy.a)
+	$(INSTALL) -m 755 $(SHARED)/$(SHARED_NAME) $(call installed,$(LIBDIR)/$(SHARED_NAME))
+	$(call link_shared,$(DESTDIR)$(LIBDIR))
+	sed -e 's|@PREFIX@|$(PREFIX)|' -e 's|@INCLUDEDIR@|$(call below_prefix,$(INCLUDEDIR))|' \
+	    -e 's|@LIBDIR@|$(call below_prefix,$(LIBDIR))|' -e 's|@VERSION@|$(VERSION)|' package/zuvaropy.pc.in \
+	    >$(call installed,$(PKGCONFIGDIR)/zuvaropy.pc)
+	chmod 644 $(call installed,$(PKGCONFIGDIR)/zuvaropy.pc)
+	$(INSTALL) -m 644 docs/zuvaropy.3 $(call installed,$(MANDIR)/man3/zuvaropy.3)
+	for call in $(CALLS); do ln -sf zuvaropy.3 $(call installed,$(MANDIR)/man3)/$$call.3; done
+	$(INSTALL) -m 755 $(PROGRAM) $(call installed,$(BINDIR)/verdict)
+
+uninstall:
+	rm -f $(foreach file,$(INCLUDEDIR)/zuvaropy.h $(LIBDIR)/libzuvaropy.a \
+	    $(addprefix $(LIBDIR)/,$(LINK_NAME) $(SONAME) $(SHARED_NAME)) $(PKGCONFIGDIR)/zuvaropy.pc \
+	    $(patsubst %,$(MANDIR)/man3/%.3,zuvaropy $(CALLS)) $(BINDIR)/verdict,$(call installed,$(file)))
 
 clean:
 	rm -rf build target
