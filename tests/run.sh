@@ -1,6 +1,7 @@
 #!/bin/sh
 # Builds the C tests against an archive of the library and runs them; compares it with the Rust
-# implementation of tests/rust, if there is a rustc; runs the examples; and tests the verdict program.
+# implementation of tests/rust, if there is a rustc; makes a shared library of it and installs both; runs
+# the examples; and tests the verdict program.
 #
 #   sh tests/run.sh ARCHIVE PROGRAM
 #
@@ -109,10 +110,9 @@ else
     echo "header as C++: not tested, no $cxx"
 fi
 
-# The library calls nothing, but for what the compiler itself may put in.
-symbols() {
-    nm -u "$archive" >"$out/symbols.log" &&
-        ! grep -vE '^$|:$| (memset|memcpy|memmove|memcmp)$' "$out/symbols.log"
+# The shared library, as make builds it; without the flags of the make that runs the tests.
+shared() {
+    MAKEFLAGS='' make -s shared CC="${CC:-gcc}" LIBRARY="$archive" SHARED="$PWD/$out/shared"
 }
 
 # The samples are what their script makes, and each example says of them what it should. Paper 01 leaves free which
@@ -162,11 +162,18 @@ demo() {
         done | diff - "$out/demo.log"
 }
 
+one 'shared library' shared
 if command -v nm >/dev/null; then
-    one symbols symbols
+    count symbols sh tests/symbols.sh "$archive" "$out/shared/libzuvaropy.so"
 else
     echo "symbols: not tested, no nm"
 fi
+if command -v python3 >/dev/null; then
+    count shared python3 tests/shared.py "$out/shared/libzuvaropy.so"
+else
+    echo "shared library from Python: not tested, no python3"
+fi
+count install sh tests/install.sh "$archive" "$verdict" "$PWD/$out/shared"
 count manual sh tests/manual.sh "$archive"
 one samples samples
 one 'example validate' example validate "$out/validate" samples/*.pic
