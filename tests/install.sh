@@ -30,7 +30,8 @@ chmod +x "$room/tools/rt"
 
 # packaged GOAL VARIABLE..: without the flags of the make that runs the tests.
 packaged() {
-    PATH=$room/tools:$PATH MAKEFLAGS='' make -s CC="$cc" LIBRARY="$archive" PROGRAM="$program" SHARED="$shared" "$@"
+    PATH=$room/tools:$PATH MAKEFLAGS='' DESTDIR='' make -s CC="$cc" LIBRARY="$archive" PROGRAM="$program" \
+        SHARED="$shared" "$@"
 }
 
 pages() {

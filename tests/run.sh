@@ -144,13 +144,23 @@ verdict_samples() {
     sh samples/verdict.sh "$verdict" >"$out/verdict_samples.log" && diff samples/verdict.stdout "$out/verdict_samples.log"
 }
 
-# readme N PRINTED ARGUMENT..: the README's Nth program builds as it stands there, and prints this.
+# block LANGUAGE N: the README's Nth program in a language, as it stands there.
+block() {
+    awk -v fence="\`\`\`$1" -v n="$2" '$0 == fence { at++; next } /^```$/ { if (at == n) exit } at == n' README.md
+}
+
+# readme N PRINTED ARGUMENT..: the Nth program in C builds, and prints this.
 readme() {
-    awk -v n="$1" '/^```c$/ { at++; next } /^```$/ { if (at == n) exit } at == n' README.md >"$out/readme$1.c"
+    block c "$1" >"$out/readme$1.c"
     program=$out/readme$1
     expected=$2
     shift 2
     $c "$program.c" "$archive" -o "$program" && printed=$("$program" "$@") && [ "$printed" = "$expected" ]
+}
+
+readme_python() {
+    block python 1 >"$out/readme.py" &&
+        [ "$(LD_LIBRARY_PATH=$out/shared python3 "$out/readme.py")" = 'cards [2, 3, 4]' ]
 }
 
 # The README shows what make demo prints.
@@ -170,6 +180,7 @@ else
 fi
 if command -v python3 >/dev/null; then
     count shared python3 tests/shared.py "$out/shared/libzuvaropy.so"
+    one 'readme, Python' readme_python
 else
     echo "shared library from Python: not tested, no python3"
 fi
