@@ -50,8 +50,8 @@ described() {
 complete() {
     sed -n 's/^.define \(ZUVAROPY_[A-Z_]*\) .*/\1/p' include/zuvaropy.h |
         grep -E '_(QUESTION|INPUT|OUTCOME)_|_STACK_BYTES$' | grep -v '_SHIFT$' | sort >"$room/names"
-    numbers | sed 's/ .*//' | sort | comm -23 "$room/names" - >"$room/missing"
-    [ -s "$room/names" ] && silent cat "$room/missing"
+    numbers | sed 's/ .*//' | sort | comm -23 "$room/names" - >"$room/missing" && [ -s "$room/names" ] &&
+        silent cat "$room/missing"
 }
 
 # The normal table of this sample is the sample, and the other sample is refused.
