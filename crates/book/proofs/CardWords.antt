@@ -13,10 +13,9 @@ use mathlib.Core.Path.{_∙_, _≡_, ap, refl, sym}
 use native.Mathlib.Decide.{decLt, ℕ-discrete}
 use native.Mathlib.Numerals.{add-one}
 use native.Mathlib.Omega.{arith}
-use Rattle.normal.proofs.Tests.{and-none}
-use Rattle.normal.proofs.Words.{has-power}
+use Rattle.table.proofs.Tests.{and-none}
+use Rattle.table.proofs.NameSets.{has-none, has-power, has-union, set-ext}
 use Rattle.table.proofs.Bools.{by-test, or-none}
-use Rattle.table.proofs.NameSets.{has-none, has-union, set-ext}
 use Rattle.table.specs.NameSet.{has, union}
 use Rattle.table.specs.Pick.{pick}
 use Rattle.book.specs.Selection.{cardWord}

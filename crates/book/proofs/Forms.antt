@@ -23,7 +23,7 @@ use native.Mathlib.Decide.{decLt}
 use native.Mathlib.Nat.{eq-or-lt-of-le}
 use native.Mathlib.Numerals.{add-one}
 use native.Mathlib.Omega.{arith}
-use Rattle.normal.proofs.Tests.{refuted}
+use Rattle.table.proofs.Tests.{refuted}
 use Rattle.table.proofs.Bools.{both, by-test}
 use Rattle.table.proofs.Rows.{ends-parts}
 use Rattle.table.specs.Fields.{endsAt}

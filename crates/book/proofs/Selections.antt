@@ -21,7 +21,7 @@ use native.Mathlib.Nat.{lt-of-lt-of-le}
 use native.Mathlib.Omega.{arith}
 use Rattle.meaning.proofs.Coverings.{covers-exactly}
 use Rattle.meaning.specs.Covering.{Covers}
-use Rattle.normal.proofs.Tests.{refuted}
+use Rattle.table.proofs.Tests.{refuted}
 use Rattle.table.proofs.Bools.{both, by-test}
 use Rattle.table.proofs.Ranges.{at-some, some-at}
 use Rattle.table.specs.NameSet.{has}

@@ -2,5 +2,3 @@
 pub mod Form
 pub mod Selection
 pub mod Call
-pub mod Tables
-pub mod Keeping

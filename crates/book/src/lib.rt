@@ -1,9 +1,2 @@
-// Card books: their form, which cards cover a case, and the most specific of those.
+// The sixth call: the form of a book and the most specific cards. Definitions and theorems; the code is in book_form, book_tables, book_selection and most_specific.
 pub mod answer;
-pub mod compare;
-pub mod covering;
-pub mod form;
-pub mod kept;
-pub mod most_specific;
-pub mod weigh;
-pub mod word;

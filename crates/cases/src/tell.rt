@@ -1,9 +1,9 @@
 // What reading a picture, writing its normal table and writing the common picture of two answer, as a line.
 use lcs::common::Common;
-use lcs::lcs::lcs;
+use lcs_call::call::lcs;
 use libc::STDOUT_FILENO;
 use normal::normalize::Normalized;
-use normal::normalize::normalize;
+use normalize::normalize::normalize;
 use picture::answer::Answer;
 use picture::answer::Input;
 use picture::read::read;

@@ -1,20 +1,11 @@
--- 22 and 23: the tree of individuals, which is tested; and row by row, whether an individual of the refutation e fits a row of the table t. Of these
--- a reader has to believe the first two; the others say what the parts of the code decide.
---   rowTree        the tree of a row, with all that hangs from it: no more rows stand below one another than there are
---   modelTree      the individuals below individual i
---   satisfiesRow   the names that hold of individual i, against the label of row w
---   fitsRow        individual i fits row w
---   rowForest, reachedForest   what hangs from a row, and the individuals that i reaches, as successors
---   belowFits      what the successors of row w ask of the individuals that i reaches
---   reachedFits    what successor c asks of the individuals that i reaches
+-- 22 and 23: the individuals of a refutation as a tree, which is tested.
+--   rowTree     the tree of a row, with all that hangs from it: no more rows stand below one another than there are
+--   modelTree   the individuals below individual i
 use Prim.Native.Nat.{ℕ}
-use mathlib.Core.Bool.{Bool}
 use mathlib.Core.List.{List}
-use Rattle.ale.specs.ModelCheck.{fitsAllTest, fitsTest, restrictionTest, satisfiesTest}
 use Rattle.ale.specs.PictureSignature.{pictureSignature}
-use Rattle.ale.specs.Table.{Table, successorRows, successors, treeOf}
-use Rattle.ale.specs.Tree.{Forest, Tree}
-use Rattle.meaning.specs.Meaning.{pictureTable}
+use Rattle.ale.specs.Table.{Table, treeOf}
+use Rattle.ale.specs.Tree.{Tree}
 use Rattle.countermodel.specs.Individual.{individualTable}
 
 abbrev pub rowTree : Table pictureSignature → ℕ → Tree pictureSignature
@@ -22,25 +13,3 @@ rowTree p i = treeOf pictureSignature p (p .rows) i
 
 abbrev pub modelTree : List ℕ → ℕ → Tree pictureSignature
 modelTree e i = rowTree (individualTable e) i
-
-unfoldable pub satisfiesRow : List ℕ → ℕ → List ℕ → ℕ → Bool
-satisfiesRow t w e i = satisfiesTest pictureSignature ((pictureTable t) .label w) ((individualTable e) .label i .wanted)
-
-unfoldable pub fitsRow : List ℕ → ℕ → List ℕ → ℕ → Bool
-fitsRow t w e i = fitsTest pictureSignature (rowTree (pictureTable t) w) (modelTree e i)
-
--- what hangs from a row, as successors
-abbrev pub rowForest : Table pictureSignature → ℕ → Forest pictureSignature
-rowForest p i = successors pictureSignature p (λ j. rowTree p j) (successorRows pictureSignature p i)
-
--- the individuals that i reaches, as successors
-abbrev pub reachedForest : List ℕ → ℕ → Forest pictureSignature
-reachedForest e i = rowForest (individualTable e) i
-
-unfoldable pub belowFits : List ℕ → ℕ → List ℕ → ℕ → Bool
-belowFits t w e i = fitsAllTest pictureSignature (rowForest (pictureTable t) w) (reachedForest e i)
-
-unfoldable pub reachedFits : List ℕ → ℕ → List ℕ → ℕ → Bool
-reachedFits t c e i =
-    restrictionTest pictureSignature ((pictureTable t) .kind c) ((pictureTable t) .role c) (λ b. fitsTest pictureSignature (rowTree (pictureTable t) c) b)
-    (reachedForest e i)

@@ -1,7 +1,1 @@
-// A refutation: its individuals by number, question 21, whether individual 0 fits a table, and the one that is written.
-pub mod individual;
-pub mod layout;
-pub mod links;
-pub mod model;
-pub mod refute;
-pub mod writer;
+// Refutations: the file, and the finite interpretation that it is. Definitions and laws; the code is in model_check and refutation_writer.

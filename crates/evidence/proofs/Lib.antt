@@ -10,8 +10,5 @@ pub mod Soundness
 -- the call
 pub mod Verifications
 pub mod Refusals
--- the code's tests
-pub mod MapLaws
-pub mod CheckLaws
 -- worked cases, computed
 pub mod EvidenceCases

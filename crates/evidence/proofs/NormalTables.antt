@@ -2,11 +2,10 @@
 --   normal-rows, normal-some   the rows of a normal table are the nodes of its tree, at least one
 --   normal-rowTree             the tree of its row 0 is the normal tree
 --   fits-picture               22 and 23 answer alike for a picture and for its normal table
---   check-evidence             so the tables decide what the definition asks of the pictures
-use Prim.Native.Nat.{ℕ, _<_, _≤_}
+use Prim.Native.Nat.{_<_, _≤_, ℕ}
 use native.Mathlib.Omega.{arith}
 use mathlib.Core.List.{List}
-use mathlib.Core.Path.{_∙_, _≡_, ap, refl}
+use mathlib.Core.Path.{_∙_, _≡_, ap}
 use Rattle.table.specs.Bounds.{Bounded}
 use Rattle.table.specs.declared.layout.Limits.{Limits}
 use Rattle.ale.proofs.Encodings.{encodeTree-length, height-size}
@@ -19,16 +18,8 @@ use Rattle.meaning.proofs.Normals.{normal-meaning-at, normal-table}
 use Rattle.meaning.proofs.Pictures.{picture-known}
 use Rattle.meaning.specs.Meaning.{pictureTable, pictureTree}
 use Rattle.meaning.specs.NormalTable.{mergedCount, normalFile, normalTreeOf}
-use Rattle.countermodel.specs.Model.{modelTree, rowTree}
-use Rattle.workspace.specs.Prepare.{Acceptable}
-use Rattle.evidence.specs.Call.{evidenceAnswer}
-use Rattle.evidence.specs.Check.{checkAnswer, onAsked, onForm}
-use Rattle.evidence.specs.declared.check.Verified.the-variants.{RefutationTaken}
-use Rattle.evidence.specs.declared.form.Form.{Form}
-use Rattle.evidence.specs.declared.form.Form.the-variants.{Map, Neither, Refutation}
-use Rattle.evidence.specs.Form.{formOf}
-use Rattle.evidence.specs.Tables.{checkIn}
-use Rattle.evidence.proofs.Refutations.{fits-same, refutation-asked-same}
+use Rattle.countermodel.specs.Model.{rowTree}
+use Rattle.evidence.proofs.Refutations.{fits-same}
 
 module _ (limits : Limits) (s : List ℕ) (bounded : Bounded limits) (few : mergedCount limits s ≤ limits .rows) where
   pub normal-rows : (pictureTable (normalFile limits s)) .rows ≡ size pictureSignature (normalTreeOf limits s)
@@ -49,23 +40,3 @@ module _ (limits : Limits) (s : List ℕ) (bounded : Bounded limits) (few : merg
       ∙ fits-same (normalTreeOf limits s) (pictureTree limits s)
       (normal-tree pictureSignature (pictureTable s) (picture-known limits s readable) (limits .depth))
       (tree-normal pictureSignature (pictureTable s) (limits .depth)) b
-
-module _ (limits : Limits) (first second e : List ℕ) (bounded : Bounded limits) (pair : Acceptable limits first second) where
-  abbrev Same : Form → Type 0
-  Same f =
-      onForm (pictureTable (normalFile limits first)) (pictureTable (normalFile limits second))
-      (rowTree (pictureTable (normalFile limits first)) 0) (rowTree (pictureTable (normalFile limits second)) 0) e f
-      ≡ onForm (pictureTable (normalFile limits first)) (pictureTable (normalFile limits second)) (pictureTree limits first) (pictureTree limits second) e f
-
-  by-form : (f : Form) → Same f
-  by-form Map = refl
-  by-form Refutation =
-      ap (onAsked RefutationTaken)
-      (refutation-asked-same (rowTree (pictureTable (normalFile limits first)) 0) (rowTree (pictureTable (normalFile limits second)) 0) (pictureTree limits first) (pictureTree limits second) e
-      (fits-picture limits first bounded (pair .first-few) (pair .first-readable) (modelTree e 0))
-      (fits-picture limits second bounded (pair .second-few) (pair .second-readable) (modelTree e 0)))
-  by-form Neither = refl
-
-  pub check-evidence : checkIn limits (normalFile limits first) (normalFile limits second) e ≡ evidenceAnswer limits first second e
-  unfolding checkIn evidenceAnswer checkAnswer
-  check-evidence = by-form (formOf limits ((pictureTable (normalFile limits second)) .rows) e)

@@ -4,4 +4,3 @@ pub mod Map
 pub mod Check
 pub mod Call
 pub mod Taken
-pub mod Tables

@@ -1,82 +1,8 @@
 // The check of evidence against two tables.
-use crate::asked::Asked;
-use crate::form::Form;
-use crate::form::form_of;
-use crate::map::map_asked;
-use countermodel::individual::count;
-use countermodel::individual::individuals_ok;
-use countermodel::links::INDIVIDUAL_LINKS;
-use countermodel::links::fill_links;
-use countermodel::model::fits_table;
-use picture::answer::Input;
 use picture::answer::Refusal;
-use table::layout::Limits;
-ghost use mathlib.Core.Path.{_≡_};
-ghost use Prim.Native.Nat.{ℕ};
-ghost use Rattle.table.specs.Bounds.{Bounded};
-ghost use Rattle.meaning.specs.Meaning.{pictureTable};
-ghost use Rattle.normal.specs.Rows.{Checked};
-ghost use Rattle.countermodel.specs.Individual.{Individuals};
-ghost use Rattle.countermodel.specs.Model.{rowTree};
-ghost use Rattle.evidence.specs.Check.{onAsked, refusedBy, refutationAsked};
-ghost use Rattle.evidence.specs.Tables.{checkIn};
 
 pub enum Verified {
     MapTaken,
     RefutationTaken,
     Refused(Refusal),
-}
-
-// 21 to 23.
-fn refutation_asked(first: &[u8], n: usize, second: &[u8], m: usize, e: &[u8], k: usize) -> Asked
-    requires { ⌜ (Checked (now first) n) × ((Checked (now second) m) × (Individuals (now e) k)) ⌝ }
-    ensures { λ r. ⌜ r ≡ refutationAsked (rowTree (pictureTable (now (first .entry))) 0) (rowTree (pictureTable (now (second .entry))) 0) (now (e .entry)) ⌝ }
-{
-    if !individuals_ok(e, k) {
-        return Asked::No(21);
-    }
-    let mut links = [0u16; INDIVIDUAL_LINKS];
-    fill_links(e, k, &mut links);
-    if !fits_table(e, k, &links, first, n) {
-        return Asked::No(22);
-    }
-    if fits_table(e, k, &links, second, m) {
-        return Asked::No(23);
-    }
-    Asked::Yes
-}
-
-// The refusal by a question names the evidence.
-fn refused_by(number: u8) -> Verified
-    ensures { λ r. ⌜ r ≡ refusedBy number ⌝ }
-{
-    Verified::Refused(Refusal {
-        number,
-        input: Input::Evidence,
-    })
-}
-
-// The answer where all was answered yes, or the refusal.
-fn answer(taken: Verified, asked: Asked) -> Verified
-    ensures { λ r. ⌜ r ≡ onAsked taken asked ⌝ }
-{
-    match asked {
-        Asked::Yes => taken,
-        Asked::No(number) => refused_by(number),
-    }
-}
-
-// 16, and then the questions of the form.
-pub fn check(first: &[u8], n: usize, second: &[u8], m: usize, limits: Limits, e: &[u8]) -> Verified
-    requires { ⌜ (Bounded limits) × ((Checked (now first) n) × (Checked (now second) m)) ⌝ }
-    ensures { λ r. ⌜ r ≡ checkIn limits (now (first .entry)) (now (second .entry)) (now (e .entry)) ⌝ }
-{
-    match form_of(e, m, limits) {
-        Form::Map => answer(Verified::MapTaken, map_asked(first, n, second, m, e)),
-        Form::Refutation => answer(
-            Verified::RefutationTaken,
-            refutation_asked(first, n, second, m, e, count(e)),
-        ),
-        Form::Neither => refused_by(16),
-    }
 }

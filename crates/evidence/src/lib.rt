@@ -1,6 +1,4 @@
-// Evidence: its two forms (16), a map row by row (17 to 20), a refutation (21 to 23), and the call that checks it.
+// The fifth call: evidence, its questions 16 to 23, and what is taken. Definitions and theorems; the code is in evidence_check.
 pub mod asked;
 pub mod check;
 pub mod form;
-pub mod map;
-pub mod verify;

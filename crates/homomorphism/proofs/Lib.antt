@@ -1,7 +1,2 @@
--- Laws of the search and of the map, by subject.
-pub mod Labels
-pub mod Walks
-pub mod Searches
-pub mod Traces
-pub mod Maps
-pub mod NormalMaps
+-- The laws of map files.
+pub mod MapFiles

@@ -1,4 +1,3 @@
--- Homomorphisms between two tables: what the search decides, and the map that is written.
+-- The map file, and the map that is written.
 pub mod Layout
-pub mod Search
 pub mod Map

@@ -1,5 +1,1 @@
-// Homomorphisms between two tables: the search, and the map file.
-pub mod label;
-pub mod layout;
-pub mod map;
-pub mod search;
+// Homomorphisms between two tables as map files. Definitions and laws; the code is in homomorphism_search and map_writer.

@@ -1,6 +1,3 @@
 -- The fourth call: the common picture, and the call's answer, work space and result buffer.
 pub mod Product
 pub mod Call
-pub mod Siblings
-pub mod Grown
-pub mod Tables

@@ -1,34 +1,20 @@
 -- Laws of a table in a half of the work space.
---   length-prefix            rows from the first byte on, and the end field after them: so many bytes
 --   length-half              a half is as long as the longest picture
 --   half-byte, half-rest     it has the bytes of its file, and after them zeros
 --   half-file                so its first bytes are the file
 --   half-put                 a file put at the start of a half, and zeros after it
---   built-half               a table that was built within the limit, in a half, is the normal file in a half
 use Prim.Native.Nat.{_+_, _-_, _≤_, ℕ}
 use lib.ListN.{List·getD-append, List·getD-eq-default, getD, length, length-append, take}
-use lib.Seq.{getD-append-add, length-take-le, take-at}
+use lib.Seq.{getD-append-add, take-at}
 use mathlib.Core.List.{List, _++_}
 use mathlib.Core.Path.{_∙_, _≡_, ap, refl, sym}
 use native.Mathlib.Decide.{decLt}
 use native.Mathlib.Omega.{arith}
-use Rattle.meaning.specs.NormalTable.{normalFile}
 use Rattle.table.proofs.Puts.{getD-zeros, length-zeros, put-put}
-use Rattle.table.proofs.Rows.{length-endBytes}
 use Rattle.table.specs.Bounds.{pictureSize}
-use Rattle.table.specs.Fields.{endBytes}
-use Rattle.table.specs.Layout.{endSize, place}
 use Rattle.table.specs.Put.{put, zeros}
 use Rattle.table.specs.declared.layout.Limits.{Limits}
-use Rattle.normal.specs.Built.{Built}
-use Rattle.normal.specs.Grown.{prefix}
 use Rattle.normal.specs.Half.{halfOf}
-use Rattle.normal.specs.declared.node.Branch.{Branch}
-use Rattle.normal.proofs.Normalizations.{built-file}
-
-pub length-prefix : (rows : ℕ) (scratch : List ℕ) → place rows 0 ≤ length scratch → length (prefix rows scratch ++ endBytes) ≡ place rows endSize
-length-prefix rows scratch h =
-    omega (arith, length-append (prefix rows scratch) endBytes, length-take-le (place rows 0) scratch h, length-endBytes)
 
 module _ (limits : Limits) (file : List ℕ) where
   pub length-half : length file ≤ pictureSize limits → length (halfOf limits file) ≡ pictureSize limits
@@ -69,7 +55,3 @@ module _ (limits : Limits) (file : List ℕ) where
       ∙ ap (λ (k : ℕ). put (put half 0 file) n (zeros k)) size
       ∙ ap (λ (k : ℕ). put (put half 0 file) k rest) end
       ∙ put-put half 0 file rest (omega arith)
-
-module _ {limits : Limits} {s out end : List ℕ} {r : Branch} (built : Built limits s out r end) (within : r .merged ≤ limits .rows) where
-  pub built-half : halfOf limits (prefix (r .table .rows) end ++ endBytes) ≡ halfOf limits (normalFile limits s)
-  built-half = ap (halfOf limits) (built-file built within)

@@ -1,8 +1,3 @@
--- The second call, and what the parts of the normal-table writer do.
+-- The second call, and a table in a half of the work space.
 pub mod Call
 pub mod Half
-pub mod Rows
-pub mod Labels
-pub mod Grown
-pub mod Parts
-pub mod Built

@@ -1,8 +1,2 @@
-// Question 14 and the normal-table writer: the merged rows of a picture are made depth first, counted, and tidied on the way back up.
-pub mod grow;
-pub mod half;
-pub mod label;
-pub mod node;
+// The second call: its answer, and a normal table in a lent buffer. Definitions and laws; the code is in row_sets, normal_writer and normalize.
 pub mod normalize;
-pub mod rows;
-pub mod values;

@@ -6,8 +6,6 @@ pub mod Lowest
 -- the call
 pub mod Answers
 pub mod Refusals
--- the code's tests
-pub mod Decisions
 -- the conditions
 pub mod Conditions
 -- worked cases, computed

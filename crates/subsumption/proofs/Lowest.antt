@@ -22,7 +22,7 @@ use Rattle.meaning.proofs.Normals.{normal-count, normal-readable}
 use Rattle.meaning.proofs.Pictures.{picture-parents}
 use Rattle.meaning.specs.Meaning.{pictureTable}
 use Rattle.meaning.specs.NormalTable.{mergedCount, normalFile}
-use Rattle.homomorphism.proofs.Maps.{mapFile-image}
+use Rattle.homomorphism.proofs.MapFiles.{mapFile-image}
 use Rattle.homomorphism.specs.Layout.{imageOf}
 use Rattle.homomorphism.specs.Map.{lowestMap}
 use Rattle.workspace.specs.Prepare.{Acceptable}

@@ -46,7 +46,7 @@ use Rattle.evidence.proofs.Verifications.{acceptable-verify, verify-taken}
 use Rattle.evidence.specs.Call.{evidenceAnswer, verifyAnswer}
 use Rattle.evidence.specs.Form.{mapForm}
 use Rattle.evidence.specs.Taken.{MapOf, RefutationOf}
-use Rattle.homomorphism.proofs.Maps.{length-mapFile, mapFile-ends, mapFile-image, mapFile-says, mapFile-tag}
+use Rattle.homomorphism.proofs.MapFiles.{length-mapFile, mapFile-ends, mapFile-image, mapFile-says, mapFile-tag}
 use Rattle.homomorphism.specs.Layout.{imageOf, mapTag}
 use Rattle.homomorphism.specs.Map.{lowestMap, mapFile}
 use Rattle.meaning.proofs.Coverings.{covers-exactly, covers-not}

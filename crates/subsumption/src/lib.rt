@@ -1,3 +1,2 @@
-// The third call: the verdict on two pictures, with evidence.
-pub mod subsumes;
+// The third call: the verdict on two pictures, with evidence. Definitions and theorems; the code is in subsumes.
 pub mod verdict;

@@ -1,5 +1,6 @@
 -- The laws of the definitions, by subject.
 pub mod Bools
+pub mod Tests
 pub mod Sizes
 pub mod Puts
 pub mod Numbers

@@ -7,20 +7,21 @@
 --   subset-not                                              a set that is not within another has a name that the other lacks
 --   subset-none                                             only the set of no name is within it
 --   overlap-has, has-overlap                                sets overlap exactly when some name is in both
-use mathlib.Core.Path.{_≡_, refl, ap, sym, _∙_}
-use mathlib.Core.Bool.{Bool, true, false, not, _&&_, _||_, false≢true, true≢false}
-use Prim.Native.Nat.{ℕ, zero, suc, _-_, _^_, _<_, min, max}
-use native.Mathlib.Nat.{zero-div, lt-of-not-le, lt-of-le-of-lt}
+--   has-power                                               the set of one name
+use mathlib.Core.Path.{_∙_, _≡_, ap, refl, sym}
+use mathlib.Core.Bool.{Bool, _&&_, _||_, false, false≢true, not, true, true≢false}
+use Prim.Native.Nat.{_-_, _/_, _<_, _^_, max, min, suc, zero, ℕ}
+use native.Mathlib.Nat.{lt-of-le-of-lt, lt-of-not-le, zero-div}
 use native.Mathlib.Decide.{decLt}
 use native.Mathlib.Omega.{arith}
 use lib.Dec.{eqb, ltb}
-use lib.Bits.{bitAnd, or-lt, and-le-l, and-zero-r}
+use lib.Bits.{and-le-l, and-zero-r, bitAnd, or-lt}
 use lib.Pow.{ones-sub-lt}
-use borrow.Author.Tests.{lt-ltb, le-ltb, eqb-true, eqb-false, eq-eqb, ne-eqb, not-true}
+use borrow.Author.Tests.{eq-eqb, eqb-false, eqb-true, le-ltb, lt-ltb, ne-eqb, not-true}
 use Rattle.table.specs.Layout.{nameCount}
-use Rattle.table.specs.NameSet.{bit, has, none, union, intersection, complement, subset, overlap}
+use Rattle.table.specs.NameSet.{bit, complement, has, intersection, none, overlap, subset, union}
 use Rattle.table.proofs.Bools.{by-test}
-use Rattle.table.proofs.Bits.{pow-above, bit-bound, bit-or, bit-and, bit-below, bit-complement, bits-differ, bit-found, bits-eq}
+use Rattle.table.proofs.Bits.{bit-and, bit-below, bit-bound, bit-complement, bit-found, bit-or, bit-suc, bit-zero, bits-differ, bits-eq, pow-above}
 
 pub union-below : (a b : ℕ) → a < 2 ^ nameCount → b < 2 ^ nameCount → union a b < 2 ^ nameCount
 union-below = or-lt nameCount
@@ -107,3 +108,23 @@ subset-none a =
     by-test (eqb a 0)
     (λ e. let z = eqb-true a 0 e in rw (e, z))
     (λ e. rw (e, and-zero-r a) (ne-eqb 0 a (λ z. eqb-false a 0 e (sym z))))
+
+bit-none : (k : ℕ) → bit 0 k ≡ 0
+bit-none k = rw zero-div
+
+next-same : (k i : ℕ) → eqb k i ≡ eqb (suc k) (suc i)
+next-same k i =
+    by-test (eqb k i) (λ e. let z = eqb-true k i e in e ∙ sym (eq-eqb (suc k) (suc i) (omega arith)))
+    (λ e. let u = eqb-false k i e in e ∙ sym (ne-eqb (suc k) (suc i) (λ z. u (omega arith))))
+
+pub has-power : (i k : ℕ) → has (2 ^ i) k ≡ eqb k i
+unfolding has
+has-power zero zero = refl
+has-power zero (suc k) =
+    ap (λ (n : ℕ). eqb n 1) (bit-suc 1 k ∙ bit-none k) ∙ sym (ne-eqb (suc k) 0 (λ z. omega arith))
+has-power (suc i) zero =
+    let e : bit (2 ^ suc i) 0 ≡ 0 = bit-zero (2 ^ suc i) ∙ omega arith in
+    ap (λ (n : ℕ). eqb n 1) e ∙ sym (ne-eqb 0 (suc i) (λ z. omega arith))
+has-power (suc i) (suc k) =
+    let e : 2 ^ suc i / 2 ≡ 2 ^ i = omega arith in
+    ap (λ (n : ℕ). eqb n 1) (bit-suc (2 ^ suc i) k ∙ ap (λ (n : ℕ). bit n k) e) ∙ has-power i k ∙ next-same k i

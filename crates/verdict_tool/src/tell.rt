@@ -1,7 +1,7 @@
 // The verdict as lines.
-use homomorphism::layout::image;
-use homomorphism::layout::image_place;
 use libc::STDOUT_FILENO;
+use map_writer::layout::image;
+use map_writer::layout::image_place;
 use picture::answer::Input;
 use picture::answer::Refusal;
 use subsumption::verdict::Verdict;

@@ -4,7 +4,6 @@ pub mod Halves
 -- the answer and the work space after it
 pub mod Preparations
 pub mod PairRefusals
-pub mod TablesIn
 pub mod Sizes
 -- a result buffer lent beside it
 pub mod Lendings

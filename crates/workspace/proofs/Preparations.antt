@@ -6,7 +6,6 @@
 --   prepare-many-second               14 of the first, of the second
 --   prepare-tables, acceptable-tables the rows of both normal tables
 --   tables-acceptable                 tables are given in no other case, and with no other rows
---   built-tables, built-halves        tables that were built within the limit: their rows, and that they are the normal files
 --   length-halves                     the work space keeps its length
 --   halves-same                       what stood in its halves does not matter
 --   halves-first, halves-second       each half begins with a normal file
@@ -21,13 +20,9 @@ use mathlib.Core.Path.{_∙_, _≡_, ap, refl, sym}
 use native.Mathlib.Omega.{arith}
 use Rattle.meaning.proofs.Normals.{normal-size}
 use Rattle.meaning.specs.NormalTable.{mergedCount, normalFile}
-use Rattle.normal.proofs.Halves.{built-half, half-file, length-half}
-use Rattle.normal.proofs.Normalizations.{few-rows}
-use Rattle.normal.specs.Built.{Built}
+use Rattle.normal.proofs.Halves.{half-file, length-half}
 use Rattle.normal.specs.Call.{tooMany}
-use Rattle.normal.specs.Grown.{prefix}
 use Rattle.normal.specs.Half.{halfOf}
-use Rattle.normal.specs.declared.node.Branch.{Branch}
 use Rattle.picture.specs.Read.{answerOf, answered, readingOf}
 use Rattle.picture.specs.View.{Readable}
 use Rattle.picture.specs.declared.answer.Answer.{Answer}
@@ -36,10 +31,8 @@ use Rattle.picture.specs.declared.read.Reading.{Reading}
 use Rattle.picture.specs.declared.read.Reading.the-variants as reading
 use Rattle.table.proofs.Puts.{length-put}
 use Rattle.table.specs.Bounds.{pictureSize}
-use Rattle.table.specs.Fields.{endBytes}
-use Rattle.table.specs.Put.{put}
 use Rattle.table.specs.declared.layout.Limits.{Limits}
-use Rattle.workspace.specs.Prepare.{Acceptable, afterReading, mergedAsked, halvesPut, prepareAnswer, tableRows, workSize}
+use Rattle.workspace.specs.Prepare.{Acceptable, afterReading, halvesPut, mergedAsked, prepareAnswer, tableRows, workSize}
 use Rattle.workspace.specs.declared.prepare.Pair.{Pair}
 use Rattle.workspace.specs.declared.prepare.Prepared.the-variants.{Refused, Tables}
 use Rattle.workspace.proofs.Halves.{join-lower, join-past, join-upper, join-whole, length-join}
@@ -144,22 +137,6 @@ pub acceptable-tables : (limits : Limits) (first second : List ℕ) → Acceptab
     prepareAnswer limits first second ≡ Tables (tablesOf limits first second)
 acceptable-tables limits first second pair =
     prepare-tables limits first second (pair .first-readable) (pair .second-readable) (pair .first-few) (pair .second-few)
-
--- ---- two tables that were built within the limit
-
-module _ {limits : Limits} {first second out out₂ end end₂ : List ℕ} {r t : Branch} (built : Built limits first out r end) (built-second : Built limits second out₂ t end₂) (within : r .merged ≤ limits .rows) (within-second : t .merged ≤ limits .rows) where
-  pub built-tables : mergedAsked limits first second ≡ Tables (record { first = r .table .rows; second = t .table .rows })
-  built-tables =
-      let first-few : mergedCount limits first ≤ limits .rows = omega (arith, built .count) in
-      let second-few : mergedCount limits second ≤ limits .rows = omega (arith, built-second .count) in
-      few-both limits first second (few-rows built within) (few-rows built-second within-second)
-      ∙ rw (built .rows-are first-few, built-second .rows-are second-few)
-
-  pub built-halves : (work end₃ : List ℕ) →
-      end₃ ≡ put work 0 (halfOf limits (prefix (r .table .rows) end ++ endBytes) ++ halfOf limits (prefix (t .table .rows) end₂ ++ endBytes)) →
-      end₃ ≡ halvesPut limits first second work
-  unfolding halvesPut
-  built-halves work end₃ e = e ∙ rw (built-half built within, built-half built-second within-second)
 
 -- ---- the work space
 

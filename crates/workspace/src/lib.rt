@@ -1,2 +1,2 @@
-// The work space of the calls on two pictures: both are read, 14 is asked of both, and then their normal tables are written into its halves.
+// The work space of the calls on two pictures. Definitions and laws; the code is in prepare.
 pub mod prepare;

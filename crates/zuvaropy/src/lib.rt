@@ -1,25 +1,25 @@
-// The C interface: each call takes numbers and byte buffers and gives one 64-bit word, which specs/Word.antt lays down.
+// The C interface: each call takes numbers and byte buffers and gives one 64-bit word, which interface/specs/Word.antt lays down.
 use crate::word::NO;
 use crate::word::YES;
 use crate::word::refusal_word;
 use crate::word::value_word;
 use book::answer::Selected;
-use book::most_specific::most_specific;
 use evidence::check::Verified;
-use evidence::verify::verify;
+use evidence_check::verify::verify;
 use lcs::common::Common;
-use lcs::lcs::lcs;
+use lcs_call::call::lcs;
+use most_specific::most_specific::most_specific;
 use normal::normalize::Normalized;
-use normal::normalize::normalize;
+use normalize::normalize::normalize;
 use picture::answer::Answer;
 use picture::answer::Input;
 use picture::read::read;
-use subsumption::subsumes::subsumes;
+use subsumes::subsumes::subsumes;
 use subsumption::verdict::Verdict;
 use table::layout::Limits;
 ghost use mathlib.Core.Path.{_≡_};
 ghost use lib.ListN.{length};
-ghost use Rattle.zuvaropy.specs.Calls.{lcsBuffer, lcsSpace, lcsWord, mostSpecificSpace, mostSpecificWord, validateWord, normalizeWord, normalizeBuffer, subsumesBuffer, subsumesSpace, subsumesWord, verifySpace, verifyWord};
+ghost use Rattle.interface.specs.Calls.{lcsBuffer, lcsSpace, lcsWord, mostSpecificSpace, mostSpecificWord, validateWord, normalizeWord, normalizeBuffer, subsumesBuffer, subsumesSpace, subsumesWord, verifySpace, verifyWord};
 
 mod word;
 

@@ -3,7 +3,7 @@ use picture::answer::Input;
 use picture::answer::Refusal;
 ghost use mathlib.Core.Path.{_≡_};
 ghost use Prim.Native.Nat.{ℕ, _+_, _*_, _^_, _≤_, _<_};
-ghost use Rattle.zuvaropy.specs.Word.{outcomeNo, valueWord, refusalWord, inputCode, cardOf};
+ghost use Rattle.interface.specs.Word.{outcomeNo, valueWord, refusalWord, inputCode, cardOf};
 
 // The outcomes of an answer: a value, verdict yes or a map taken; verdict no or a refutation taken.
 pub const YES: u64 = 1;

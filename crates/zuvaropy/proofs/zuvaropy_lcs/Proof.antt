@@ -3,8 +3,8 @@ use native.Mathlib.Omega.{arith}
 use denote.Ref.{now}
 use lib.ListN.{length}
 use mathlib.Core.Path.{_∙_, ap, sym}
-use Rattle.zuvaropy.specs.Word.{commonWord}
-use Rattle.zuvaropy.proofs.LcsWords.{length-small, word-read}
+use Rattle.interface.specs.Word.{commonWord}
+use Rattle.interface.proofs.LcsWords.{length-small, word-read}
 use borrow.Author.Needs.{needs}
 use Rattle.zuvaropy.proofs.zuvaropy_lcs.Statement.{statement}
 use Rattle.zuvaropy.proofs.zuvaropy_lcs.Tie as tie

@@ -1,8 +1,8 @@
 -- The word of the answer; the word of cards is its value.
 use denote.Ref.{now}
 use mathlib.Core.Path.{_∙_, ap, sym}
-use Rattle.zuvaropy.specs.Word.{selectedWord}
-use Rattle.zuvaropy.proofs.MostSpecificWords.{word-read}
+use Rattle.interface.specs.Word.{selectedWord}
+use Rattle.interface.proofs.MostSpecificWords.{word-read}
 use borrow.Author.Needs.{needs}
 use Rattle.zuvaropy.proofs.zuvaropy_most_specific.Statement.{statement}
 use Rattle.zuvaropy.proofs.zuvaropy_most_specific.Tie as tie

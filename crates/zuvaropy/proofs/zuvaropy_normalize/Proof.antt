@@ -6,7 +6,7 @@ use lib.ListN.{length}
 use Prim.Native.Nat.{_≤_}
 use Rattle.table.specs.Bounds.{benchLimits, pictureSize}
 use Rattle.normal.proofs.Answers.{answer-size}
-use Rattle.zuvaropy.specs.Calls.{normalizeBuffer, normalizeWord}
+use Rattle.interface.specs.Calls.{normalizeBuffer, normalizeWord}
 use borrow.Author.Needs.{needs}
 use Rattle.zuvaropy.proofs.zuvaropy_normalize.Statement.{statement}
 use Rattle.zuvaropy.proofs.zuvaropy_normalize.Tie as tie

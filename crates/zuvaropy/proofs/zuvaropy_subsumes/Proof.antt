@@ -3,8 +3,8 @@ use native.Mathlib.Omega.{arith}
 use denote.Ref.{now}
 use lib.ListN.{length}
 use mathlib.Core.Path.{_∙_, ap, sym}
-use Rattle.zuvaropy.specs.Word.{verdictWord}
-use Rattle.zuvaropy.proofs.SubsumesWords.{no-small, word-read, yes-small}
+use Rattle.interface.specs.Word.{verdictWord}
+use Rattle.interface.proofs.SubsumesWords.{no-small, word-read, yes-small}
 use borrow.Author.Needs.{needs}
 use Rattle.zuvaropy.proofs.zuvaropy_subsumes.Statement.{statement}
 use Rattle.zuvaropy.proofs.zuvaropy_subsumes.Tie as tie

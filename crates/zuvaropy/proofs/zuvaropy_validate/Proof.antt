@@ -6,7 +6,7 @@ use denote.Ref.{now}
 use Rattle.table.specs.Bounds.{maxRows}
 use Rattle.picture.specs.declared.answer.Input.the-variants.{First}
 use Rattle.picture.proofs.Readables.{answer-most}
-use Rattle.zuvaropy.specs.Calls.{validateWord}
+use Rattle.interface.specs.Calls.{validateWord}
 use borrow.Author.Needs.{needs}
 use Rattle.zuvaropy.proofs.zuvaropy_validate.Statement.{statement}
 use Rattle.zuvaropy.proofs.zuvaropy_validate.Tie as tie

@@ -1,6 +1,6 @@
 -- The word of the answer.
 use mathlib.Core.Path.{sym}
-use Rattle.zuvaropy.specs.Calls.{verifySpace, verifyWord}
+use Rattle.interface.specs.Calls.{verifySpace, verifyWord}
 use borrow.Author.Needs.{needs}
 use Rattle.zuvaropy.proofs.zuvaropy_verify.Statement.{statement}
 use Rattle.zuvaropy.proofs.zuvaropy_verify.Tie as tie

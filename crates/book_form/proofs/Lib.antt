@@ -1,0 +1,3 @@
+-- The laws of places and words.
+pub mod CardSets
+pub mod Places

@@ -1,0 +1,2 @@
+-- Places of cards, and words of cards.
+pub mod Places

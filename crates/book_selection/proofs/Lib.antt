@@ -1,0 +1,3 @@
+-- The laws of the comparison.
+pub mod HalfTables
+pub mod Comparisons

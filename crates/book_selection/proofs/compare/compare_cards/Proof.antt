@@ -1,0 +1,54 @@
+-- At the loop's head the cards below m are compared with all earlier ones.
+use Prim.Native.Nat.{_-_, _≤_}
+use native.Mathlib.Omega.{arith}
+use denote.Ref.{now}
+use lib.ListN.{length}
+use mathlib.Core.Path.{_∙_, _≡_, subst, sym}
+use Rattle.workspace.specs.Prepare.{workSize}
+use Rattle.book_selection.specs.Comparing.{Compared}
+use Rattle.book_selection.proofs.Comparisons.{none-compared}
+use Rattle.book_selection.proofs.compare.compare_cards.Statement.{statement}
+use Rattle.book_selection.proofs.compare.compare_cards.Tie as tie
+
+abbrev Inv-loop : tie.InvT-loop
+Inv-loop book places count limits kept spans covering work₀ hidden₀ m₀ work passed m = (m ≤ count) × ((length work ≡ workSize limits) × Compared limits book covering m passed)
+
+abbrev μ-loop : tie.MeasureT-loop
+μ-loop book places count limits kept spans covering work₀ hidden₀ m₀ work passed m = count - m
+
+loop-holds : tie.Need-loop-holds Inv-loop μ-loop
+loop-holds c = (omega arith, (c .before .before .before .pre .1 .1, none-compared (c .before .before .before .args .limits) (now (c .before .before .before .args .book)) (c .before .before .before .args .covering)))
+
+compare-card-requires : tie.Need-compare-card-requires Inv-loop μ-loop
+compare-card-requires c κs = (c .before .before .before .before .before .before .pre .0, (c .before .before .before .before .before .before .pre .1 .0, (c .before .loop-test .taken, (c .before .before .loop .inv .1 .1, c .before .before .loop .inv .1 .0))))
+
+add-m : tie.Need-add-m Inv-loop μ-loop
+add-m c = omega (arith, c .before .before .before .before .loop-test .taken, c .before .before .before .before .before .before .before .before .before .pre .1 .0 .taken .cards-read .places-are .most)
+
+loop-less : tie.Need-loop-less Inv-loop μ-loop
+loop-less c = omega (arith, c .before .before .before .before .loop-test .taken)
+
+loop-again : tie.Need-loop-again Inv-loop μ-loop
+loop-again c = (omega (arith, c .before .before .before .before .loop-test .taken), (c .before .before .compare-card .ensures .1 ∙ c .before .before .before .before .before .loop .inv .1 .0, c .before .before .compare-card .ensures .0))
+
+same-length : tie.Need-same-length Inv-loop μ-loop
+same-length c = c .before .loop .inv .1 .0 ∙ sym (c .before .before .before .before .before .pre .1 .1)
+
+returns : tie.Need-returns Inv-loop μ-loop
+returns c =
+    let end : c .before .loop .m ≡ c .before .before .before .before .before .args .count = omega (arith, c .before .loop .inv .0, c .loop-test .left) in
+    (subst (λ k. Compared (c .before .before .before .before .before .args .limits) (now (c .before .before .before .before .before .args .book)) (c .before .before .before .before .before .args .covering) k (c .before .loop .passed)) end (c .before .loop .inv .1 .1), c .before .loop .inv .1 .0 ∙ sym (c .before .before .before .before .before .pre .1 .1))
+
+pub compare-cards-spec : {M : Type 1} → statement M
+compare-cards-spec =
+    tie.close
+    (tie.spec
+    Inv-loop
+    μ-loop
+    loop-holds
+    compare-card-requires
+    add-m
+    loop-less
+    loop-again
+    same-length
+    returns)

@@ -1,0 +1,67 @@
+-- At the loop's head card m is compared with the undecided cards below n, and n is undecided or the end.
+use Prim.Native.Nat.{_+_, _-_, _<_, _≤_}
+use native.Mathlib.Omega.{arith}
+use denote.Ref.{now}
+use mathlib.Core.Bool.{true}
+use mathlib.Core.Path.{_∙_, _≡_, subst, sym}
+use Rattle.book_selection.specs.Comparing.{ComparedTo, Lower, undecided}
+use Rattle.book_selection.proofs.Comparisons.{pair-compared, row-ended, row-skipped}
+use Rattle.book_selection.proofs.compare.compare_rest.Statement.{statement}
+use Rattle.book_selection.proofs.compare.compare_rest.Tie as tie
+
+abbrev Inv-loop : tie.InvT-loop
+Inv-loop book places count limits kept spans covering m a links from passed work₀ word₀ n₀ work word n =
+    (n ≤ m) × ((n < m → undecided covering word m n ≡ true) × (ComparedTo limits book covering m n word × Lower limits book m a links work))
+
+abbrev μ-loop : tie.MeasureT-loop
+μ-loop book places count limits kept spans covering m a links from passed work₀ word₀ n₀ work word n =
+    m - n
+
+loop-holds : tie.Need-loop-holds Inv-loop μ-loop
+loop-holds c =
+    let p = c .before .before .before .pre .1 .1 in
+    (omega (arith, p .0 .1), ((λ _. p .1 .0 .1), (p .1 .1 .0, p .1 .1 .1)))
+
+compare-with-requires : tie.Need-compare-with-requires Inv-loop μ-loop
+compare-with-requires c κs = (c .before .before .before .before .before .before .pre .0, (c .before .before .before .before .before .before .pre .1 .0, ((c .before .before .before .before .before .before .pre .1 .1 .0 .0, omega (arith, c .before .loop-test .taken, c .before .before .before .before .before .before .pre .1 .1 .0 .0)), c .before .before .loop .inv .1 .1 .1)))
+
+add-next-undecided : tie.Need-add-next-undecided Inv-loop μ-loop
+add-next-undecided c = omega (arith, c .before .before .before .before .loop-test .taken, c .before .before .before .before .before .before .before .before .before .pre .1 .1 .0 .0, c .before .before .before .before .before .before .before .before .before .pre .1 .0 .taken .cards-read .places-are .most)
+
+next-undecided-requires : tie.Need-next-undecided-requires Inv-loop μ-loop
+next-undecided-requires c κs = (omega (arith, c .before .before .before .before .before .before .before .before .before .pre .1 .1 .0 .0, c .before .before .before .before .before .before .before .before .before .pre .1 .0 .taken .cards-read .places-are .most), (omega (arith, c .before .before .before .before .loop-test .taken), omega (arith, c .before .before .before .before .before .before .before .before .before .pre .1 .1 .0 .0, c .before .before .before .before .before .before .before .before .before .pre .1 .0 .taken .cards-read .places-are .most)))
+
+loop-less : tie.Need-loop-less Inv-loop μ-loop
+loop-less c = omega (arith, c .next-undecided .ensures .0 .0, c .before .before .before .before .before .loop-test .taken)
+
+loop-again : tie.Need-loop-again Inv-loop μ-loop
+loop-again c =
+    let found = c .next-undecided .ensures in
+    let pair =
+    pair-compared (c .before .before .before .before .before .before .before .before .before .before .args .limits) (now (c .before .before .before .before .before .before .before .before .before .before .args .book)) (c .before .before .before .before .before .before .before .before .before .before .args .covering) (c .before .before .before .before .before .before .before .before .before .before .args .m) (c .before .before .before .before .before .before .loop .word) (c .before .before .before .before .before .before .loop .n) (c .before .before .before .compare-with .result) (c .before .before .before .before .before .before .loop .inv .1 .1 .0) (c .before .before .before .before .before .loop-test .taken) (omega (arith, c .before .before .before .before .before .before .before .before .before .before .pre .1 .1 .0 .0, c .before .before .before .before .before .before .before .before .before .before .pre .1 .0 .taken .cards-read .counted)) (c .before .before .before .before .before .before .before .before .before .before .pre .1 .1 .1 .0 .0) (c .before .before .before .before .before .before .loop .inv .1 .0 (c .before .before .before .before .before .loop-test .taken)) (c .before .before .before .compare-with .ensures .0) in
+    (found .0 .1, (found .1 .1, (row-skipped (c .before .before .before .before .before .before .before .before .before .before .args .limits) (now (c .before .before .before .before .before .before .before .before .before .before .args .book)) (c .before .before .before .before .before .before .before .before .before .before .args .covering) (c .before .before .before .before .before .before .before .before .before .before .args .m) (c .before .before .before .compare-with .result) (c .before .before .before .before .before .before .loop .n + 1) (c .next-undecided .result) (found .1 .0) pair, c .before .before .before .compare-with .ensures .1)))
+
+same-length : tie.Need-same-length Inv-loop μ-loop
+same-length c = c .before .loop .inv .1 .1 .1 .long ∙ sym (c .before .before .before .before .before .pre .1 .1 .1 .1 .1 .long)
+
+returns : tie.Need-returns Inv-loop μ-loop
+returns c =
+    let end : c .before .loop .n ≡ c .before .before .before .before .before .args .m = omega (arith, c .before .loop .inv .0, c .loop-test .left) in (
+      row-ended (c .before .before .before .before .before .args .limits) (now (c .before .before .before .before .before .args .book)) (c .before .before .before .before .before .args .covering) (c .before .before .before .before .before .args .m) (c .before .loop .word) (subst (λ k. ComparedTo (c .before .before .before .before .before .args .limits) (now (c .before .before .before .before .before .args .book)) (c .before .before .before .before .before .args .covering) (c .before .before .before .before .before .args .m) k (c .before .loop .word)) end (c .before .loop .inv .1 .1 .0)),
+      c .before .loop .inv .1 .1 .1 .long ∙ sym (c .before .before .before .before .before .pre .1 .1 .1 .1 .1 .long),
+    )
+
+pub compare-rest-spec : {M : Type 1} → statement M
+compare-rest-spec =
+    tie.close
+    (tie.spec
+    Inv-loop
+    μ-loop
+    loop-holds
+    compare-with-requires
+    add-next-undecided
+    next-undecided-requires
+    loop-less
+    loop-again
+    same-length
+    returns)

@@ -1,0 +1,2 @@
+-- What the comparison of the cards has found.
+pub mod Comparing

@@ -1,0 +1,293 @@
+// Which of the covering cards cover another of them. Two tables stand in the work space at a time: card m's in the lower half, while those of the earlier cards
+// come into the upper one, and the two are compared both ways. A pair of which both are passed over already says nothing new and is left out. Tables that are
+// kept are copied, others made again; those of the first cards are kept, so card m's, which is made once for all earlier ones, is the later one of a pair.
+use book_form::form::PLACES;
+use book_form::word::has_card;
+use book_form::word::with_card;
+use book_form::word::without;
+use book_tables::covering::table_covers;
+use book_tables::kept::SPANS;
+use book_tables::kept::fetch;
+use prepare::prepare::half_size;
+use row_sets::rows::LINKS;
+use row_sets::rows::fill_links;
+use table::layout::END_SIZE;
+use table::layout::Limits;
+use table::layout::place;
+use table::number::clear;
+use workspace::prepare::Pair;
+ghost use mathlib.Core.Path.{_≡_};
+ghost use mathlib.Core.Bool.{_&&_, false, not, true};
+ghost use Prim.Native.Nat.{ℕ, _≤_, _<_, _+_};
+ghost use lib.ListN.{length};
+ghost use Rattle.table.specs.Bounds.{Bounded};
+ghost use Rattle.table.specs.NameSet.{has};
+ghost use Rattle.table.specs.Put.{zeros};
+ghost use Rattle.homomorphism_search.specs.Search.{LinkedTable, rowMaps};
+ghost use Rattle.workspace.specs.Prepare.{workSize};
+ghost use Rattle.prepare.specs.Tables.{TablesIn, firstIn, secondIn};
+ghost use Rattle.book.specs.Form.{mostCards};
+ghost use Rattle.book.specs.Selection.{passedOver};
+ghost use Rattle.book_tables.specs.Keeping.{Stocked};
+ghost use Rattle.book_selection.specs.Comparing.{Compared, ComparedTo, Lower, Paired, undecided};
+ghost use Rattle.book_form.specs.Places.{With, WithEach};
+
+// The word with card k if the second table, which is card k's, covers the first.
+fn pass_over(
+    passed: u32,
+    k: usize,
+    first: &[u8],
+    n: usize,
+    links: &[u8; LINKS],
+    second: &[u8],
+    m: usize,
+    others: &[u8; LINKS],
+    depth: usize,
+) -> u32
+    requires { ⌜ (LinkedTable (now first) n (now links)) × ((LinkedTable (now second) m (now others)) × (k < mostCards)) ⌝ }
+    ensures { λ r. ⌜ With passed k (rowMaps (now (first .entry)) (now (second .entry)) depth 0 0) r ⌝ }
+{
+    if has_card(passed, k) {
+        return passed;
+    }
+    if table_covers(first, n, links, second, m, others, depth) {
+        return with_card(passed, k);
+    }
+    passed
+}
+
+// Card m, whose table stands in the lower half, and card n, whose table stands in the upper one, each with the other.
+fn compare_halves(
+    work: &[u8],
+    pair: Pair,
+    links: &[u8; LINKS],
+    limits: Limits,
+    m: usize,
+    n: usize,
+    passed: u32,
+) -> u32
+    requires { ⌜ (Bounded limits) × ((TablesIn limits (now work) pair) × ((LinkedTable (firstIn pair (now work)) (pair .first) (now links)) × ((m < mostCards) × (n < mostCards)))) ⌝ }
+    ensures { λ r. ⌜ WithEach passed m (rowMaps (secondIn limits pair (now (work .entry))) (firstIn pair (now (work .entry))) (limits .depth) 0 0) n (rowMaps (firstIn pair (now (work .entry))) (secondIn limits pair (now (work .entry))) (limits .depth) 0 0) r ⌝ }
+{
+    let half = half_size(limits);
+    let a = pair.first;
+    let b = pair.second;
+    let low = &work[..place(a, END_SIZE)];
+    let high = &work[half..half + place(b, END_SIZE)];
+    let mut others = [0u8; LINKS];
+    fill_links(high, b, &mut others);
+    let more = pass_over(passed, m, high, b, &others, low, a, links, limits.depth);
+    pass_over(more, n, low, a, links, high, b, &others, limits.depth)
+}
+
+// Card m, whose table of a rows stands in the lower half, and card n, each with the other.
+fn compare_with(
+    book: &[u8],
+    places: &[usize; PLACES],
+    count: usize,
+    limits: Limits,
+    kept: &[u8],
+    spans: &[usize; SPANS],
+    m: usize,
+    a: usize,
+    links: &[u8; LINKS],
+    n: usize,
+    passed: u32,
+    work: &mut [u8],
+) -> u32
+    requires { ⌜ (Bounded limits) × ((Stocked limits (now book) (now places) count (now kept) (now spans)) × (((m < count) × (n < count)) × (Lower limits (now book) m a (now links) (now work)))) ⌝ }
+    ensures { λ r. ⌜ (Paired limits (now (book .entry)) m n passed r) × (Lower limits (now (book .entry)) m a (now (links .entry)) (now (work .exit))) ⌝ }
+{
+    let half = half_size(limits);
+    let b = fetch(
+        book,
+        places,
+        count,
+        n,
+        limits,
+        kept,
+        spans,
+        &mut work[half..],
+    );
+    let pair = Pair {
+        first: a,
+        second: b,
+    };
+    compare_halves(work, pair, links, limits, m, n, passed)
+}
+
+// Whether card n is to be compared with card m: it covers the case, and not both are passed over already.
+fn is_undecided(covering: u32, passed: u32, m: usize, n: usize) -> bool
+    requires { ⌜ (m < mostCards) × (n < mostCards) ⌝ }
+    ensures { λ r. ⌜ r ≡ undecided covering passed m n ⌝ }
+{
+    if !has_card(covering, n) {
+        return false;
+    }
+    if !has_card(passed, m) {
+        return true;
+    }
+    !has_card(passed, n)
+}
+
+// The first such card from one on; `end` if there is none before it.
+fn next_undecided(covering: u32, passed: u32, m: usize, from: usize, end: usize) -> usize
+    requires { ⌜ (m < mostCards) × ((from ≤ end) × (end ≤ mostCards)) ⌝ }
+    ensures { λ r. ⌜ ((from ≤ r) × (r ≤ end)) × (((k : ℕ) → from ≤ k → k < r → undecided covering passed m k ≡ false) × (r < end → undecided covering passed m r ≡ true)) ⌝ }
+{
+    let mut n = from;
+    while n < end {
+        if is_undecided(covering, passed, m, n) {
+            return n;
+        }
+        n += 1;
+    }
+    n
+}
+
+// Card m, whose table stands in the lower half, with the earlier ones from one on.
+fn compare_rest(
+    book: &[u8],
+    places: &[usize; PLACES],
+    count: usize,
+    limits: Limits,
+    kept: &[u8],
+    spans: &[usize; SPANS],
+    covering: u32,
+    m: usize,
+    a: usize,
+    links: &[u8; LINKS],
+    from: usize,
+    passed: u32,
+    work: &mut [u8],
+) -> u32
+    requires { ⌜ (Bounded limits) × ((Stocked limits (now book) (now places) count (now kept) (now spans)) × (((m < count) × (from < m)) × (((has covering m ≡ true) × (undecided covering passed m from ≡ true)) × ((ComparedTo limits (now book) covering m from passed) × (Lower limits (now book) m a (now links) (now work)))))) ⌝ }
+    ensures { λ r. ⌜ (Compared limits (now (book .entry)) covering (m + 1) r) × (length (now (work .exit)) ≡ length (now (work .entry))) ⌝ }
+{
+    let mut word = passed;
+    let mut n = from;
+    while n < m {
+        word = compare_with(
+            book,
+            places,
+            count,
+            limits,
+            kept,
+            spans,
+            m,
+            a,
+            links,
+            n,
+            word,
+            work,
+        );
+        n = next_undecided(covering, word, m, n + 1, m);
+    }
+    word
+}
+
+// Card m, if it covers the case, with all earlier ones.
+fn compare_card(
+    book: &[u8],
+    places: &[usize; PLACES],
+    count: usize,
+    limits: Limits,
+    kept: &[u8],
+    spans: &[usize; SPANS],
+    covering: u32,
+    m: usize,
+    passed: u32,
+    work: &mut [u8],
+) -> u32
+    requires { ⌜ (Bounded limits) × ((Stocked limits (now book) (now places) count (now kept) (now spans)) × ((m < count) × ((Compared limits (now book) covering m passed) × (length (now work) ≡ workSize limits)))) ⌝ }
+    ensures { λ r. ⌜ (Compared limits (now (book .entry)) covering (m + 1) r) × (length (now (work .exit)) ≡ length (now (work .entry))) ⌝ }
+{
+    if !has_card(covering, m) {
+        return passed;
+    }
+    let from = next_undecided(covering, passed, m, 0, m);
+    if from == m {
+        return passed;
+    }
+    let half = half_size(limits);
+    let a = fetch(
+        book,
+        places,
+        count,
+        m,
+        limits,
+        kept,
+        spans,
+        &mut work[..half],
+    );
+    let mut links = [0u8; LINKS];
+    fill_links(&work[..place(a, END_SIZE)], a, &mut links);
+    compare_rest(
+        book,
+        places,
+        count,
+        limits,
+        kept,
+        spans,
+        covering,
+        m,
+        a,
+        &links,
+        from,
+        passed,
+        work,
+    )
+}
+
+// Those of the covering cards that cover another of them.
+fn compare_cards(
+    book: &[u8],
+    places: &[usize; PLACES],
+    count: usize,
+    limits: Limits,
+    kept: &[u8],
+    spans: &[usize; SPANS],
+    covering: u32,
+    work: &mut [u8],
+) -> u32
+    requires { ⌜ (Bounded limits) × ((Stocked limits (now book) (now places) count (now kept) (now spans)) × (length (now work) ≡ workSize limits)) ⌝ }
+    ensures { λ r. ⌜ (Compared limits (now (book .entry)) covering count r) × (length (now (work .exit)) ≡ length (now (work .entry))) ⌝ }
+{
+    let mut passed: u32 = 0;
+    let mut m = 0;
+    while m < count {
+        passed = compare_card(
+            book,
+            places,
+            count,
+            limits,
+            kept,
+            spans,
+            covering,
+            m,
+            passed,
+            work,
+        );
+        m += 1;
+    }
+    passed
+}
+
+// Those that cover no other; the work space is cleared.
+pub fn select_cards(
+    book: &[u8],
+    places: &[usize; PLACES],
+    count: usize,
+    limits: Limits,
+    kept: &[u8],
+    spans: &[usize; SPANS],
+    covering: u32,
+    work: &mut [u8],
+) -> u32
+    requires { ⌜ (Bounded limits) × ((Stocked limits (now book) (now places) count (now kept) (now spans)) × (((k : ℕ) → has covering k ≡ true → k < count) × (length (now work) ≡ workSize limits))) ⌝ }
+    ensures { λ r. ⌜ ((k : ℕ) → has r k ≡ (has covering k && not (passedOver limits (now (book .entry)) (has covering) k))) × (now (work .exit) ≡ zeros (workSize limits)) ⌝ }
+{
+    let passed = compare_cards(book, places, count, limits, kept, spans, covering, work);
+    clear(work, 0, work.len());
+    without(covering, passed)
+}

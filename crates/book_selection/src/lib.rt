@@ -1,0 +1,2 @@
+// The cards that cover the case, compared with each other.
+pub mod compare;

@@ -1,0 +1,3 @@
+-- The tables of the cards, and those that are kept.
+pub mod Tables
+pub mod Keeping

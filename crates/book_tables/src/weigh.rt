@@ -1,0 +1,169 @@
+// Which cards cover the case. 14 is asked of the case and of each card in turn; nothing that the caller lent is written before all are answered yes, so the
+// tables stand in arrays of the call's own. Those of covering cards are kept there as long as they fit, so that they need not be made again.
+use crate::covering::table_covers;
+use crate::covering::tabulate;
+use crate::covering::tabulate_card;
+use crate::kept::SPANS;
+use crate::kept::TABLE;
+use crate::kept::keep;
+use book::answer::Selected;
+use book_form::form::PLACES;
+use book_form::word::bit;
+use picture::answer::Input;
+use picture::answer::Refusal;
+use row_sets::rows::LINKS;
+use row_sets::rows::fill_links;
+use table::layout::END_SIZE;
+use table::layout::Limits;
+use table::layout::place;
+ghost use mathlib.Core.Path.{_≡_};
+ghost use Prim.Native.Nat.{ℕ, _+_, _≤_, _<_};
+ghost use lib.ListN.{length, take};
+ghost use Rattle.table.specs.Bounds.{Bounded, pictureSize};
+ghost use Rattle.table.specs.Layout.{endSize, «place»};
+ghost use Rattle.table.specs.Links.{Zeros};
+ghost use Rattle.picture.specs.View.{Readable};
+ghost use Rattle.row_sets.specs.Rows.{Checked};
+ghost use Rattle.homomorphism_search.specs.Search.{LinkedTable, rowMaps};
+ghost use Rattle.book.specs.Call.{andThen, askedFrom, cardMerged, caseMerged, onAsked};
+ghost use Rattle.book.specs.Form.{mostCards};
+ghost use Rattle.book.specs.Selection.{cardWord, caseCovered};
+ghost use Rattle.book_tables.specs.Tables.{CardsRead, coversTable};
+ghost use Rattle.book_tables.specs.Keeping.{KeptWhere, Shelved, WeighedTo};
+
+// The cards weighed so far that cover the case, and where the tables kept of them end.
+pub struct Shelf {
+    pub word: u32,
+    pub at: usize,
+}
+
+pub enum Weighed {
+    Shelf(Shelf),
+    Refused(Refusal),
+}
+
+// Whether the card whose table of m rows is lent covers the case, whose normal table is.
+fn covers_case(
+    scratch: &[u8],
+    m: usize,
+    limits: Limits,
+    table: &[u8],
+    n: usize,
+    links: &[u8; LINKS],
+) -> bool
+    requires { ⌜ (Bounded limits) × ((m ≤ limits .rows) × ((«place» m endSize ≤ length (now scratch)) × ((Checked (take («place» m endSize) (now scratch)) m) × (LinkedTable (now table) n (now links))))) ⌝ }
+    ensures { λ r. ⌜ r ≡ rowMaps (now (table .entry)) (take («place» m endSize) (now (scratch .entry))) (limits .depth) 0 0 ⌝ }
+{
+    let other = &scratch[..place(m, END_SIZE)];
+    let mut others = [0u8; LINKS];
+    fill_links(other, m, &mut others);
+    table_covers(table, n, links, other, m, &others, limits.depth)
+}
+
+// 14 of card k, and whether it covers the case; its table is kept then, if it fits.
+fn weigh(
+    book: &[u8],
+    places: &[usize; PLACES],
+    count: usize,
+    k: usize,
+    limits: Limits,
+    table: &[u8],
+    n: usize,
+    links: &[u8; LINKS],
+    shelf: Shelf,
+    scratch: &mut [u8],
+    kept: &mut [u8],
+    spans: &mut [usize; SPANS],
+) -> Weighed
+    requires { ⌜ (Bounded limits) × ((CardsRead limits (now book) (now places) count) × ((k < count) × ((LinkedTable (now table) n (now links)) × ((pictureSize limits ≤ length (now scratch)) × (Shelved limits (now table) (now book) count (now kept) (now spans) shelf k))))) ⌝ }
+    ensures { λ r. ⌜ (WeighedTo limits (now (table .entry)) (now (book .entry)) count (now (kept .exit)) (now (spans .exit)) k r) × ((length (now (scratch .exit)) ≡ length (now (scratch .entry))) × (length (now (kept .exit)) ≡ length (now (kept .entry)))) ⌝ }
+{
+    let m = tabulate_card(book, places, count, k, limits, scratch);
+    if m == 0 {
+        return Weighed::Refused(Refusal {
+            number: 14,
+            input: Input::Card(k as u8),
+        });
+    }
+    if !covers_case(scratch, m, limits, table, n, links) {
+        return Weighed::Shelf(shelf);
+    }
+    let at = shelf.at;
+    let end = keep(scratch, m, k, at, kept, spans);
+    Weighed::Shelf(Shelf {
+        word: shelf.word + bit(k),
+        at: end,
+    })
+}
+
+// Every card in turn.
+fn weigh_cards(
+    book: &[u8],
+    places: &[usize; PLACES],
+    count: usize,
+    limits: Limits,
+    table: &[u8],
+    n: usize,
+    links: &[u8; LINKS],
+    kept: &mut [u8],
+    spans: &mut [usize; SPANS],
+) -> Selected
+    requires { ⌜ (Bounded limits) × ((CardsRead limits (now book) (now places) count) × ((LinkedTable (now table) n (now links)) × (Zeros (mostCards + mostCards) (now spans)))) ⌝ }
+    ensures { λ r. ⌜ (r ≡ onAsked (askedFrom (cardMerged limits (now (book .entry))) count 0) (cardWord (coversTable limits (now (table .entry)) (now (book .entry))) count)) × (KeptWhere r limits (now (book .entry)) (now (kept .exit)) (now (spans .exit))) ⌝ }
+{
+    let mut scratch = [0u8; TABLE];
+    let mut shelf = Shelf { word: 0, at: 0 };
+    let mut k = 0;
+    while k < count {
+        match weigh(
+            book,
+            places,
+            count,
+            k,
+            limits,
+            table,
+            n,
+            links,
+            shelf,
+            &mut scratch,
+            kept,
+            spans,
+        ) {
+            Weighed::Shelf(next) => {
+                shelf = next;
+                k += 1;
+            }
+            Weighed::Refused(refusal) => {
+                return Selected::Refused(refusal);
+            }
+        }
+    }
+    Selected::Cards(shelf.word)
+}
+
+// 14 of the case, then of each card; the cards that cover the case, and what is kept of their tables.
+pub fn weigh_book(
+    case: &[u8],
+    book: &[u8],
+    places: &[usize; PLACES],
+    count: usize,
+    limits: Limits,
+    kept: &mut [u8],
+    spans: &mut [usize; SPANS],
+) -> Selected
+    requires { ⌜ (Bounded limits) × ((Readable limits (now case)) × ((CardsRead limits (now book) (now places) count) × (Zeros (mostCards + mostCards) (now spans)))) ⌝ }
+    ensures { λ r. ⌜ (r ≡ onAsked (andThen (caseMerged limits (now (case .entry))) (askedFrom (cardMerged limits (now (book .entry))) count 0)) (cardWord (caseCovered limits (now (case .entry)) (now (book .entry))) count)) × (KeptWhere r limits (now (book .entry)) (now (kept .exit)) (now (spans .exit))) ⌝ }
+{
+    let mut scratch = [0u8; TABLE];
+    let n = tabulate(case, limits, &mut scratch);
+    if n == 0 {
+        return Selected::Refused(Refusal {
+            number: 14,
+            input: Input::First,
+        });
+    }
+    let table = &scratch[..place(n, END_SIZE)];
+    let mut links = [0u8; LINKS];
+    fill_links(table, n, &mut links);
+    weigh_cards(book, places, count, limits, table, n, &links, kept, spans)
+}

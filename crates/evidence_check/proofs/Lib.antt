@@ -1,0 +1,3 @@
+-- The laws of the check as the code makes it.
+pub mod MapLaws
+pub mod CheckLaws

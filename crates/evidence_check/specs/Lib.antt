@@ -1,0 +1,2 @@
+-- The check on two tables.
+pub mod Tables

@@ -1,0 +1,2 @@
+-- What the search decides, and what it leaves behind.
+pub mod Search

@@ -1,0 +1,3 @@
+// The search for a homomorphism between two tables.
+pub mod label;
+pub mod search;

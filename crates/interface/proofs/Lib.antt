@@ -1,0 +1,10 @@
+-- The laws of the words, by call, and the starred cases.
+pub mod Words
+pub mod NormalWords
+pub mod PairWords
+pub mod VerifyWords
+pub mod SubsumesWords
+pub mod LcsWords
+pub mod MostSpecificWords
+pub mod EmptySubsumes
+pub mod StarredHold

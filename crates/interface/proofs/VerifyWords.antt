@@ -1,0 +1,138 @@
+-- The call that checks evidence: which of its words is given for which inputs and work space, what the work space holds then, and what a word shows.
+-- The answers themselves, at any limits, are evidence's (Verifications, Soundness).
+--   Refuses                       the word of a refusal, and nothing written
+--   verify-short                  1: the work space is shorter than two halves
+--   verify-refuses                2 to 13 of the first picture, then of the second; 14 of the first, then of the second (PairWords)
+--   verify-checked                else 16 to 23 decide the word, and both normal tables stand in the work space
+--   verify-space-same             the two halves then do not depend on what stood there; nor does the word, by its definition
+--   verify-map, map-verify        the word says "map taken" exactly when the evidence is a map of the pair and 17 to 20 are answered yes,
+--   verify-refutation,
+--   refutation-verify             and "refutation taken" exactly when it is a refutation and 21 to 23 are
+--   verify-map-subsumed,
+--   verify-refutation-not         so a map is taken only if the second covers the first, a refutation only if it does not
+--   verify-past, verify-kept      bytes past the two halves keep their contents, whatever the answer; so does the work space's length
+use Prim.Native.Nat.{ℕ, _<_, _≤_}
+use native.Mathlib.Omega.{arith}
+use lib.ListN.{getD, length, take}
+use mathlib.Core.List.{List, _++_}
+use mathlib.Core.Logic.{⊎-elim}
+use mathlib.Core.Path.{_∙_, _≡_, ap, refl}
+use Rattle.table.specs.Bounds.{benchLimits}
+use Rattle.ale.specs.Interpretation.{Subsumed}
+use Rattle.ale.specs.PictureSignature.{pictureSignature}
+use Rattle.picture.specs.declared.answer.Input.{Input}
+use Rattle.picture.specs.declared.answer.Input.the-variants.{Buffer, Evidence}
+use Rattle.picture.specs.declared.answer.Refusal.{Refusal}
+use Rattle.meaning.specs.Meaning.{pictureTree}
+use Rattle.meaning.specs.NormalTable.{normalFile}
+use Rattle.normal.specs.Half.{halfOf}
+use Rattle.workspace.proofs.Preparations.{halves-same}
+use Rattle.workspace.specs.Prepare.{Acceptable, halvesPut, workSize}
+use Rattle.evidence.proofs.Refusals.{verify-refusal}
+use Rattle.evidence.proofs.Soundness.{map-no-refusal, map-sound, map-taken, refutation-no-refusal, refutation-sound, refutation-taken}
+use Rattle.evidence.proofs.Verifications.{acceptable-verify, acceptable-work, refused-verify, refused-work, short-verify, short-work, verify-taken, work-kept, work-past}
+use Rattle.evidence.specs.Call.{evidenceAnswer, verifyAnswer}
+use Rattle.evidence.specs.Taken.{MapOf, RefutationOf}
+use Rattle.evidence.specs.declared.check.Verified.{Verified}
+use Rattle.evidence.specs.declared.check.Verified.the-variants as verified
+use Rattle.interface.specs.Calls.{verifySpace, verifyWord}
+use Rattle.interface.specs.Word.{outcomeNo, outcomeYes, refusalWord, verifiedWord}
+use Rattle.interface.proofs.PairWords.{Refusals, bench, concerns-zero, known-zero, refusals}
+use Rattle.interface.proofs.Words.{outcome, refused}
+
+module _ (first second evidence work : List ℕ) where
+  abbrev pub Refuses : ℕ → Input → Type 0
+  Refuses q input = (verifyWord first second evidence (length work) ≡ refused q input) × (verifySpace first second work ≡ work)
+
+  pub verify-short : length work < workSize benchLimits → Refuses 1 Buffer
+  unfolding verifyWord verifySpace
+  verify-short h = (rw (short-verify benchLimits first second evidence (length work) h), short-work benchLimits first second work h)
+
+  module _ (enough : workSize benchLimits ≤ length work) where
+    pub verify-refuses : Refusals first second Refuses
+    unfolding verifyWord verifySpace
+    verify-refuses =
+        refusals first second Refuses (λ r e.
+        (rw (refused-verify benchLimits first second evidence (length work) enough r e), refused-work benchLimits first second work enough r e))
+
+    module _ (pair : Acceptable benchLimits first second) where
+      pub verify-checked :
+          (verifyWord first second evidence (length work) ≡ verifiedWord (evidenceAnswer benchLimits first second evidence))
+          × (verifySpace first second work ≡ halvesPut benchLimits first second work)
+      unfolding verifyWord verifySpace
+      verify-checked =
+          (rw (acceptable-verify benchLimits first second evidence (length work) enough pair), acceptable-work benchLimits first second work enough pair)
+
+      pub verify-space-same :
+          take (workSize benchLimits) (verifySpace first second work)
+          ≡ halfOf benchLimits (normalFile benchLimits first) ++ halfOf benchLimits (normalFile benchLimits second)
+      verify-space-same =
+          ap (λ (l : List ℕ). take (workSize benchLimits) l) (verify-checked .1)
+          ∙ halves-same benchLimits first second work (pair .first-few) (pair .second-few)
+
+  pub verify-past : (i : ℕ) → workSize benchLimits ≤ i → getD (verifySpace first second work) i 0 ≡ getD work i 0
+  unfolding verifySpace
+  verify-past i h = work-past benchLimits first second work i h
+
+  pub verify-kept : length (verifySpace first second work) ≡ length work
+  unfolding verifySpace
+  verify-kept = work-kept benchLimits first second work
+
+-- ---- what a word shows
+
+module _ (first second evidence : List ℕ) (room : ℕ) where
+  refusal-zero : (r : Refusal) → verifyAnswer benchLimits first second evidence room ≡ verified.Refused r → outcome (refusalWord r) ≡ 0
+  refusal-zero r e =
+      ⊎-elim (known-zero r) (λ h. concerns-zero r Evidence 16 23 h (omega arith) refl) (verify-refusal benchLimits first second evidence room r e)
+
+  map-word : (v : Verified) → verifyAnswer benchLimits first second evidence room ≡ v → outcome (verifiedWord v) ≡ outcomeYes → v ≡ verified.MapTaken
+  map-word verified.MapTaken e h = refl
+  map-word verified.RefutationTaken e h = absurd (omega arith)
+  map-word (verified.Refused r) e h = absurd (omega (arith, h, refusal-zero r e))
+
+  refutation-word : (v : Verified) → verifyAnswer benchLimits first second evidence room ≡ v → outcome (verifiedWord v) ≡ outcomeNo → v ≡ verified.RefutationTaken
+  refutation-word verified.MapTaken e h = absurd (omega arith)
+  refutation-word verified.RefutationTaken e h = refl
+  refutation-word (verified.Refused r) e h = absurd (omega (arith, h, refusal-zero r e))
+
+  -- outcome 1, whatever the bytes: there is room, the pair is acceptable, and the evidence is a map of it
+  pub verify-map : outcome (verifyWord first second evidence room) ≡ outcomeYes →
+      (workSize benchLimits ≤ room) × Acceptable benchLimits first second × MapOf benchLimits first second evidence
+  unfolding verifyWord
+  verify-map h =
+      let taken = map-word (verifyAnswer benchLimits first second evidence room) refl h in
+      let (enough, pair, answer) = verify-taken benchLimits first second evidence room verified.MapTaken map-no-refusal taken in
+      (enough, pair, map-taken benchLimits first second evidence bench pair .0 answer)
+
+  pub verify-refutation : outcome (verifyWord first second evidence room) ≡ outcomeNo →
+      (workSize benchLimits ≤ room) × Acceptable benchLimits first second × RefutationOf benchLimits first second evidence
+  unfolding verifyWord
+  verify-refutation h =
+      let taken = refutation-word (verifyAnswer benchLimits first second evidence room) refl h in
+      let (enough, pair, answer) = verify-taken benchLimits first second evidence room verified.RefutationTaken refutation-no-refusal taken in
+      (enough, pair, refutation-taken benchLimits first second evidence bench pair .0 answer)
+
+  -- and the reverse
+  module _ (enough : workSize benchLimits ≤ room) (pair : Acceptable benchLimits first second) where
+    pub map-verify : MapOf benchLimits first second evidence → verifyWord first second evidence room ≡ verifiedWord verified.MapTaken
+    unfolding verifyWord
+    map-verify m =
+        ap verifiedWord (acceptable-verify benchLimits first second evidence room enough pair ∙ map-taken benchLimits first second evidence bench pair .1 m)
+
+    pub refutation-verify : RefutationOf benchLimits first second evidence → verifyWord first second evidence room ≡ verifiedWord verified.RefutationTaken
+    unfolding verifyWord
+    refutation-verify m =
+        ap verifiedWord (acceptable-verify benchLimits first second evidence room enough pair ∙ refutation-taken benchLimits first second evidence bench pair .1 m)
+
+  -- a map is taken only if the second covers the first, a refutation only if it does not
+  pub verify-map-subsumed : outcome (verifyWord first second evidence room) ≡ outcomeYes →
+      Subsumed pictureSignature (pictureTree benchLimits first) (pictureTree benchLimits second)
+  verify-map-subsumed h =
+      let (enough, pair, m) = verify-map h in
+      map-sound benchLimits first second evidence bench pair (map-taken benchLimits first second evidence bench pair .1 m)
+
+  pub verify-refutation-not : outcome (verifyWord first second evidence room) ≡ outcomeNo →
+      Subsumed pictureSignature (pictureTree benchLimits first) (pictureTree benchLimits second) → ⊥
+  verify-refutation-not h =
+      let (enough, pair, m) = verify-refutation h in
+      refutation-sound benchLimits first second evidence bench pair (refutation-taken benchLimits first second evidence bench pair .1 m)

@@ -1,0 +1,145 @@
+-- Laws of the common picture as the code makes it, from the tables in the work space, and of the call by its tests.
+--   trims                             the normal tables of a pair are such as the walk along both needs,
+--   common-file-in, common-in         and what is made of them is what the definition says of the pictures
+--   made-few, made-many               the answer and the result buffer over the rows that were built
+--   short-call, prepared-call         the answer and both buffers: 1 is answered no, or the reading and 14 decide
+--   prepared-trims, prepared-common   after `prepare` has given the pair
+use Prim.Native.Nat.{_+_, _<_, _≤_, ℕ}
+use borrow.Author.Tests.{le-leb, lt-leb}
+use lib.ListN.{length}
+use mathlib.Core.Bool.{false, true}
+use mathlib.Core.List.{List, _++_}
+use mathlib.Core.Path.{_∙_, _≡_, ap, refl, subst, sym}
+use native.Mathlib.Omega.{arith}
+use Rattle.ale.proofs.Encodings.{encodeTree-length}
+use Rattle.ale.specs.Encoding.{encode}
+use Rattle.ale.specs.PictureSignature.{pictureSignature}
+use Rattle.ale.specs.Product.{product}
+use Rattle.ale.specs.Tree.{Tree, exists, size}
+use Rattle.homomorphism_search.specs.Search.{treeAt}
+use Rattle.meaning.proofs.Files.{length-fileOf}
+use Rattle.meaning.proofs.Normals.{normal-meaning, normal-normal, normal-roles}
+use Rattle.meaning.specs.File.{fileOf}
+use Rattle.meaning.specs.NormalTable.{normalFile, normalTreeOf}
+use Rattle.normal.specs.Call.{shortBuffer}
+use Rattle.normal_writer.specs.Grown.{prefix}
+use Rattle.picture.specs.View.{Readable}
+use Rattle.table.specs.Bounds.{Bounded, pictureSize}
+use Rattle.table.specs.Fields.{endBytes}
+use Rattle.table.specs.Layout.{endSize, «place»}
+use Rattle.table.specs.Put.{put}
+use Rattle.table.specs.declared.builder.Builder.{Builder}
+use Rattle.table.specs.declared.layout.Limits.{Limits}
+use Rattle.prepare.proofs.TablesIn.{prepared-pair, prepared-tables}
+use Rattle.workspace.specs.Lent.{pairWork, roomy}
+use Rattle.workspace.specs.Prepare.{Acceptable, halvesPut, onPrepared, prepareAnswer, workSize}
+use Rattle.prepare.specs.Tables.{firstIn, secondIn}
+use Rattle.workspace.specs.declared.prepare.Pair.{Pair}
+use Rattle.workspace.specs.declared.prepare.Prepared.{Prepared}
+use Rattle.workspace.specs.declared.prepare.Prepared.the-variants as prepared
+use Rattle.lcs.specs.Call.{commonAnswer, lcsAnswer, lcsResult, lcsWork, onCommon, onTables, tooLarge}
+use Rattle.product_rows.specs.Grown.{Built}
+use Rattle.lcs.specs.Product.{lcsCount, lcsFile, lcsTree}
+use Rattle.product_rows.specs.Siblings.{Trim}
+use Rattle.product_writer.specs.Tables.{Trims, commonFileIn, commonIn, productAt}
+use Rattle.lcs.specs.declared.common.Common.{Common}
+use Rattle.lcs.specs.declared.common.Common.the-variants.{Length, Refused}
+
+-- ---- on two tables
+
+module _ (limits : Limits) (s t : List ℕ) (b : Builder) (scratch mid : List ℕ) (built : Built limits (productAt s t (limits .depth) 0 0) scratch b mid) where
+  abbrev made : Tree pictureSignature
+  made = productAt s t (limits .depth) 0 0
+
+  pub made-many : (out : List ℕ) → limits .rows < b .rows → (Refused tooLarge ≡ commonIn limits s t) × (out ≡ onCommon (Refused tooLarge) (commonFileIn limits s t) out)
+  unfolding commonIn
+  made-many out many = (rw (lt-leb (size pictureSignature made) (limits .rows) (omega (arith, built .count))), refl)
+
+  pub made-few : (n : ℕ) (out end : List ℕ) → b .rows ≤ limits .rows → n ≡ place (b .rows) endSize → end ≡ put out 0 (prefix (b .rows) mid ++ endBytes) →
+      (Length n ≡ commonIn limits s t) × (end ≡ onCommon (Length n) (commonFileIn limits s t) out)
+  unfolding commonIn commonFileIn
+  made-few n out end few long written =
+      let within : size pictureSignature made ≤ limits .rows = omega (arith, built .count) in
+      let size-is : n ≡ length (fileOf (encode pictureSignature made)) =
+      omega (arith, long, built .count, length-fileOf (encode pictureSignature made), encodeTree-length pictureSignature made 0 exists 0 0) in (
+        rw (le-leb (size pictureSignature made) (limits .rows) within) (ap Length size-is),
+        written ∙ ap (λ (x : List ℕ). put out 0 (x ++ endBytes)) (built .bytes-are within),
+      )
+
+-- ---- the normal tables of a pair
+
+module _ (limits : Limits) (first second : List ℕ) (bounded : Bounded limits) (pair : Acceptable limits first second) where
+  first-tree : treeAt (normalFile limits first) (limits .depth) 0 ≡ normalTreeOf limits first
+  first-tree = normal-meaning limits first (pair .first-few) bounded
+
+  second-tree : treeAt (normalFile limits second) (limits .depth) 0 ≡ normalTreeOf limits second
+  second-tree = normal-meaning limits second (pair .second-few) bounded
+
+  normal-trim : (p : List ℕ) → Readable limits p → Trim (normalTreeOf limits p)
+  normal-trim p readable =
+      let normal = normal-normal limits p readable in
+      record { reduced = normal .reduced; ordered = normal .ordered; known = normal-roles limits p }
+
+  pub trims : Trims (normalFile limits first) (normalFile limits second) (limits .depth)
+  trims = record {
+    first-trim = subst Trim (sym first-tree) (normal-trim first (pair .first-readable));
+    second-trim = subst Trim (sym second-tree) (normal-trim second (pair .second-readable));
+  }
+
+  product-is : productAt (normalFile limits first) (normalFile limits second) (limits .depth) 0 0 ≡ lcsTree limits first second
+  unfolding productAt lcsTree
+  product-is =
+      ap (λ t. product pictureSignature t (treeAt (normalFile limits second) (limits .depth) 0)) first-tree
+      ∙ ap (product pictureSignature (normalTreeOf limits first)) second-tree
+
+  pub common-file-in : commonFileIn limits (normalFile limits first) (normalFile limits second) ≡ lcsFile limits first second
+  unfolding commonFileIn lcsFile
+  common-file-in = ap (λ t. fileOf (encode pictureSignature t)) product-is
+
+  pub common-in : commonIn limits (normalFile limits first) (normalFile limits second) ≡ commonAnswer limits first second
+  unfolding commonIn commonAnswer lcsCount
+  common-in = rw (product-is, common-file-in)
+
+-- ---- the call by its tests
+
+module _ (limits : Limits) (first second work result : List ℕ) where
+  abbrev pub Gives : Common → List ℕ → List ℕ → Type 0
+  Gives answer space buffer =
+      (answer ≡ lcsAnswer limits first second (length work) (length result))
+      × ((space ≡ lcsWork limits first second work (length result)) × (buffer ≡ lcsResult limits first second (length work) result))
+
+  pub short-call : roomy limits (pictureSize limits) (length work) (length result) ≡ false → Gives (Refused shortBuffer) work result
+  unfolding lcsAnswer pairWork lcsResult
+  short-call h = (rw h, (rw h, rw h))
+
+  pub prepared-call : roomy limits (pictureSize limits) (length work) (length result) ≡ true → (answer a : Prepared) (space : List ℕ) →
+      answer ≡ prepareAnswer limits first second → space ≡ onPrepared answer (halvesPut limits first second work) work → answer ≡ a →
+      Gives (onTables a (commonAnswer limits first second)) space (onCommon (onTables a (commonAnswer limits first second)) (lcsFile limits first second) result)
+  unfolding lcsAnswer pairWork lcsResult
+  prepared-call h answer a space is written e = let same = sym is ∙ e in (rw (h, same), (written ∙ rw (h, is), rw (h, same)))
+
+-- ---- after `prepare`
+
+module _ (limits : Limits) (first second old work : List ℕ) (answer : Prepared) (pair : Pair) (bounded : Bounded limits) (enough : workSize limits ≤ length old)
+    (is : answer ≡ prepareAnswer limits first second) (written : work ≡ onPrepared answer (halvesPut limits first second old) old)
+    (tables : answer ≡ prepared.Tables pair) where
+  of-tables : (P : List ℕ → List ℕ → Type 0) → P (normalFile limits first) (normalFile limits second) → P (firstIn pair work) (secondIn limits pair work)
+  of-tables = prepared-tables limits first second old work answer pair bounded enough is written tables
+
+  accepted : Acceptable limits first second
+  accepted = prepared-pair limits first second old work answer pair bounded enough is written tables
+
+  pub prepared-trims : Trims (firstIn pair work) (secondIn limits pair work) (limits .depth)
+  prepared-trims = of-tables (λ s t. Trims s t (limits .depth)) (trims limits first second bounded accepted)
+
+  pub prepared-common : (r : Common) (out end : List ℕ) → r ≡ commonIn limits (firstIn pair work) (secondIn limits pair work) →
+      end ≡ onCommon r (commonFileIn limits (firstIn pair work) (secondIn limits pair work)) out →
+      (r ≡ commonAnswer limits first second) × (end ≡ onCommon (commonAnswer limits first second) (lcsFile limits first second) out)
+  prepared-common r out end answers writes =
+      let same = answers ∙ of-tables (λ s t. commonIn limits s t ≡ commonAnswer limits first second) (common-in limits first second bounded accepted) in (
+        same,
+        writes
+            ∙ ap (λ a. onCommon a (commonFileIn limits (firstIn pair work) (secondIn limits pair work)) out) same
+            ∙ ap (λ e. onCommon (commonAnswer limits first second) e out)
+            (of-tables (λ s t. commonFileIn limits s t ≡ lcsFile limits first second) (common-file-in limits first second bounded accepted)),
+      )

@@ -1,0 +1,82 @@
+// The fourth call: question 1, both pictures into the work space, question 15, and the common picture into the result buffer.
+use lcs::common::Common;
+use normalize::normalize::SCRATCH;
+use normalize::normalize::write_table;
+use picture::answer::Input;
+use picture::answer::Refusal;
+use prepare::prepare::half_size;
+use prepare::prepare::has_room;
+use prepare::prepare::prepare;
+use product_writer::graft::build;
+use table::layout::END_SIZE;
+use table::layout::Limits;
+use table::layout::place;
+use workspace::prepare::Pair;
+use workspace::prepare::Prepared;
+ghost use mathlib.Core.Path.{_≡_};
+ghost use Prim.Native.Nat.{ℕ, _≤_};
+ghost use lib.ListN.{length};
+ghost use Rattle.table.specs.Bounds.{Bounded, pictureSize};
+ghost use Rattle.row_sets.specs.Rows.{Checked};
+ghost use Rattle.prepare.specs.Tables.{TablesIn, firstIn, secondIn};
+ghost use Rattle.lcs.specs.Call.{lcsAnswer, lcsResult, lcsWork, onCommon};
+ghost use Rattle.product_writer.specs.Tables.{Trims, commonFileIn, commonIn};
+
+// 15, and the common picture of two normal tables. Nothing is written before 15 is answered yes.
+fn write_common(
+    first: &[u8],
+    n: usize,
+    second: &[u8],
+    m: usize,
+    limits: Limits,
+    result: &mut [u8],
+) -> Common
+    requires { ⌜ (Checked (now first) n) × ((Checked (now second) m) × ((Trims (now first) (now second) (limits .depth)) × ((Bounded limits) × (pictureSize limits ≤ length (now result))))) ⌝ }
+    ensures { λ r. ⌜ (r ≡ commonIn limits (now (first .entry)) (now (second .entry))) × (now (result .exit) ≡ onCommon r (commonFileIn limits (now (first .entry)) (now (second .entry))) (now (result .entry))) ⌝ }
+{
+    let mut scratch = [0u8; SCRATCH];
+    let table = build(first, n, second, m, limits, &mut scratch);
+    if limits.rows < table.rows {
+        return Common::Refused(Refusal {
+            number: 15,
+            input: Input::Second,
+        });
+    }
+    Common::Length(write_table(&scratch, table, result))
+}
+
+// The common picture of the tables in the work space.
+fn common_in(work: &[u8], pair: Pair, limits: Limits, result: &mut [u8]) -> Common
+    requires { ⌜ (Bounded limits) × ((TablesIn limits (now work) pair) × ((Trims (firstIn pair (now work)) (secondIn limits pair (now work)) (limits .depth)) × (pictureSize limits ≤ length (now result)))) ⌝ }
+    ensures { λ r. ⌜ (r ≡ commonIn limits (firstIn pair (now (work .entry))) (secondIn limits pair (now (work .entry)))) × (now (result .exit) ≡ onCommon r (commonFileIn limits (firstIn pair (now (work .entry))) (secondIn limits pair (now (work .entry)))) (now (result .entry))) ⌝ }
+{
+    let half = half_size(limits);
+    let n = pair.first;
+    let m = pair.second;
+    let first = &work[..place(n, END_SIZE)];
+    let second = &work[half..half + place(m, END_SIZE)];
+    write_common(first, n, second, m, limits, result)
+}
+
+// The call: 1; the pair; 15. Nothing is written before 14 is answered yes for both.
+pub fn lcs(
+    first: &[u8],
+    second: &[u8],
+    limits: Limits,
+    work: &mut [u8],
+    result: &mut [u8],
+) -> Common
+    requires { ⌜ Bounded limits ⌝ }
+    ensures { λ r. ⌜ (r ≡ lcsAnswer limits (now (first .entry)) (now (second .entry)) (length (now (work .entry))) (length (now (result .entry)))) × ((now (work .exit) ≡ lcsWork limits (now (first .entry)) (now (second .entry)) (now (work .entry)) (length (now (result .entry)))) × (now (result .exit) ≡ lcsResult limits (now (first .entry)) (now (second .entry)) (length (now (work .entry))) (now (result .entry)))) ⌝ }
+{
+    if !has_room(limits, half_size(limits), work.len(), result.len()) {
+        return Common::Refused(Refusal {
+            number: 1,
+            input: Input::Buffer,
+        });
+    }
+    match prepare(first, second, limits, work) {
+        Prepared::Tables(pair) => common_in(work, pair, limits, result),
+        Prepared::Refused(refusal) => Common::Refused(refusal),
+    }
+}

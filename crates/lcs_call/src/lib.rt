@@ -1,0 +1,2 @@
+// The fourth call.
+pub mod call;

@@ -1,0 +1,2 @@
+-- The map that is written, as the search left it.
+pub mod Maps

@@ -1,0 +1,3 @@
+// The map file: its layout, and the map that is written.
+pub mod layout;
+pub mod map;

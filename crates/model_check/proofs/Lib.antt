@@ -1,0 +1,3 @@
+-- The laws of the model check.
+pub mod LabelTests
+pub mod Models

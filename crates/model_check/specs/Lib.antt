@@ -1,0 +1,2 @@
+-- What the parts of the model check decide.
+pub mod ModelRows

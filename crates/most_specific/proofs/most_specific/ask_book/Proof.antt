@@ -1,0 +1,56 @@
+-- The questions in their order.
+use denote.Ref.{now}
+use borrow.Author.Tests.{not-false, not-true}
+use mathlib.Core.Path.{_∙_, refl, sym}
+use Rattle.book.specs.Selection.{mostSpecificCards}
+use Rattle.most_specific.proofs.Calls.{cards-passed, cards-readable, cards-refused, form-refused}
+use borrow.Author.Needs.{needs}
+use Rattle.most_specific.proofs.most_specific.ask_book.Statement.{statement}
+use Rattle.most_specific.proofs.most_specific.ask_book.Tie as tie
+
+find-cards-requires : tie.Need-find-cards-requires
+find-cards-requires c κs = search needs
+
+has-form-requires : tie.Need-has-form-requires
+has-form-requires c κs = search needs
+
+returns : tie.Need-returns
+returns c = (form-refused (c .before .before .before .before .before .before .before .before .args .limits) (now (c .before .before .before .before .before .before .before .before .args .case)) (now (c .before .before .before .before .before .before .before .before .args .book)) (mostSpecificCards (c .before .before .before .before .before .before .before .before .args .limits) (now (c .before .before .before .before .before .before .before .before .args .case)) (now (c .before .before .before .before .before .before .before .before .args .book))) (sym (c .before .has-form .ensures) ∙ not-true _ (c .if1 .taken)), refl)
+
+read-cards-requires : tie.Need-read-cards-requires
+read-cards-requires c κs = search needs
+
+enum-told : tie.Need-enum-told
+enum-told c = search needs
+
+select-requires : tie.Need-select-requires
+select-requires c κs = (c .before .before .before .before .before .before .before .before .before .before .before .before .before .before .pre .0, (c .before .before .before .before .before .before .before .before .before .before .before .before .before .before .pre .1 .0, (cards-readable (c .before .before .before .before .before .before .before .before .before .before .before .before .before .before .args .limits) (now (c .before .before .before .before .before .before .before .before .before .before .before .before .before .before .args .case)) (now (c .before .before .before .before .before .before .before .before .before .before .before .before .before .before .args .book)) (mostSpecificCards (c .before .before .before .before .before .before .before .before .before .before .before .before .before .before .args .limits) (now (c .before .before .before .before .before .before .before .before .before .before .before .before .before .before .args .case)) (now (c .before .before .before .before .before .before .before .before .before .before .before .before .before .before .args .book))) (sym (c .before .before .before .before .before .before .before .has-form .ensures) ∙ not-false _ (c .before .before .before .before .before .before .if1 .left)) (c .before .before .before .before .before .before .before .before .before .find-cards .result) (c .before .before .before .before .before .before .before .before .before .find-cards .ensures .0) (c .before .before .before .before .read-cards .result) (c .before .before .before .before .read-cards .ensures) _ (c .before .before .before .before .before .before .before .before .before .find-cards .ensures .1) (c .before .before .enum-told .given .1), c .before .before .before .before .before .before .before .before .before .before .before .before .before .before .pre .1 .1)))
+
+enum-known-refusal : tie.Need-enum-known-refusal
+enum-known-refusal c = search needs
+
+same-length : tie.Need-same-length
+same-length c = search needs
+
+returns-2 : tie.Need-returns-2
+returns-2 c =
+    let chosen = c .before .before .select in
+    (cards-passed (c .before .before .before .before .before .before .before .before .before .before .before .before .before .before .before .before .before .args .limits) (now (c .before .before .before .before .before .before .before .before .before .before .before .before .before .before .before .before .before .args .case)) (now (c .before .before .before .before .before .before .before .before .before .before .before .before .before .before .before .before .before .args .book)) (mostSpecificCards (c .before .before .before .before .before .before .before .before .before .before .before .before .before .before .before .before .before .args .limits) (now (c .before .before .before .before .before .before .before .before .before .before .before .before .before .before .before .before .before .args .case)) (now (c .before .before .before .before .before .before .before .before .before .before .before .before .before .before .before .before .before .args .book))) (sym (c .before .before .before .before .before .before .before .before .before .before .has-form .ensures) ∙ not-false _ (c .before .before .before .before .before .before .before .before .before .if1 .left)) (c .before .before .before .before .before .before .before .before .before .before .before .before .find-cards .result) (c .before .before .before .before .before .before .before .before .before .before .before .before .find-cards .ensures .0) (c .before .before .before .before .before .before .before .read-cards .result) (c .before .before .before .before .before .before .before .read-cards .ensures) (c .before .before .before .before .before .enum-told .given .1) (chosen .result) (chosen .ensures .0), chosen .ensures .1)
+
+returns-3 : tie.Need-returns-3
+returns-3 c = (cards-refused (c .before .before .before .before .before .before .before .before .before .before .before .before .before .args .limits) (now (c .before .before .before .before .before .before .before .before .before .before .before .before .before .args .case)) (now (c .before .before .before .before .before .before .before .before .before .before .before .before .before .args .book)) (mostSpecificCards (c .before .before .before .before .before .before .before .before .before .before .before .before .before .args .limits) (now (c .before .before .before .before .before .before .before .before .before .before .before .before .before .args .case)) (now (c .before .before .before .before .before .before .before .before .before .before .before .before .before .args .book))) (sym (c .before .before .before .before .before .before .has-form .ensures) ∙ not-false _ (c .before .before .before .before .before .if1 .left)) (c .before .before .before .before .before .before .before .before .find-cards .result) (c .before .before .before .before .before .before .before .before .find-cards .ensures .0) (c .before .before .before .read-cards .result) (c .before .before .before .read-cards .ensures) (c .before .refusal .given .0 .0) (c .before .refusal .given .1), refl)
+
+pub ask-book-spec : {M : Type 1} → statement M
+ask-book-spec =
+    tie.close
+    (tie.spec
+    find-cards-requires
+    has-form-requires
+    returns
+    read-cards-requires
+    enum-told
+    select-requires
+    enum-known-refusal
+    same-length
+    returns-2
+    returns-3)

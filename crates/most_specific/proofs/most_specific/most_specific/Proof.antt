@@ -1,0 +1,54 @@
+-- 1, the case, and then the book.
+use denote.Ref.{now}
+use native.Mathlib.Omega.{arith}
+use Rattle.most_specific.proofs.Calls.{case-passed, case-readable, case-refused, short-call}
+use borrow.Author.Needs.{needs}
+use Rattle.most_specific.proofs.most_specific.most_specific.Statement.{statement}
+use Rattle.most_specific.proofs.most_specific.most_specific.Tie as tie
+
+half-size-requires : tie.Need-half-size-requires
+half-size-requires c κs = search needs
+
+add-if1 : tie.Need-add-if1
+add-if1 c = search needs
+
+returns : tie.Need-returns
+returns c = short-call (c .before .before .before .before .before .args .limits) (now (c .before .before .before .before .before .args .case)) (now (c .before .before .before .before .before .args .book)) (now (c .before .before .before .before .before .args .work)) (omega (arith, c .before .half-size .ensures, c .if1 .taken))
+
+read-requires : tie.Need-read-requires
+read-requires c κs = search needs
+
+enum-told : tie.Need-enum-told
+enum-told c = search needs
+
+ask-book-requires : tie.Need-ask-book-requires
+ask-book-requires c κs = (c .before .before .before .before .before .before .before .before .before .pre, (case-readable (c .before .before .before .before .before .before .before .before .before .args .limits) (now (c .before .before .before .before .before .before .before .before .before .args .case)) (now (c .before .before .before .before .before .before .before .before .before .args .book)) (now (c .before .before .before .before .before .before .before .before .before .args .work)) (omega (arith, c .before .before .before .before .before .half-size .ensures, c .before .before .before .before .if1 .left)) (c .before .before .before .read .result) (c .before .before .before .read .ensures) (c .before .enum-told .given .0 .0) (c .before .enum-told .given .1), omega (arith, c .before .before .before .before .before .half-size .ensures, c .before .before .before .before .if1 .left)))
+
+enum-known-refusal : tie.Need-enum-known-refusal
+enum-known-refusal c = search needs
+
+same-length : tie.Need-same-length
+same-length c = search needs
+
+returns-2 : tie.Need-returns-2
+returns-2 c =
+    let asked = c .before .before .ask-book in
+    case-passed (c .before .before .before .before .before .before .before .before .before .before .before .before .args .limits) (now (c .before .before .before .before .before .before .before .before .before .before .before .before .args .case)) (now (c .before .before .before .before .before .before .before .before .before .before .before .before .args .book)) (now (c .before .before .before .before .before .before .before .before .before .before .before .before .args .work)) (omega (arith, c .before .before .before .before .before .before .before .before .half-size .ensures, c .before .before .before .before .before .before .before .if1 .left)) (c .before .before .before .before .before .before .read .result) (c .before .before .before .before .before .before .read .ensures) (c .before .before .before .before .enum-told .given .0 .0) (c .before .before .before .before .enum-told .given .1) (asked .result) (asked .last .1 .1 .1 .0) (asked .ensures)
+
+returns-3 : tie.Need-returns-3
+returns-3 c = case-refused (c .before .before .before .before .before .before .before .before .before .args .limits) (now (c .before .before .before .before .before .before .before .before .before .args .case)) (now (c .before .before .before .before .before .before .before .before .before .args .book)) (now (c .before .before .before .before .before .before .before .before .before .args .work)) (omega (arith, c .before .before .before .before .before .half-size .ensures, c .before .before .before .before .if1 .left)) (c .before .before .before .read .result) (c .before .before .before .read .ensures) (c .before .refusal .given .0 .0) (c .before .refusal .given .1)
+
+pub most-specific-spec : {M : Type 1} → statement M
+most-specific-spec =
+    tie.close
+    (tie.spec
+    half-size-requires
+    add-if1
+    returns
+    read-requires
+    enum-told
+    ask-book-requires
+    enum-known-refusal
+    same-length
+    returns-2
+    returns-3)

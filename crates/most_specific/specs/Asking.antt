@@ -1,0 +1,15 @@
+-- The questions that are left at each step of the call. Nobody has to believe these.
+--   afterCards   those after 2 to 13 of the cards
+--   afterCase    those after 2 to 13 of the case
+use Prim.Native.Nat.{ℕ}
+use mathlib.Core.List.{List}
+use Rattle.table.specs.declared.layout.Limits.{Limits}
+use Rattle.book.specs.Call.{andThen, askedFrom, cardMerged, cardRead, caseMerged, formAsked}
+use Rattle.book.specs.Form.{cardCount}
+use Rattle.book.specs.declared.answer.Asked.{Asked}
+
+abbrev pub afterCards : Limits → List ℕ → List ℕ → Asked
+afterCards limits case book = andThen (caseMerged limits case) (askedFrom (cardMerged limits book) (cardCount book) 0)
+
+abbrev pub afterCase : Limits → List ℕ → List ℕ → Asked
+afterCase limits case book = andThen (formAsked book) (andThen (askedFrom (cardRead limits book) (cardCount book) 0) (afterCards limits case book))

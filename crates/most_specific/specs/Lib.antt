@@ -1,0 +1,2 @@
+-- The questions in turn.
+pub mod Asking

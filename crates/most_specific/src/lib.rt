@@ -1,0 +1,2 @@
+// The sixth call.
+pub mod most_specific;

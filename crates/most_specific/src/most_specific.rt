@@ -1,0 +1,136 @@
+// The sixth call: question 1, the case, the book's form, its cards, 14 of each, and the word of the most specific cards.
+use book::answer::Asked;
+use book::answer::Selected;
+use book_form::form::PLACES;
+use book_form::form::find_cards;
+use book_form::form::has_form;
+use book_selection::compare::select_cards;
+use book_tables::kept::SPANS;
+use book_tables::kept::TABLE;
+use book_tables::weigh::weigh_book;
+use picture::answer::Answer;
+use picture::answer::Input;
+use picture::answer::Refusal;
+use picture::read::read;
+use prepare::prepare::half_size;
+use table::layout::HEAD_SIZE;
+use table::layout::Limits;
+ghost use mathlib.Core.Path.{_≡_};
+ghost use Prim.Native.Nat.{ℕ, _≤_, _<_};
+ghost use lib.ListN.{length};
+ghost use Rattle.table.specs.Bounds.{Bounded};
+ghost use Rattle.table.specs.Put.{put, zeros};
+ghost use Rattle.picture.specs.Read.{answerOf};
+ghost use Rattle.picture.specs.View.{Readable};
+ghost use Rattle.workspace.specs.Prepare.{workSize};
+ghost use Rattle.book.specs.Call.{askedFrom, cardRead, mostSpecificAnswer, mostSpecificWork, onAsked, onSelected};
+ghost use Rattle.book.specs.Form.{card};
+ghost use Rattle.book.specs.Selection.{mostSpecificCards};
+ghost use Rattle.book_tables.specs.Tables.{CardsRead};
+ghost use Rattle.most_specific.specs.Asking.{afterCase, afterCards};
+ghost use Rattle.book_form.specs.Places.{Placed};
+
+// 2 to 13 of card k.
+fn read_card(
+    book: &[u8],
+    places: &[usize; PLACES],
+    count: usize,
+    k: usize,
+    limits: Limits,
+) -> Answer
+    requires { ⌜ (Bounded limits) × ((Placed (now book) (now places) count) × (k < count)) ⌝ }
+    ensures { λ r. ⌜ r ≡ answerOf limits (Input.Card k) (card (now (book .entry)) k) ⌝ }
+{
+    let start = places[k] + HEAD_SIZE;
+    let end = places[k + 1];
+    read(&book[start..end], limits, Input::Card(k as u8))
+}
+
+// 2 to 13 of each card in turn.
+fn read_cards(book: &[u8], places: &[usize; PLACES], count: usize, limits: Limits) -> Asked
+    requires { ⌜ (Bounded limits) × (Placed (now book) (now places) count) ⌝ }
+    ensures { λ r. ⌜ r ≡ askedFrom (cardRead limits (now (book .entry))) count 0 ⌝ }
+{
+    let mut k = 0;
+    while k < count {
+        match read_card(book, places, count, k, limits) {
+            Answer::Rows(_) => {
+                k += 1;
+            }
+            Answer::Refused(refusal) => {
+                return Asked::No(refusal);
+            }
+        }
+    }
+    Asked::Yes
+}
+
+// 14 of the case and of each card; then the word.
+fn select(
+    case: &[u8],
+    book: &[u8],
+    places: &[usize; PLACES],
+    count: usize,
+    limits: Limits,
+    work: &mut [u8],
+) -> Selected
+    requires { ⌜ (Bounded limits) × ((Readable limits (now case)) × ((CardsRead limits (now book) (now places) count) × (workSize limits ≤ length (now work)))) ⌝ }
+    ensures { λ r. ⌜ (r ≡ onAsked (afterCards limits (now (case .entry)) (now (book .entry))) (mostSpecificCards limits (now (case .entry)) (now (book .entry)))) × (now (work .exit) ≡ onSelected r (put (now (work .entry)) 0 (zeros (workSize limits))) (now (work .entry))) ⌝ }
+{
+    let mut kept = [0u8; TABLE];
+    let mut spans = [0usize; SPANS];
+    match weigh_book(case, book, places, count, limits, &mut kept, &mut spans) {
+        Selected::Cards(covering) => {
+            let half = half_size(limits);
+            let size = half + half;
+            Selected::Cards(select_cards(
+                book,
+                places,
+                count,
+                limits,
+                &kept,
+                &spans,
+                covering,
+                &mut work[..size],
+            ))
+        }
+        Selected::Refused(refusal) => Selected::Refused(refusal),
+    }
+}
+
+// 24, the cards, and what comes after them.
+fn ask_book(case: &[u8], book: &[u8], limits: Limits, work: &mut [u8]) -> Selected
+    requires { ⌜ (Bounded limits) × ((Readable limits (now case)) × (workSize limits ≤ length (now work))) ⌝ }
+    ensures { λ r. ⌜ (r ≡ onAsked (afterCase limits (now (case .entry)) (now (book .entry))) (mostSpecificCards limits (now (case .entry)) (now (book .entry)))) × (now (work .exit) ≡ onSelected r (put (now (work .entry)) 0 (zeros (workSize limits))) (now (work .entry))) ⌝ }
+{
+    let mut places = [0usize; PLACES];
+    let count = find_cards(book, &mut places);
+    if !has_form(book, &places, count) {
+        return Selected::Refused(Refusal {
+            number: 24,
+            input: Input::Book,
+        });
+    }
+    match read_cards(book, &places, count, limits) {
+        Asked::Yes => select(case, book, &places, count, limits, work),
+        Asked::No(refusal) => Selected::Refused(refusal),
+    }
+}
+
+// The call: 1; the case; the book. Nothing is written before 14 is answered yes for all.
+pub fn most_specific(case: &[u8], book: &[u8], limits: Limits, work: &mut [u8]) -> Selected
+    requires { ⌜ Bounded limits ⌝ }
+    ensures { λ r. ⌜ (r ≡ mostSpecificAnswer limits (now (case .entry)) (now (book .entry)) (length (now (work .entry)))) × (now (work .exit) ≡ mostSpecificWork limits (now (case .entry)) (now (book .entry)) (now (work .entry))) ⌝ }
+{
+    let half = half_size(limits);
+    if work.len() < half + half {
+        return Selected::Refused(Refusal {
+            number: 1,
+            input: Input::Buffer,
+        });
+    }
+    match read(case, limits, Input::First) {
+        Answer::Rows(_) => ask_book(case, book, limits, work),
+        Answer::Refused(refusal) => Selected::Refused(refusal),
+    }
+}

@@ -1,0 +1,2 @@
+-- The two tables in the work space.
+pub mod Tables

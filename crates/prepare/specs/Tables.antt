@@ -1,0 +1,25 @@
+-- Where the two tables stand in the work space. Nobody has to believe these.
+--   firstIn, secondIn   the tables of so many rows in the work space
+--   TablesIn            they are there, each as the code needs it
+use Prim.Native.Nat.{ℕ, _≤_}
+use lib.ListN.{drop, length, take}
+use mathlib.Core.List.{List}
+use Rattle.table.specs.Bounds.{pictureSize}
+use Rattle.table.specs.Layout.{endSize, «place»}
+use Rattle.table.specs.declared.layout.Limits.{Limits}
+use Rattle.row_sets.specs.Rows.{Checked}
+use Rattle.workspace.specs.Prepare.{workSize}
+use Rattle.workspace.specs.declared.prepare.Pair.{Pair}
+
+abbrev pub firstIn : Pair → List ℕ → List ℕ
+firstIn pair work = take (place (pair .first) endSize) work
+
+abbrev pub secondIn : Limits → Pair → List ℕ → List ℕ
+secondIn limits pair work = take (place (pair .second) endSize) (drop (pictureSize limits) work)
+
+pub record TablesIn (limits : Limits) (work : List ℕ) (pair : Pair) : Type 0 where
+  pub room : workSize limits ≤ length work
+  pub first-fits : place (pair .first) endSize ≤ pictureSize limits
+  pub second-fits : place (pair .second) endSize ≤ pictureSize limits
+  pub first-checked : Checked (firstIn pair work) (pair .first)
+  pub second-checked : Checked (secondIn limits pair work) (pair .second)

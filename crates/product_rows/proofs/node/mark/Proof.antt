@@ -1,0 +1,13 @@
+-- By its test.
+use borrow.Author.Tests.{eq-eqb, ne-eqb}
+use Rattle.product_rows.proofs.node.mark.Statement.{statement}
+use Rattle.product_rows.proofs.node.mark.Tie as tie
+
+returns : tie.Need-returns
+returns c = simp (eq-eqb _ _ (c .if1 .taken))
+
+returns-2 : tie.Need-returns-2
+returns-2 c = simp (ne-eqb _ _ (c .if1 .left))
+
+pub mark-spec : {M : Type 1} → statement M
+mark-spec = tie.close (tie.spec returns returns-2)

@@ -1,0 +1,3 @@
+-- The laws of the pairs that are made.
+pub mod Pairings
+pub mod Grafts

@@ -1,0 +1,2 @@
+-- What the parts of the writer make of two tables.
+pub mod Tables

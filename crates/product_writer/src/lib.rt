@@ -1,0 +1,2 @@
+// The product of two tables, made depth first along both.
+pub mod graft;

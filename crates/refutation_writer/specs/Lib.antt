@@ -1,0 +1,2 @@
+-- What the parts of the writer write.
+pub mod Refuting

@@ -1,0 +1,3 @@
+// The refutation that is written.
+pub mod refute;
+pub mod writer;

@@ -1,0 +1,27 @@
+-- What the writer needs of a picture is true of one that reads as rows.
+use Prim.Native.Nat.{ℕ}
+use mathlib.Core.List.{List}
+use mathlib.Core.Path.{_≡_, sym}
+use native.Mathlib.Omega.{arith}
+use Rattle.picture.proofs.Readables.{readable-count, readable-kind, readable-length, readable-most, readable-parent, readable-role, readable-some}
+use Rattle.picture.specs.Read.{readingOf}
+use Rattle.picture.specs.View.{Readable}
+use Rattle.table.specs.Bounds.{Bounded}
+use Rattle.table.specs.declared.layout.Limits.{Limits}
+use Rattle.picture.specs.declared.read.Reading.the-variants.{Rows}
+use Rattle.row_sets.specs.Rows.{Checked}
+
+pub readable-checked : (limits : Limits) (s : List ℕ) (n : ℕ) → readingOf limits s ≡ Rows n → Bounded limits → Checked s n
+readable-checked limits s n reads bounded =
+    let readable : Readable limits s = record { rows = n; reads = reads } in
+    let count = readable-count limits s readable in
+    let most = readable-most limits s readable in
+    record {
+      some = omega (arith, count, readable-some limits s readable);
+      most = omega (arith, count, most, bounded .0);
+      whole = omega (arith, count, readable-length limits s readable);
+      counted = sym count;
+      parents = λ j later l. readable-parent limits s readable j later (omega (arith, count));
+      kinds = λ j later l. readable-kind limits s readable j later (omega (arith, count));
+      roles-below = λ j l. readable-role limits s readable j (omega (arith, count));
+    }

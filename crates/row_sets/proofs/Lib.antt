@@ -1,0 +1,7 @@
+-- The laws of sets of rows, by subject.
+pub mod Words
+pub mod Links
+pub mod Masks
+pub mod LabelLaws
+pub mod Gathers
+pub mod Checks

@@ -1,0 +1,3 @@
+-- Sets of rows, by their words, links and masks; labels and what hangs from a set.
+pub mod Rows
+pub mod Labels

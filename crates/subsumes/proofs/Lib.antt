@@ -1,0 +1,2 @@
+-- The laws of the call as the code makes it.
+pub mod Decisions

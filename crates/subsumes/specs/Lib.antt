@@ -1,0 +1,2 @@
+-- The verdict on two tables.
+pub mod Tables

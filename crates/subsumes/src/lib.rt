@@ -1,0 +1,3 @@
+// The third call.
+pub mod subsumes;
+pub mod verdict;
