@@ -2,7 +2,7 @@
 use table::layout::HEAD_SIZE;
 use table::layout::LENGTH_AT;
 use table::number::load16;
-use table::row::ends_at;
+use table_rows::row::ends_at;
 ghost use mathlib.Core.Path.{_≡_};
 ghost use mathlib.Core.Bool.{true};
 ghost use Prim.Native.Nat.{ℕ, _+_, _≤_};

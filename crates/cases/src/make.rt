@@ -1,6 +1,5 @@
 // Pictures, good or not. Each function gives the place after what it wrote; those that go byte by byte write nothing where
 // there is no room.
-use table::builder::Builder;
 use table::layout::END_SIZE;
 use table::layout::END_TAG;
 use table::layout::KIND_EXISTS;
@@ -12,6 +11,7 @@ use table::layout::ROW_TAG;
 use table::names::Names;
 use table::number::copy_in;
 use table::row::Row;
+use table_rows::builder::Builder;
 ghost use Prim.Native.Nat.{_≤_};
 ghost use lib.ListN.{length};
 ghost use Rattle.table.specs.Layout.{«place», endSize};

@@ -6,7 +6,7 @@ use normal::normalize::Normalized;
 use normalize::normalize::normalize;
 use picture::answer::Answer;
 use picture::answer::Input;
-use picture::read::read;
+use picture_reader::read::read;
 use table::layout::END_SIZE;
 use table::layout::Limits;
 use table::layout::MAX_ROWS;

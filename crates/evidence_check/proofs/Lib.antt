@@ -1,3 +1,2 @@
 -- The laws of the check as the code makes it.
-pub mod MapLaws
 pub mod CheckLaws

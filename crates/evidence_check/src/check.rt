@@ -1,16 +1,16 @@
 // The check of evidence against two tables.
 use crate::form::form_of;
-use crate::map::map_asked;
 use evidence::asked::Asked;
 use evidence::check::Verified;
 use evidence::form::Form;
-use model_check::individual::count;
-use model_check::individual::individuals_ok;
-use model_check::links::INDIVIDUAL_LINKS;
-use model_check::links::fill_links;
+use map_check::map::map_asked;
 use model_check::model::fits_table;
 use picture::answer::Input;
 use picture::answer::Refusal;
+use refutation_reader::individual::count;
+use refutation_reader::individual::individuals_ok;
+use refutation_reader::links::INDIVIDUAL_LINKS;
+use refutation_reader::links::fill_links;
 use table::layout::Limits;
 ghost use mathlib.Core.Path.{_≡_};
 ghost use Prim.Native.Nat.{ℕ};

@@ -2,12 +2,12 @@
 use evidence::form::Form;
 use map_writer::layout::MAP_TAG;
 use map_writer::layout::image_place;
-use model_check::individual::has_refutation_form;
+use refutation_reader::individual::has_refutation_form;
 use table::layout::LENGTH_AT;
 use table::layout::Limits;
 use table::layout::NUMBER_SIZE;
 use table::number::load16;
-use table::row::ends_at;
+use table_rows::row::ends_at;
 ghost use mathlib.Core.Path.{_≡_};
 ghost use Prim.Native.Nat.{ℕ, _≤_};
 ghost use Rattle.table.specs.Bounds.{Bounded, maxRows};

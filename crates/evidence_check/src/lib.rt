@@ -1,5 +1,4 @@
-// The fifth call: the form of evidence (16), a map row by row (17 to 20), a refutation (21 to 23).
+// The fifth call: the form of evidence (16), a map (17 to 20), a refutation (21 to 23).
 pub mod check;
 pub mod form;
-pub mod map;
 pub mod verify;

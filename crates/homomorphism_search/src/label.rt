@@ -1,8 +1,8 @@
 // The label of a row, and whether another row's label carries it.
 use row_sets::label::Label;
-use table::row::excluded;
-use table::row::impossible;
-use table::row::wanted;
+use table_rows::row::excluded;
+use table_rows::row::impossible;
+use table_rows::row::wanted;
 ghost use mathlib.Core.List.{List};
 ghost use mathlib.Core.Path.{_≡_};
 ghost use Prim.Native.Nat.{ℕ};

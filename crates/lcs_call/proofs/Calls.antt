@@ -28,7 +28,7 @@ use Rattle.table.specs.Bounds.{Bounded, pictureSize}
 use Rattle.table.specs.Fields.{endBytes}
 use Rattle.table.specs.Layout.{endSize, «place»}
 use Rattle.table.specs.Put.{put}
-use Rattle.table.specs.declared.builder.Builder.{Builder}
+use Rattle.table_rows.specs.declared.builder.Builder.{Builder}
 use Rattle.table.specs.declared.layout.Limits.{Limits}
 use Rattle.prepare.proofs.TablesIn.{prepared-pair, prepared-tables}
 use Rattle.workspace.specs.Lent.{pairWork, roomy}

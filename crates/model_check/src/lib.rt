@@ -1,5 +1,2 @@
-// A refutation read: its form, its individuals by number, question 21, and whether individual 0 fits a table.
-pub mod individual;
-pub mod layout;
-pub mod links;
+// The model check: whether individual 0 fits a table.
 pub mod model;

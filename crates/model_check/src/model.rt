@@ -1,18 +1,18 @@
 // 22 and 23: whether an individual of a refutation fits a row of a table. An individual and a row meet at most once, for each is reached from one
 // other only; so the work is bounded by individuals times rows.
-use crate::individual::names;
-use crate::individual::role as individual_role;
-use crate::layout::MAX_INDIVIDUALS;
-use crate::links::INDIVIDUAL_LINKS;
 use homomorphism_search::label::label_at;
+use refutation_reader::individual::names;
+use refutation_reader::individual::role as individual_role;
+use refutation_reader::layout::MAX_INDIVIDUALS;
+use refutation_reader::links::INDIVIDUAL_LINKS;
 use row_sets::label::Label;
 use row_sets::rows::LINKS;
 use row_sets::rows::fill_links;
 use table::layout::KIND_FOR_ALL;
 use table::layout::MAX_ROWS;
 use table::number::wide;
-use table::row::kind;
-use table::row::role;
+use table_rows::row::kind;
+use table_rows::row::role;
 ghost use mathlib.Core.List.{List};
 ghost use mathlib.Core.Path.{_≡_};
 ghost use Prim.Native.Nat.{ℕ, _<_};

@@ -11,7 +11,7 @@ use book_tables::weigh::weigh_book;
 use picture::answer::Answer;
 use picture::answer::Input;
 use picture::answer::Refusal;
-use picture::read::read;
+use picture_reader::read::read;
 use prepare::prepare::half_size;
 use table::layout::HEAD_SIZE;
 use table::layout::Limits;

@@ -1,10 +1,10 @@
 // A merged row as it is written and left. A table under construction is a value, so a row that is inconsistent or dropped is given up by
 // going on from the earlier value.
 use row_sets::label::Label;
-use table::builder::Builder;
 use table::layout::KIND_FOR_ALL;
 use table::names::Names;
 use table::row::Row;
+use table_rows::builder::Builder;
 ghost use mathlib.Core.Path.{_≡_};
 ghost use mathlib.Core.Bool.{_||_, false, not};
 ghost use Prim.Native.Nat.{_+_, _≤_, _<_};

@@ -1,10 +1,10 @@
 // A half of the work space: a table from the first byte on, and zeros up to the longest picture's length.
 use crate::normalize::write_table;
-use table::builder::Builder;
 use table::layout::END_SIZE;
 use table::layout::Limits;
 use table::layout::place;
 use table::number::clear;
+use table_rows::builder::Builder;
 ghost use mathlib.Core.Path.{_≡_};
 ghost use mathlib.Core.List.{_++_};
 ghost use Prim.Native.Nat.{ℕ, _≤_};

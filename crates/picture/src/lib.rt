@@ -1,4 +1,4 @@
-// The picture reader: questions 2 to 13 of paper 01, asked field by field, with the number of the first that is answered no.
+// Pictures: questions 2 to 13 and what they leave of a file; the answer types. Definitions and laws; the code is in picture_reader.
 pub mod answer;
 pub mod field;
 pub mod read;

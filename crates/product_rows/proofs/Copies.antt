@@ -11,7 +11,7 @@ use mathlib.Core.Path.{_∙_, _≡_, ap, refl, sym}
 use native.Mathlib.Omega.{arith}
 use Rattle.table.specs.Bounds.{maxRows}
 use Rattle.table.specs.Fields.{kindOf, roleOf}
-use Rattle.table.specs.declared.builder.Builder.{Builder}
+use Rattle.table_rows.specs.declared.builder.Builder.{Builder}
 use Rattle.ale.specs.Forest.{append}
 use Rattle.ale.specs.PictureSignature.{pictureSignature}
 use Rattle.ale.specs.Tree.{Forest, Tree, cons, nil, node, size, successorsOf}

@@ -21,7 +21,7 @@ use Rattle.table.specs.Fields.{rowOf}
 use Rattle.table.specs.Layout.{kindForAll, kindRoot, «place», rowSize}
 use Rattle.table.specs.NameSet.{intersection, setOf}
 use Rattle.table.specs.Pick.{pick}
-use Rattle.table.specs.declared.builder.Builder.{Builder}
+use Rattle.table_rows.specs.declared.builder.Builder.{Builder}
 use Rattle.ale.specs.Encoding.{Row, encodeForest}
 use Rattle.ale.specs.Forest.{consReduced, dropped, isNil}
 use Rattle.ale.specs.PictureSignature.{pictureSignature}

@@ -15,7 +15,7 @@ use Rattle.table.specs.Fields.{rowOf}
 use Rattle.table.specs.Layout.{kindForAll, «place»}
 use Rattle.table.specs.NameSet.{setOf}
 use Rattle.table.specs.Put.{put}
-use Rattle.table.specs.declared.builder.Builder.{Builder}
+use Rattle.table_rows.specs.declared.builder.Builder.{Builder}
 use Rattle.table.specs.declared.layout.Limits.{Limits}
 use Rattle.ale.specs.Encoding.{encode, encodeForest}
 use Rattle.ale.specs.PictureSignature.{pictureSignature}

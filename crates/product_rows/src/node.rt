@@ -3,9 +3,9 @@
 // therefore not written, and nothing may hang from it.
 use normal_writer::node::Edge;
 use row_sets::label::Label;
-use table::builder::Builder;
 use table::layout::KIND_FOR_ALL;
 use table::row::Row;
+use table_rows::builder::Builder;
 ghost use mathlib.Core.Path.{_≡_};
 ghost use mathlib.Core.Bool.{false};
 ghost use Prim.Native.Nat.{ℕ, _+_, _≤_, _<_};

@@ -11,7 +11,7 @@ use mathlib.Core.List.{List}
 use mathlib.Core.Path.{_∙_, _≡_, ap, refl, sym}
 use Rattle.table.specs.NameSet.{intersection, setOf}
 use Rattle.table.specs.Pick.{pick}
-use Rattle.table.specs.declared.builder.Builder.{Builder}
+use Rattle.table_rows.specs.declared.builder.Builder.{Builder}
 use Rattle.ale.proofs.PairWalks.{pairForest-walk, picture-equal}
 use Rattle.ale.proofs.Pairs.{pairForest}
 use Rattle.ale.specs.Forest.{consReduced}

@@ -14,7 +14,7 @@ use mathlib.Core.Path.{_∙_, _≡_, ap, refl, subst, sym}
 use native.Mathlib.Omega.{arith}
 use Rattle.table.specs.Bounds.{maxRows}
 use Rattle.table.specs.Fields.{kindOf, roleOf}
-use Rattle.table.specs.declared.builder.Builder.{Builder}
+use Rattle.table_rows.specs.declared.builder.Builder.{Builder}
 use Rattle.ale.proofs.PairWalks.{KeysFrom, each-on, each-past, key-kind, ordered-keys, pairForest-walk, pairWalk, picture-equal}
 use Rattle.ale.specs.Forest.{append, consReduced}
 use Rattle.ale.specs.PictureSignature.{pictureSignature}

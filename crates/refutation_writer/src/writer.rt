@@ -1,17 +1,17 @@
 // An individual more in a refutation file, and the canonical model of a row.
-use model_check::layout::INDIVIDUAL_LENGTH;
-use model_check::layout::INDIVIDUAL_TAG;
-use model_check::layout::NAMES_AT;
-use model_check::layout::individual_place;
+use refutation_reader::layout::INDIVIDUAL_LENGTH;
+use refutation_reader::layout::INDIVIDUAL_TAG;
+use refutation_reader::layout::NAMES_AT;
+use refutation_reader::layout::individual_place;
 use row_sets::rows::LINKS;
 use table::layout::KIND_EXISTS;
 use table::layout::MAX_ROWS;
 use table::names::Names;
 use table::number::copy_in;
 use table::number::wide;
-use table::row::kind;
-use table::row::role as row_role;
-use table::row::wanted;
+use table_rows::row::kind;
+use table_rows::row::role as row_role;
+use table_rows::row::wanted;
 ghost use mathlib.Core.Path.{_≡_};
 ghost use Prim.Native.Nat.{ℕ, _<_, _≤_};
 ghost use lib.ListN.{length};

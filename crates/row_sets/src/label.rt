@@ -1,8 +1,8 @@
 // The label of a set of rows: the unions of the names, and whether any is marked. The mark is a word, so that a label is words alone.
 use table::names::Names;
-use table::row::excluded;
-use table::row::impossible;
-use table::row::wanted;
+use table_rows::row::excluded;
+use table_rows::row::impossible;
+use table_rows::row::wanted;
 ghost use mathlib.Core.Path.{_≡_};
 ghost use mathlib.Core.Bool.{_&&_, _||_, false};
 ghost use Prim.Native.Nat.{ℕ, _<_};

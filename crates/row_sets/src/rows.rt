@@ -2,9 +2,9 @@
 use table::layout::MAX_ROWS;
 use table::layout::ROLES;
 use table::number::wide;
-use table::row::kind;
-use table::row::parent;
-use table::row::role;
+use table_rows::row::kind;
+use table_rows::row::parent;
+use table_rows::row::role;
 ghost use mathlib.Core.Path.{_≡_};
 ghost use mathlib.Core.Bool.{Bool, _&&_, _||_, false, true};
 ghost use Prim.Native.Nat.{ℕ, _+_, _*_, _/_, _%_, _^_, _≤_, _<_};

@@ -1,12 +1,12 @@
 // The third call: question 1, both pictures into the work space, the verdict, and the evidence into the result buffer.
 use crate::verdict::decide;
-use model_check::layout::individual_place;
-use model_check::layout::individuals_within;
 use picture::answer::Input;
 use picture::answer::Refusal;
 use prepare::prepare::half_size;
 use prepare::prepare::has_room;
 use prepare::prepare::prepare;
+use refutation_reader::layout::individual_place;
+use refutation_reader::layout::individuals_within;
 use subsumption::verdict::Verdict;
 use table::layout::END_SIZE;
 use table::layout::Limits;

@@ -13,7 +13,7 @@ use normal::normalize::Normalized;
 use normalize::normalize::normalize;
 use picture::answer::Answer;
 use picture::answer::Input;
-use picture::read::read;
+use picture_reader::read::read;
 use subsumes::subsumes::subsumes;
 use subsumption::verdict::Verdict;
 use table::layout::Limits;

@@ -29,7 +29,7 @@ use Rattle.homomorphism_search.proofs.label.label_at.Reads as label-at-
 use Rattle.homomorphism_search.proofs.label.label_within.Reads as label-within-reads
 use Rattle.homomorphism_search.proofs.search.same_edge.Reads as same-edge-reads
 use Rattle.table.proofs.number.wide.Reads as wide-reads
-use Rattle.table.proofs.row.impossible.Reads as impossible-reads
+use Rattle.table_rows.proofs.row.impossible.Reads as impossible-reads
 use Rattle.homomorphism_search.proofs.search.+lowest_image+row_maps+unserved.{statement}
 use Rattle.homomorphism_search.proofs.search.+lowest_image+row_maps+unserved.Tie.{close}
 

@@ -24,13 +24,13 @@ use Rattle.model_check.proofs.model.+below+fits+restricted.Lts-fits as 
 use Rattle.model_check.proofs.model.restricted.Reads as restricted
 use Rattle.model_check.proofs.model.restricted.Kinds as restricted-kinds
 use Rattle.model_check.proofs.model.+below+fits+restricted.Lts-restricted as restricted-lts
-use Rattle.model_check.proofs.individual.role.Reads as individual-role-reads
+use Rattle.refutation_reader.proofs.individual.role.Reads as individual-role-reads
 use Rattle.model_check.proofs.model.index.Reads as index-reads
 use Rattle.homomorphism_search.proofs.label.label_at.Reads as label-at-reads
 use Rattle.model_check.proofs.model.satisfies.Reads as satisfies-reads
 use Rattle.table.proofs.number.wide.Reads as wide-reads
-use Rattle.table.proofs.row.kind.Reads as kind-reads
-use Rattle.table.proofs.row.role.Reads as row-role-reads
+use Rattle.table_rows.proofs.row.kind.Reads as kind-reads
+use Rattle.table_rows.proofs.row.role.Reads as row-role-reads
 use Rattle.model_check.proofs.model.+below+fits+restricted.{statement}
 use Rattle.model_check.proofs.model.+below+fits+restricted.Tie.{close}
 

@@ -31,8 +31,8 @@ use Rattle.homomorphism_search.proofs.label.label_at.Reads as label-at-reads
 use Rattle.product_rows.proofs.node.beyond.Reads as beyond-reads
 use Rattle.product_rows.proofs.node.push_row.Reads as push-row-reads
 use Rattle.table.proofs.number.wide.Reads as wide-reads
-use Rattle.table.proofs.row.kind.Reads as kind-reads
-use Rattle.table.proofs.row.role.Reads as role-reads
+use Rattle.table_rows.proofs.row.kind.Reads as kind-reads
+use Rattle.table_rows.proofs.row.role.Reads as role-reads
 use Rattle.product_rows.proofs.copy.+copy_below+copy_tree.{statement}
 use Rattle.product_rows.proofs.copy.+copy_below+copy_tree.Tie.{close}
 

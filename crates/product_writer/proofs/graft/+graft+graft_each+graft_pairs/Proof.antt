@@ -45,8 +45,8 @@ use Rattle.product_rows.proofs.node.enter.Reads as enter-reads
 use Rattle.product_rows.proofs.node.is_kept.Reads as is-kept-reads
 use Rattle.product_rows.proofs.node.leave.Reads as leave-reads
 use Rattle.table.proofs.number.wide.Reads as wide-reads
-use Rattle.table.proofs.row.kind.Reads as kind-reads
-use Rattle.table.proofs.row.role.Reads as role-reads
+use Rattle.table_rows.proofs.row.kind.Reads as kind-reads
+use Rattle.table_rows.proofs.row.role.Reads as role-reads
 use Rattle.product_writer.proofs.graft.+graft+graft_each+graft_pairs.{statement}
 use Rattle.product_writer.proofs.graft.+graft+graft_each+graft_pairs.Tie.{close}
 

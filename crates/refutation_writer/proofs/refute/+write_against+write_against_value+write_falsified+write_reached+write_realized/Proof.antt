@@ -47,10 +47,10 @@ use Rattle.refutation_writer.proofs.writer.write_individual.Reads as wr
 use Rattle.table.proofs.names.Names.complement.Reads as complement-reads
 use Rattle.table.proofs.names.Names.subset.Reads as subset-reads
 use Rattle.table.proofs.number.wide.Reads as wide-reads
-use Rattle.table.proofs.row.excluded.Reads as excluded-reads
-use Rattle.table.proofs.row.kind.Reads as kind-reads
-use Rattle.table.proofs.row.role.Reads as role-reads
-use Rattle.table.proofs.row.wanted.Reads as wanted-reads
+use Rattle.table_rows.proofs.row.excluded.Reads as excluded-reads
+use Rattle.table_rows.proofs.row.kind.Reads as kind-reads
+use Rattle.table_rows.proofs.row.role.Reads as role-reads
+use Rattle.table_rows.proofs.row.wanted.Reads as wanted-reads
 use Rattle.refutation_writer.proofs.refute.+write_against+write_against_value+write_falsified+write_reached+write_realized.{
   statement,
 }

@@ -22,9 +22,9 @@ use Rattle.table.proofs.names.Names.complement.Reads as complement-reads
 use Rattle.table.proofs.names.Names.is_none.Reads as is-none-reads
 use Rattle.table.proofs.names.Names.none.Reads as none-reads
 use Rattle.table.proofs.number.wide.Reads as wide-reads
-use Rattle.table.proofs.row.excluded.Reads as excluded-reads
-use Rattle.table.proofs.row.kind.Reads as kind-reads
-use Rattle.table.proofs.row.role.Reads as role-reads
+use Rattle.table_rows.proofs.row.excluded.Reads as excluded-reads
+use Rattle.table_rows.proofs.row.kind.Reads as kind-reads
+use Rattle.table_rows.proofs.row.role.Reads as role-reads
 use Rattle.refutation_writer.proofs.refute.+write_against_top.{statement}
 use Rattle.refutation_writer.proofs.refute.+write_against_top.Tie.{close}
 

@@ -21,9 +21,9 @@ use Rattle.refutation_writer.proofs.writer.write_canonical_below.Kinds 
 use Rattle.refutation_writer.proofs.writer.+write_canonical+write_canonical_below.Lts-write_canonical_below as write-canonical-below-lts
 use Rattle.refutation_writer.proofs.writer.write_individual.Reads as write-individual-reads
 use Rattle.table.proofs.number.wide.Reads as wide-reads
-use Rattle.table.proofs.row.kind.Reads as kind-reads
-use Rattle.table.proofs.row.role.Reads as role-reads
-use Rattle.table.proofs.row.wanted.Reads as wanted-reads
+use Rattle.table_rows.proofs.row.kind.Reads as kind-reads
+use Rattle.table_rows.proofs.row.role.Reads as role-reads
+use Rattle.table_rows.proofs.row.wanted.Reads as wanted-reads
 use Rattle.refutation_writer.proofs.writer.+write_canonical+write_canonical_below.{statement}
 use Rattle.refutation_writer.proofs.writer.+write_canonical+write_canonical_below.Tie.{close}
 

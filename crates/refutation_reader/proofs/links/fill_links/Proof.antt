@@ -1,0 +1,104 @@
+-- At the loop's head the links have the individuals from k on. Each one becomes the lowest of its parent's.
+use Prim.Native.Nat.{_≤_, _<_, _-_}
+use native.Mathlib.Omega.{arith}
+use denote.Ref.{now}
+use Rattle.table.proofs.Links.{LinkedFrom, link-done, link-next, link-none}
+use Rattle.table.proofs.Ranges.{each-at}
+use Rattle.countermodel.specs.Individual.{individualOk, individualParent}
+use Rattle.countermodel.specs.Layout.{mostIndividuals}
+use Rattle.countermodel.proofs.Individuals.{individual-parent}
+use Rattle.refutation_reader.proofs.links.fill_links.Statement.{statement}
+use Rattle.refutation_reader.proofs.links.fill_links.Tie as tie
+
+abbrev Inv-loop : tie.InvT-loop
+Inv-loop e n links₀ k₀ links k = (k ≤ n) × (LinkedFrom (individualParent e) n mostIndividuals k links)
+
+abbrev μ-loop : tie.MeasureT-loop
+μ-loop e n links₀ k₀ links k = k
+
+loop-holds : tie.Need-loop-holds Inv-loop μ-loop
+loop-holds c = (omega arith, link-none _ _ _ _ (c .before .pre .1 .1))
+
+sub-k : tie.Need-sub-k Inv-loop μ-loop
+sub-k c = omega (arith, c .loop-test .taken)
+
+parent-requires : tie.Need-parent-requires Inv-loop μ-loop
+parent-requires c κs =
+    let start = c .before .before .before in
+    let l = c .before .loop in
+    (omega (arith, start .pre .0 .most, l .inv .0, c .loop-test .taken), omega (arith, start .pre .0 .whole, l .inv .0, c .loop-test .taken))
+
+-- the individual's parent stands before it
+above : (c : tie.After-parent Inv-loop μ-loop) → c .parent .result < c .before .before .loop .k - 1
+above c =
+    let start = c .before .before .before .before in
+    let a = start .args in
+    let e = now (a .e) in
+    let l = c .before .before .loop in
+    let more = c .before .loop-test .taken in
+    let ok = each-at (individualOk e) (a .n) 0 (start .pre .1 .0) (l .k - 1) (omega arith) (omega (arith, l .inv .0, more)) in
+    omega (arith, c .parent .ensures .0, individual-parent e (l .k - 1) ok (λ z. omega (arith, more)))
+
+mul-links : tie.Need-mul-links Inv-loop μ-loop
+mul-links c = omega (arith, c .parent .ensures .1)
+
+element-copy-out-links : tie.Need-element-copy-out-links Inv-loop μ-loop
+element-copy-out-links c = omega (arith, above c, c .before .before .before .before .pre .0 .most, c .before .before .loop .inv .0)
+
+add-links : tie.Need-add-links Inv-loop μ-loop
+add-links c = omega (arith, c .before .before .before .before .before .pre .0 .most, c .before .before .before .loop .inv .0)
+
+mul-links-2 : tie.Need-mul-links-2 Inv-loop μ-loop
+mul-links-2 c = omega (arith, c .before .before .before .before .before .pre .0 .most, c .before .before .before .loop .inv .0)
+
+element-write-links : tie.Need-element-write-links Inv-loop μ-loop
+element-write-links c = omega (arith, c .before .before .before .before .before .pre .0 .most, c .before .before .before .loop .inv .0, c .before .before .loop-test .taken)
+
+cast-links : tie.Need-cast-links Inv-loop μ-loop
+cast-links c = omega (arith, c .before .before .before .before .before .pre .0 .most, c .before .before .before .loop .inv .0, c .before .before .loop-test .taken)
+
+mul-links-3 : tie.Need-mul-links-3 Inv-loop μ-loop
+mul-links-3 c = omega (arith, c .before .parent .ensures .1)
+
+element-write-links-2 : tie.Need-element-write-links-2 Inv-loop μ-loop
+element-write-links-2 c = omega (arith, above (c .before), c .before .before .before .before .before .pre .0 .most, c .before .before .before .loop .inv .0)
+
+loop-less : tie.Need-loop-less Inv-loop μ-loop
+loop-less c = omega (arith, c .before .before .loop-test .taken)
+
+loop-again : tie.Need-loop-again Inv-loop μ-loop
+loop-again c =
+    let start = c .before .before .before .before .before in
+    let a = start .args in
+    let l = c .before .before .before .loop in
+    let more = c .before .before .loop-test .taken in (
+      omega (arith, l .inv .0),
+      link-next (individualParent (now (a .e))) (a .n) mostIndividuals (l .k - 1) (l .k) (c .before .parent .result) (l .links) (omega (arith, more)) (λ z. omega (arith, more)) (omega (arith, l .inv .0, more)) (start .pre .0 .most) (c .before .parent .ensures .0) (above (c .before)) (l .inv .1),
+    )
+
+returns : tie.Need-returns Inv-loop μ-loop
+returns c =
+    let a = c .before .before .before .args in
+    let l = c .before .loop in
+    link-done (individualParent (now (a .e))) (a .n) mostIndividuals (l .k) (l .links) (c .loop-test .left) (l .inv .1)
+
+pub fill-links-spec : {M : Type 1} → statement M
+fill-links-spec =
+    tie.close
+    (tie.spec
+    Inv-loop
+    μ-loop
+    loop-holds
+    sub-k
+    parent-requires
+    mul-links
+    element-copy-out-links
+    add-links
+    mul-links-2
+    element-write-links
+    cast-links
+    mul-links-3
+    element-write-links-2
+    loop-less
+    loop-again
+    returns)
