@@ -5,6 +5,8 @@
 # make demo   validate the sample pictures, print their normal tables, ask which subsumes which, check the
 #             sample evidence, print common pictures, look up cards, and run the verdict program
 # make bench  time the library beside the same calls hand-written in C and in Rust
+# make fuzz   fuzz all calls with libFuzzer, each for a minute; or CALL=lcs SECONDS=600
+# make valgrind  run the calls and the smaller C tests under valgrind
 # make clean  remove what the others made
 
 CC = gcc
@@ -13,7 +15,7 @@ LIBRARY = target/staticlib/libzuvaropy.a
 
 PROGRAM = target/bin/verdict
 
-.PHONY: all library program test gate demo bench clean tools
+.PHONY: all library program test gate demo bench fuzz valgrind clean tools
 
 all: library program
 
@@ -67,6 +69,15 @@ bench: library
 	@build/bench/verify
 	@build/bench/lcs
 	@build/bench/most_specific
+
+CALL =
+SECONDS = 60
+
+fuzz: library
+	@CC='$(CC)' sh tests/fuzz/run.sh $(LIBRARY) $(SECONDS) $(CALL)
+
+valgrind: library
+	@CC='$(CC)' sh tests/valgrind/run.sh $(LIBRARY)
 
 clean:
 	rm -rf build target
