@@ -63,8 +63,8 @@ count() {
     failed=$((failed + ${counts#* }))
 }
 
-# objects FOLDER COMPILER..: what the tests share and, in FOLDER/fuzz, what the fuzz targets share besides. Without a part
-# of it no test builds, and each says so.
+# objects FOLDER COMPILER..: what the tests share and, in FOLDER/fuzz, what the fuzz targets share besides. Without a
+# part of it no test builds, and each says so.
 objects() {
     into=$1
     shift

@@ -124,11 +124,12 @@ static int write_seeds(const char *folder, char *const *files, int count)
 
     corpus_seed(&corpus, files, count);
     for (i = 0; i < corpus.count; i++) {
+        const struct fuzz_input *input = &corpus.inputs[i];
         FILE *file;
 
         snprintf(path, sizeof path, "%s/seed-%04lu", folder, (unsigned long)i);
         file = fopen(path, "wb");
-        if (file == NULL || fwrite(corpus.inputs[i].bytes, 1, corpus.inputs[i].length, file) < corpus.inputs[i].length) {
+        if (file == NULL || fwrite(input->bytes, 1, input->length, file) < input->length) {
             perror(path);
             return EXIT_FAILURE;
         }

@@ -18,10 +18,11 @@ static unsigned long answered[ZUVAROPY_OUTCOME_NO + 1];
 void fuzz_lend(struct feed *feed, struct lent *work, struct lent *result, size_t result_needed)
 {
     struct feed choices = *feed;
-    unsigned int i;
+    unsigned int i, choice = 0;
 
     for (i = 0; i < FUZZ_BUFFER_CHOICES; i++)
-        feed_byte(feed);
+        choice = feed_byte(feed);
+    lent_begin((choice & FUZZ_ON_THE_HEAP) == 0);
     if (work != NULL)
         lent_writable(work, &choices, ZUVAROPY_WORK_BYTES);
     if (result != NULL)
@@ -102,7 +103,9 @@ void fuzz_check_met(void)
 
 int fuzz_end(void)
 {
-    if (check_failed() > 0)
+    if (check_failed() > 0) {
+        fflush(stdout);
         abort();
+    }
     return 0;
 }

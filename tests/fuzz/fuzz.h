@@ -25,9 +25,11 @@ extern const struct target fuzz_target;
 
 int LLVMFuzzerTestOneInput(const uint8_t *data, size_t size);
 
-/* Where the choices of the two buffers for writing are: before those of the
- * inputs, also where a call has fewer. */
+/* The choices of the two buffers for writing: they come before those of the
+ * inputs, also where a call has fewer buffers. The last one also says where the
+ * files are. */
 #define FUZZ_BUFFER_CHOICES 4
+#define FUZZ_ON_THE_HEAP 0x04
 
 /* Takes the buffers for writing; a call that has none passes NULL. */
 void fuzz_lend(struct feed *feed, struct lent *work, struct lent *result, size_t result_needed);

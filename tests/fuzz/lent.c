@@ -1,9 +1,22 @@
 #include "lent.h"
 
+#include "pages.h"
+
+#include <assert.h>
 #include <stdlib.h>
 #include <string.h>
 
 #define MARGIN 64
+
+static struct pages pages[LENT_FILES];
+static unsigned int files;
+static bool files_in_pages;
+
+void lent_begin(bool in_pages)
+{
+    files = 0;
+    files_in_pages = in_pages;
+}
 
 static uint8_t *new_memory(size_t length)
 {
@@ -23,9 +36,25 @@ static void lent_make(struct lent *lent, size_t length, size_t margin)
 {
     lent->length = length;
     lent->margin = margin;
+    lent->in_pages = false;
     lent->memory = new_memory(memory_length(lent));
     lent->before = new_memory(memory_length(lent));
     lent->bytes = lent->memory + margin;
+}
+
+/* Puts a file where it ends with the last page that may be read. */
+static void lent_move(struct lent *lent)
+{
+    struct pages *own = &pages[files];
+
+    assert(files < LENT_FILES);
+    files++;
+    if (own->first == NULL)
+        pages_map(own, BOOK_ROOM);
+    free(lent->memory);
+    lent->in_pages = true;
+    lent->memory = lent->bytes = pages_place(own, lent->before, lent->length, 1);
+    pages_forbid_writing(own);
 }
 
 void lent_file(struct lent *lent, const uint8_t *bytes, size_t length)
@@ -33,7 +62,9 @@ void lent_file(struct lent *lent, const uint8_t *bytes, size_t length)
     lent_make(lent, length, 0);
     memcpy(lent->memory, bytes, length);
     memcpy(lent->before, bytes, length);
-    if (length == 0)
+    if (files_in_pages)
+        lent_move(lent);
+    else if (length == 0)
         lent->bytes = NULL;
 }
 
@@ -75,6 +106,7 @@ bool lent_is_kept(const struct lent *lent, size_t written)
 
 void lent_return(struct lent *lent)
 {
-    free(lent->memory);
+    if (!lent->in_pages)
+        free(lent->memory);
     free(lent->before);
 }

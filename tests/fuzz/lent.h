@@ -1,8 +1,9 @@
 /*
  * Buffers to lend to a call, each in memory of its own. One for reading has
- * exactly the length of the file, so that a tool that watches the heap sees a
- * byte read past it. One for writing holds a pattern beforehand, and lies between
- * two margins or, also chosen by the fuzz input, ends with its memory.
+ * exactly the length of the file: it ends before a page that may not be touched,
+ * and may not be written; or it is from malloc, so that a tool that watches the
+ * heap sees what is read beside it. One for writing holds a pattern beforehand,
+ * and lies between two margins or ends with its memory. The fuzz input chooses.
  */
 
 #ifndef LENT_H
@@ -17,11 +18,17 @@ struct lent {
     size_t length;
     size_t margin;
     uint8_t *memory, *before;
+    bool in_pages;
 };
 
 /* Choices of a buffer's length: exactly the one needed, and one byte less. */
 #define LENT_EXACT 0x00
 #define LENT_SHORT 0xE0
+
+/* From here on buffers for reading are in pages, or from malloc. There are at
+ * most LENT_FILES until the next begin. */
+#define LENT_FILES 3
+void lent_begin(bool in_pages);
 
 /* A buffer for reading, with these bytes. */
 void lent_file(struct lent *lent, const uint8_t *bytes, size_t length);

@@ -31,8 +31,8 @@ libfuzzer() {
 run_libfuzzer() {
     log=$out/libfuzzer_$call.log
     status=0
-    "$out/libfuzzer_$call" -max_len=4096 -timeout=20 -use_value_profile=1 -artifact_prefix="$out/libfuzzer_$call-" "$@" \
-        "$out/corpus/$call" "$out/seeds/$call" >"$log" 2>&1 || status=$?
+    "$out/libfuzzer_$call" -max_len=4096 -timeout=20 -use_value_profile=1 -artifact_prefix="$out/libfuzzer_$call-" \
+        "$@" "$out/corpus/$call" "$out/seeds/$call" >"$log" 2>&1 || status=$?
     if [ "$status" -eq 0 ]; then
         sed -n '/DONE/s/^#\([0-9]*\).*\(cov: [0-9]* ft: [0-9]* corp: [0-9]*\).*$/\1 executions, \2/p' "$log"
     else

@@ -22,14 +22,15 @@ static void put(unsigned int byte)
         seed[length++] = (uint8_t)byte;
 }
 
-/* Begins a seed: both buffers just long enough, each with a fill of its own. */
+/* Begins a seed: both buffers just long enough, each with a fill of its own; the files are in pages and on the heap by
+ * turns. */
 static void begin(void)
 {
     length = 0;
     put(LENT_EXACT);
     put(0xA5);
     put(LENT_EXACT);
-    put(0x5A);
+    put(made->count % 2 ? 0x5A : 0x5A | FUZZ_ON_THE_HEAP);
 }
 
 static void end(void)
