@@ -128,6 +128,13 @@ static size_t result_written(const struct call *call, uint64_t word)
     return call->result_length > 0 ? zuvaropy_value(word) : 0;
 }
 
+/* So many bytes are the same whatever was there before, and the rest is as it was. */
+static void check_written(const uint8_t *bytes, const uint8_t *filled, size_t length, size_t written)
+{
+    CHECK(memcmp(bytes, filled, written) == 0);
+    CHECK(area_is_filled(filled + written, length - written, FILL));
+}
+
 /* The call twice, and with short buffers. Gives the word, and the result for the caller to free. */
 static uint64_t check_call(unsigned int number, const struct file *const *files, uint8_t **result)
 {
@@ -139,17 +146,14 @@ static uint64_t check_call(unsigned int number, const struct file *const *files,
     *result = new_memory(result_len);
     word = call->make(files, work, work_len, *result, result_len);
     CHECK_WORD(call->make(files, filled_work, work_len, filled_result, result_len), word, number);
-    if (work_written(call, word) > 0)
-        CHECK(memcmp(work, filled_work, work_written(call, word)) == 0);
-    else
-        CHECK(area_is_filled(filled_work, work_len, FILL));
-    if (result_written(call, word) > 0)
-        CHECK(memcmp(*result, filled_result, result_written(call, word)) == 0);
-    CHECK(area_is_filled(filled_result + result_written(call, word), result_len - result_written(call, word), FILL));
-    if (work_len > 0)
+    if (work_len > 0) {
+        check_written(work, filled_work, work_len, work_written(call, word));
         check_short(call, files, work_len - 1, result_len);
-    if (result_len > 0)
+    }
+    if (result_len > 0) {
+        check_written(*result, filled_result, result_len, result_written(call, word));
         check_short(call, files, work_len, result_len - 1);
+    }
     free(work);
     free(filled_work);
     free(filled_result);
