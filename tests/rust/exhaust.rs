@@ -3,7 +3,7 @@
 
 use super::both::Both;
 use super::calls::{Call, LCS, MOST_SPECIFIC, SUBSUMES, VERIFY};
-use super::files::{large, refused, small, Given, QUESTIONS};
+use super::files::{large, refused, refused_late, small, Given, QUESTIONS};
 use super::lent::Fill;
 use super::reference::most_specific::MAX_CARDS;
 use super::rng::Rng;
@@ -18,6 +18,9 @@ pub fn compare(both: &mut Both) {
     for (number, given) in small().iter().enumerate() {
         buffers(both, given, number, &mut rng);
         truncations(both, given, number, &mut rng);
+    }
+    for (number, given) in refused_late().iter().enumerate() {
+        buffers(both, given, number, &mut rng);
     }
     for (number, given) in large().iter().enumerate() {
         truncations(both, given, number, &mut rng);
@@ -43,7 +46,7 @@ fn lengths(needed: usize) -> Vec<usize> {
 fn buffers(both: &mut Both, given: &Given, number: usize, rng: &mut Rng) {
     for work in lengths(given.call.work) {
         for result in lengths(given.call.result) {
-            both.subject = format!("small input {number}, work space of {work}, result buffer of {result}");
+            both.subject = format!("{} {number}, work space of {work}, result buffer of {result}", given.call.name);
             for fill in FILLS {
                 both.with(given.call, &given.files(), work, result, fill, rng);
             }
@@ -57,7 +60,7 @@ fn truncations(both: &mut Both, given: &Given, number: usize, rng: &mut Rng) {
         for length in 0..=file.len() {
             let mut files = given.files();
             files[at] = &file[..length];
-            both.subject = format!("input {number}, file {at} cut off at {length}");
+            both.subject = format!("{} {number}, file {at} cut off at {length}", given.call.name);
             exact(both, given.call, &files, FILLS[length % FILLS.len()], rng);
         }
     }

@@ -2,6 +2,7 @@
 
 use super::book;
 use super::calls::{Call, LCS, MOST_SPECIFIC, NORMALIZE, SUBSUMES, VALIDATE, VERIFY};
+use super::evidence_files::{map, refutation};
 use super::reference::most_specific::MAX_CARDS;
 use super::reference::table::{HEAD_BYTES, KIND_EXISTS, KIND_FORALL, KIND_ROOT, ROW_BYTES, TAG_END};
 use super::reference::{self, field, value, MAX_EVIDENCE_BYTES, ROLES, WORK_BYTES};
@@ -85,6 +86,27 @@ pub fn small() -> Vec<Given> {
     given
 }
 
+/// Inputs that are refused after both normal tables are there: by 15, and evidence by 16 to 23.
+pub fn refused_late() -> Vec<Given> {
+    let fan = encode(&[vec![root()], vec![some(0, 8, 0); 16]].concat());
+    let first = encode(&[Node { wanted: 2, ..root() }, some(0, 8, 4)]);
+    let second = encode(&[root(), some(0, 8, 0)]);
+    let asking = encode(&[Node { wanted: 1, ..root() }, some(0, 8, 0)]);
+    let evidence = [
+        (&second, [map(&[0, 1]), vec![0]].concat()),
+        (&second, map(&[0, 2])),
+        (&second, map(&[1, 1])),
+        (&asking, map(&[0, 1])),
+        (&second, map(&[0, 0])),
+        (&second, refutation(&[(0, 8, 0)])),
+        (&second, refutation(&[(0, 0, 0), (0, 8, 4)])),
+        (&second, refutation(&[(0, 0, 2), (0, 8, 4)])),
+    ];
+    let checked =
+        evidence.map(|(second, file)| Given { call: &VERIFY, files: vec![first.clone(), second.clone(), file] });
+    std::iter::once(Given { call: &LCS, files: vec![fan.clone(), fan] }).chain(checked).collect()
+}
+
 /// An existential restriction that each successor needs a chain of individuals to fail.
 fn failed_late() -> Tree {
     let mut tree = chain(12, KIND_FORALL, 8, 1);
@@ -96,17 +118,17 @@ fn failed_late() -> Tree {
 pub fn large() -> Vec<Given> {
     let fan = encode(&[vec![root()], vec![some(0, 8, 1); 255]].concat());
     let one = encode(&chain(12, KIND_EXISTS, 8, 1));
-    let map = evidence(&fan, &fan);
+    let full_map = evidence(&fan, &fan);
     let (brush, failed) = (encode(&[vec![root()], vec![some(0, 8, 0); 20]].concat()), encode(&failed_late()));
-    let refutation = evidence(&brush, &failed);
+    let countermodel = evidence(&brush, &failed);
     let cards = vec![encode(&[root()]); MAX_CARDS];
     vec![
         Given { call: &VALIDATE, files: vec![fan.clone()] },
         Given { call: &NORMALIZE, files: vec![fan.clone()] },
         Given { call: &SUBSUMES, files: vec![one.clone(), fan.clone()] },
         Given { call: &LCS, files: vec![fan.clone(), one.clone()] },
-        Given { call: &VERIFY, files: vec![fan.clone(), fan, map] },
-        Given { call: &VERIFY, files: vec![brush, failed, refutation] },
+        Given { call: &VERIFY, files: vec![fan.clone(), fan, full_map] },
+        Given { call: &VERIFY, files: vec![brush, failed, countermodel] },
         Given { call: &MOST_SPECIFIC, files: vec![one, book::encode(&cards)] },
     ]
 }

@@ -18,6 +18,7 @@ mod compare;
 mod compare_book;
 mod damage;
 mod draw;
+mod evidence_files;
 mod exhaust;
 mod files;
 mod lent;
