@@ -76,6 +76,8 @@ void fuzz_check_word(uint64_t word)
         return;
     }
     CHECK(outcome <= fuzz_target.outcomes);
+    if (outcome > fuzz_target.outcomes)
+        return;
     CHECK(word == ((uint64_t)outcome << ZUVAROPY_OUTCOME_SHIFT | zuvaropy_value(word)));
     answered[outcome]++;
     fuzz_met(FEATURE_ANSWER, outcome * 64 + log2_of(zuvaropy_value(word)));
