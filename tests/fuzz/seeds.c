@@ -2,7 +2,10 @@
 
 #include "feed.h"
 #include "fuzz.h"
+#include "lcs.h"
+#include "most_specific.h"
 #include "random.h"
+#include "verify.h"
 
 #include <stdio.h>
 #include <stdlib.h>
@@ -38,6 +41,16 @@ static void end(void)
     corpus_add(made, seed, length);
 }
 
+/* A file as it is. */
+static void put_raw(const uint8_t *bytes, size_t count)
+{
+    put(FEED_RAW);
+    put((unsigned int)count >> 8);
+    put((unsigned int)count & 0xFF);
+    for (; count > 0; count--)
+        put(*bytes++);
+}
+
 /* Files */
 
 static char *const *files;
@@ -56,19 +69,13 @@ static void put_file(const char *name)
 {
     static uint8_t bytes[CORPUS_LENGTH];
     FILE *file = fopen(name, "rb");
-    size_t count, i;
 
     if (file == NULL) {
         perror(name);
         exit(EXIT_FAILURE);
     }
-    count = fread(bytes, 1, sizeof bytes, file);
+    put_raw(bytes, fread(bytes, 1, sizeof bytes, file));
     fclose(file);
-    put(FEED_RAW);
-    put((unsigned int)count >> 8);
-    put((unsigned int)count & 0xFF);
-    for (i = 0; i < count; i++)
-        put(bytes[i]);
 }
 
 /* Each set of files for the inputs that are left. */
@@ -86,6 +93,75 @@ static void add_files(const char *inputs)
             put_file(files[i]);
             add_files(inputs + 1);
             length = before;
+        }
+}
+
+/* Answers: inputs for each word that the call can give. */
+
+static void put_picture(const struct picture *p)
+{
+    put_raw(p->bytes, p->length);
+}
+
+static void add_checked(unsigned int n)
+{
+    static struct inputs in;
+
+    verify_make(&in, word_number(n));
+    put_picture(&in.first);
+    put_picture(&in.second);
+    put_raw(in.evidence.bytes, in.evidence.length);
+}
+
+static void add_pair(unsigned int n)
+{
+    static struct pair pair;
+
+    lcs_make(&pair, n);
+    put_picture(&pair.first);
+    put_picture(&pair.second);
+}
+
+static void add_lookup(unsigned int n)
+{
+    static struct lookup l;
+
+    lookup_make(&l, n);
+    put_picture(&l.case_picture);
+    put_raw(l.book.bytes, l.book.length);
+}
+
+static void add_single(unsigned int n)
+{
+    static struct picture p;
+
+    picture_refused(&p, n == 0 ? 0 : n + 1);
+    put_picture(&p);
+}
+
+static void add_answers(void)
+{
+    static const struct {
+        const char *inputs;
+        void (*add)(unsigned int n);
+        unsigned int words;
+    } sorts[] = {
+        {"ppe", add_checked, WORDS},
+        {"pp", add_pair, LCS_WORDS},
+        {"pb", add_lookup, LOOKUP_WORDS},
+        {"p", add_single, ZUVAROPY_QUESTION_MERGED},
+    };
+    unsigned int i, n, buffer;
+
+    for (i = 0; i < sizeof sorts / sizeof sorts[0]; i++)
+        for (n = 0; strcmp(sorts[i].inputs, fuzz_target.inputs) == 0 && n < sorts[i].words; n++) {
+            begin();
+            sorts[i].add(n);
+            end();
+            for (buffer = 0; n == 0 && buffer < FUZZ_BUFFER_CHOICES; buffer += 2) {
+                seed[buffer] = LENT_SHORT;
+                end();
+            }
         }
 }
 
@@ -193,6 +269,7 @@ void corpus_seed(struct corpus *corpus, char *const *names, int count)
     end();
     begin();
     add_files(fuzz_target.inputs);
+    add_answers();
     add_shapes();
     add_alike();
     add_random();
