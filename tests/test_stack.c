@@ -200,24 +200,14 @@ static void test_fan(void)
     check_calls(ZUVAROPY_OUTCOME_NO, ZUVAROPY_OUTCOME_YES);
 }
 
-/* One value restriction with existential ones below and beside it. */
-static void make_spread(struct picture *p, unsigned int below, unsigned int beside)
-{
-    picture_kinds(p, 1, 1);
-    for (; below > 0; below--)
-        picture_row(p, 1, ZUVAROPY_KIND_EXISTS, 1);
-    for (; beside > 0; beside--)
-        picture_row(p, 0, ZUVAROPY_KIND_EXISTS, 0);
-    picture_end(p);
-}
-
 /* Merged tables of as many rows as allowed, in 32 cards too; and of more, where each level has a value restriction and
  * an existential one. */
 static void test_merged(void)
 {
     unsigned int n, row;
 
-    make_spread(&in.first, 16, 14);
+    picture_spread(&in.first, 16, 14);
+    picture_end(&in.first);
     in.second = in.first;
     check_calls(ZUVAROPY_OUTCOME_YES, ZUVAROPY_OUTCOME_REFUSAL);
     picture_kinds(&in.first, ZUVAROPY_MAX_DEPTH, ~0u);

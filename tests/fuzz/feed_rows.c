@@ -117,16 +117,6 @@ void feed_like(struct feed *feed, struct picture *p, const struct picture *other
         feed_change(feed, p);
 }
 
-/* One value restriction and existential ones below and beside it: the merged table has many rows. */
-static void make_spread(struct picture *p, unsigned int below, unsigned int beside)
-{
-    picture_kinds(p, 1, 1);
-    for (; below > 0; below--)
-        picture_row(p, 1, ZUVAROPY_KIND_EXISTS, 1);
-    for (; beside > 0; beside--)
-        picture_row(p, 0, ZUVAROPY_KIND_EXISTS, 0);
-}
-
 /* Both kinds of successor by each role. */
 static void make_roles(struct picture *p, unsigned int roles, uint64_t wanted)
 {
@@ -159,7 +149,7 @@ void feed_shape(struct feed *feed, struct picture *p)
         picture_kinds(p, size % (ZUVAROPY_MAX_DEPTH + 2), size << 8 | other);
         break;
     case 5:
-        make_spread(p, size % 18, other % 18);
+        picture_spread(p, size % 18, other % 18);
         break;
     case 6:
         picture_fan(p, 1 + size % 20);
