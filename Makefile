@@ -1,12 +1,14 @@
 # make            prove the library and the verdict program, and write target/staticlib/libzuvaropy.a and
 #                 target/bin/verdict
-# make test       prove everything, then run the C tests, the comparison with the Rust implementation, the
-#                 tests of the verdict program and those of the installed library; the last line is
-#                 'N passed, M failed'
+# make test       prove everything, then run the C tests, bounded fuzzing, the comparison with the Rust
+#                 implementation, the tests of the verdict program and those of the installed library;
+#                 the last line is 'N passed, M failed'
 # make demo       validate the sample pictures, print their normal tables, ask which subsumes which, check the
 #                 sample evidence, print common pictures, look up cards and explain them, and run the verdict
 #                 program
 # make bench      time the library beside the same calls hand-written in C and in Rust
+# make fuzz       fuzz all calls with libFuzzer, each for a minute; or CALL=lcs SECONDS=600
+# make valgrind   run the calls and the smaller C tests under valgrind
 # make shared     link the built library as build/shared/libzuvaropy.so
 # make install    put the built library, its header and manual page and the verdict program below PREFIX
 # make uninstall  remove what make install put there
@@ -27,7 +29,7 @@ PKGCONFIGDIR = $(LIBDIR)/pkgconfig
 MANDIR = $(PREFIX)/share/man
 INSTALL = install
 
-.PHONY: all library program test gate demo bench shared install uninstall clean tools
+.PHONY: all library program test gate demo bench fuzz valgrind shared install uninstall clean tools
 
 all: library program
 
@@ -83,6 +85,15 @@ bench: library
 	@build/bench/verify
 	@build/bench/lcs
 	@build/bench/most_specific
+
+CALL =
+SECONDS = 60
+
+fuzz: library
+	@CC='$(CC)' sh tests/fuzz/run.sh $(LIBRARY) $(SECONDS) $(CALL)
+
+valgrind: library
+	@CC='$(CC)' sh tests/valgrind/run.sh $(LIBRARY)
 
 # What is built is taken as it is: shared and install prove nothing.
 $(LIBRARY) $(PROGRAM):

@@ -32,6 +32,11 @@ void check_word(uint64_t got, uint64_t wanted, const char *file, int line, unsig
         printf("%s:%d: at %lu: got word %016" PRIx64 ", wanted %016" PRIx64 "\n", file, line, at, got, wanted);
 }
 
+unsigned long check_failed(void)
+{
+    return failed;
+}
+
 int check_summary(const char *name)
 {
     printf("%s: %lu passed, %lu failed\n", name, passed, failed);

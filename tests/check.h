@@ -16,6 +16,9 @@
 void check_true(int ok, const char *file, int line, const char *what);
 void check_word(uint64_t got, uint64_t wanted, const char *file, int line, unsigned long at);
 
+/* How many have failed so far. */
+unsigned long check_failed(void);
+
 /* Prints the summary; the program's exit status. */
 int check_summary(const char *name);
 

@@ -88,6 +88,15 @@ void picture_kinds(struct picture *p, unsigned int edges, unsigned int all)
         picture_row(p, row - 1, all >> (row - 1) & 1 ? ZUVAROPY_KIND_FORALL : ZUVAROPY_KIND_EXISTS, 0);
 }
 
+void picture_spread(struct picture *p, unsigned int inner, unsigned int outer)
+{
+    picture_chain(p, 1);
+    for (; inner > 0; inner--)
+        picture_row(p, 1, ZUVAROPY_KIND_EXISTS, 1);
+    for (; outer > 0; outer--)
+        picture_row(p, 0, ZUVAROPY_KIND_EXISTS, 1);
+}
+
 void picture_mixed(struct picture *p, unsigned int rows)
 {
     unsigned int row, i;
@@ -155,8 +164,6 @@ void picture_damage(struct picture *p, unsigned int row, unsigned int question)
 
 void picture_refused(struct picture *p, unsigned int question)
 {
-    unsigned int i;
-
     picture_chain(p, ZUVAROPY_MAX_DEPTH);
     picture_row(p, 0, ZUVAROPY_KIND_EXISTS, 1);
     picture_end(p);
@@ -181,11 +188,7 @@ void picture_refused(struct picture *p, unsigned int question)
         picture_byte(p, 0);
         break;
     case ZUVAROPY_QUESTION_MERGED:
-        picture_chain(p, 1);
-        for (i = 0; i < 15; i++) {
-            picture_row(p, 0, ZUVAROPY_KIND_EXISTS, 1);
-            picture_row(p, 1, ZUVAROPY_KIND_EXISTS, 1);
-        }
+        picture_spread(p, 15, 15);
         picture_end(p);
         break;
     default:

@@ -24,12 +24,14 @@ void picture_end(struct picture *p);
 /* The names and the impossible byte of the last row; a new one has none of them. */
 void picture_label(struct picture *p, uint64_t wanted, uint64_t excluded, unsigned int impossible);
 
-/* A root and its successors; a chain of so many edges; and one of which bit n of
- * `all` says that the edge to row n + 1 is of kind all, by role 0. None has an
- * end field yet, so that rows can follow. */
+/* A root and its successors; a chain of so many edges; one of which bit n of
+ * `all` says that the edge to row n + 1 is of kind all, by role 0; and an all with
+ * so many some below it and so many beside, which has 1 + (1 + inner) * (1 + outer)
+ * rows when merged. None has an end field yet, so that rows can follow. */
 void picture_fan(struct picture *p, unsigned int rows);
 void picture_chain(struct picture *p, unsigned int edges);
 void picture_kinds(struct picture *p, unsigned int edges, unsigned int all);
+void picture_spread(struct picture *p, unsigned int inner, unsigned int outer);
 
 /* A whole good picture: a chain as deep as it may be, then successors of
  * rows all over it, with every kind, role and name. */

@@ -1,13 +1,13 @@
 #!/bin/sh
 # Builds the C tests against an archive of the library and runs them; compares it with the Rust
-# implementation of tests/rust, if there is a rustc; makes a shared library of it and installs both; runs
-# the examples; and tests the verdict program.
+# implementation of tests/rust, if there is a rustc; fuzzes the calls, a bounded number of times; makes
+# them under valgrind, if it is there; makes a shared library of it and installs both; runs the examples;
+# and tests the verdict program.
 #
 #   sh tests/run.sh ARCHIVE PROGRAM
 #
 # Prints a line for each test and last 'C tests: P passed, F failed'; exits 1 if F is not 0. F is also
-# written to build/tests/failed. A program counts as one failure if it does not build, ends without its
-# summary, made no check, or has an exit status other than 0 though none of its checks failed.
+# written to build/tests/failed.
 set -u
 
 if [ $# -ne 2 ]; then
@@ -23,61 +23,16 @@ absolute() {
 archive=$(absolute "$1")
 verdict=$(absolute "$2")
 cd "$(dirname "$0")/.." || exit 2
-. tests/count.sh
 
-warnings='-Wall -Wextra -Wpedantic -Werror'
-c="${CC:-gcc} -std=c99 -O2 -g $warnings -Iinclude"
-cxx="${CXX:-g++}"
 out=build/tests
+. tests/counting.sh
+. tests/fuzz/libfuzzer.sh
+. tests/valgrind/valgrind.sh
+cxx="${CXX:-g++}"
 rm -rf "$out"
 mkdir -p "$out"
 
-# one NAME COMMAND..: a check that passes if COMMAND does.
-one() {
-    name=$1
-    shift
-    if "$@"; then
-        pass
-        echo "$name: 1 passed, 0 failed"
-    else
-        fail "$name" "0 passed, 1 failed"
-    fi
-}
-
-# program NAME COMPILER..: builds a test program and counts it.
-program() {
-    name=$1
-    shift
-    if "$@" "$archive" -o "$out/$name"; then
-        count "$name" "$out/$name"
-    else
-        fail "$name" "does not build"
-    fi
-}
-
-# count NAME COMMAND..: runs it and adds what its summary, the last line, says.
-count() {
-    name=$1
-    shift
-    status=0
-    "$@" >"$out/$name.log" || status=$?
-    cat "$out/$name.log"
-    counts=$(sed -n '$s/^.*: \([0-9][0-9]*\) passed, \([0-9][0-9]*\) failed$/\1 \2/p' "$out/$name.log")
-    case $status:$counts in
-    *:) fail "$name" "ended by status $status without a summary"; return ;;
-    *:'0 0') fail "$name" "made no check" ;;
-    0:* | *' '[1-9]*) ;;
-    *) fail "$name" "ended by status $status though no check failed" ;;
-    esac
-    passed=$((passed + ${counts% *}))
-    failed=$((failed + ${counts#* }))
-}
-
-# What the tests share is built once. Without a part of it no test builds, and each says so.
-for source in check area picture rows random pages reference normal_reference normalize evidence verify_reference \
-    witness verify subsumes lcs_reference lcs book most_specific_reference most_specific second_unit; do
-    $c -c "tests/$source.c" -o "$out/$source.o"
-done
+objects "$out" $c
 for source in tests/test_*.c; do
     name=$(basename "$source" .c)
     program "$name" $c "$source" "$out"/*.o
@@ -108,6 +63,32 @@ if command -v "$cxx" >/dev/null; then
         tests/second_unit.c -x none
 else
     echo "header as C++: not tested, no $cxx"
+fi
+
+# Each fuzz target with its seeds, and so many inputs made from them.
+fuzz_drivers $calls
+while read -r call runs; do
+    count "fuzz_$call" "$out/fuzz_$call" "$runs" $sample_files
+done <<END
+validate 100000
+normalize 40000
+subsumes 20000
+lcs 20000
+verify 20000
+most_specific 40000
+END
+if libfuzzer_is_there; then
+    libfuzzer_objects
+    for call in $calls; do
+        libfuzzer "$call" -runs=3000 -seed=1
+    done
+else
+    echo "libFuzzer: not run, no clang with it"
+fi
+if command -v valgrind >/dev/null; then
+    valgrind_samples
+else
+    echo "valgrind: not run, not there"
 fi
 
 # The shared library, as make builds it; without the flags of the make that runs the tests.
@@ -212,5 +193,4 @@ count verdict sh tests/verdict.sh "$verdict"
 one 'verdict, samples' verdict_samples
 one 'verdict, data' data
 
-echo "$failed" >"$out/failed"
-summary 'C tests'
+finish 'C tests'

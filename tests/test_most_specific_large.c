@@ -96,15 +96,11 @@ static void test_late(void)
 static void test_merged(void)
 {
     static struct picture card;
-    unsigned int n, i;
+    unsigned int n;
 
     book_clear(&lookup.book);
     for (n = 0; n < CARDS; n++) {
-        picture_chain(&card, 1);
-        for (i = 0; i < 16; i++)
-            picture_row(&card, 1, ZUVAROPY_KIND_EXISTS, 1);
-        for (i = 0; i < 14; i++)
-            picture_row(&card, 0, ZUVAROPY_KIND_EXISTS, 1);
+        picture_spread(&card, 16, 14);
         picture_label(&card, NAME(n), 0, 0);
         if (n == 0)
             lookup.case_picture = card;

@@ -1,8 +1,10 @@
 /*
- * The stack that each call takes is at most what the header says. A call is made
- * on a stack of its own, painted beforehand; it took what has lost its paint. The
- * recursions of the library go down the pictures, so these are chains, up to the
- * deepest: of 'some', of 'all' and of both by turns.
+ * The stack that each call takes is at most what the header says; how much was
+ * measured is printed. A call is made on a stack of its own, painted beforehand;
+ * it took what has lost its paint. The recursions of the library go down the
+ * pictures, so these are chains, up to the deepest: of 'some', of 'all' and of
+ * both by turns. Pictures, evidence and books as large as allowed and pictures at
+ * random take no more.
  */
 
 #define _XOPEN_SOURCE 600 /* makecontext */
@@ -10,6 +12,7 @@
 #include "book.h"
 #include "check.h"
 #include "evidence.h"
+#include "random.h"
 #include "rows.h"
 
 #include <stdio.h>
@@ -19,6 +22,7 @@
 #define PAINT 0xA5
 #define PAINTED_BYTES 131072 /* several times what any call takes */
 #define KNOWN_BYTES 20000
+#define PAIRS_AT_RANDOM 400
 
 static uint8_t stack[PAINTED_BYTES];
 static struct inputs in;
@@ -99,26 +103,42 @@ static void most_specific(void)
     word = zuvaropy_most_specific(in.first.bytes, in.first.length, book.bytes, book.length, work, sizeof work);
 }
 
-static void check_call(const char *name, void (*call)(void), unsigned int outcome, size_t most)
-{
-    const size_t bytes = taken(call);
+/* The calls, what the header says of each, and the most that was measured. */
+enum { VALIDATE, NORMALIZE, SUBSUMES, VERIFY, LCS, MOST_SPECIFIC, CALLS };
+static struct {
+    const char *name;
+    void (*call)(void);
+    size_t stated, measured;
+} calls[CALLS] = {
+    {"zuvaropy_validate", validate, ZUVAROPY_VALIDATE_STACK_BYTES, 0},
+    {"zuvaropy_normalize", normalize, ZUVAROPY_NORMALIZE_STACK_BYTES, 0},
+    {"zuvaropy_subsumes", subsumes, ZUVAROPY_SUBSUMES_STACK_BYTES, 0},
+    {"zuvaropy_verify", verify, ZUVAROPY_VERIFY_STACK_BYTES, 0},
+    {"zuvaropy_lcs", lcs, ZUVAROPY_LCS_STACK_BYTES, 0},
+    {"zuvaropy_most_specific", most_specific, ZUVAROPY_MOST_SPECIFIC_STACK_BYTES, 0},
+};
 
-    CHECK(zuvaropy_outcome(word) == outcome);
-    CHECK(bytes <= most);
-    if (bytes > most)
-        printf("  %s took %lu bytes of stack\n", name, (unsigned long)bytes);
+/* The outcome of the call. */
+static unsigned int measure(unsigned int n)
+{
+    const size_t bytes = taken(calls[n].call);
+
+    CHECK(bytes <= calls[n].stated);
+    if (bytes > calls[n].measured)
+        calls[n].measured = bytes;
+    return zuvaropy_outcome(word);
 }
 
 /* Each call on the pair, with the outcomes of those on two pictures; the evidence checked is what was written. */
 static void check_calls(unsigned int verdict, unsigned int common)
 {
-    check_call("validate", validate, ZUVAROPY_OUTCOME_YES, ZUVAROPY_VALIDATE_STACK_BYTES);
-    check_call("normalize", normalize, ZUVAROPY_OUTCOME_YES, ZUVAROPY_NORMALIZE_STACK_BYTES);
-    check_call("subsumes", subsumes, verdict, ZUVAROPY_SUBSUMES_STACK_BYTES);
-    check_call("verify", verify, verdict, ZUVAROPY_VERIFY_STACK_BYTES);
-    check_call("lcs", lcs, common, ZUVAROPY_LCS_STACK_BYTES);
+    CHECK(measure(VALIDATE) == ZUVAROPY_OUTCOME_YES);
+    CHECK(measure(NORMALIZE) == ZUVAROPY_OUTCOME_YES);
+    CHECK(measure(SUBSUMES) == verdict);
+    CHECK(measure(VERIFY) == verdict);
+    CHECK(measure(LCS) == common);
     make_book();
-    check_call("most_specific", most_specific, ZUVAROPY_OUTCOME_YES, ZUVAROPY_MOST_SPECIFIC_STACK_BYTES);
+    CHECK(measure(MOST_SPECIFIC) == ZUVAROPY_OUTCOME_YES);
 }
 
 /* A chain with a name at its end. */
@@ -180,6 +200,58 @@ static void test_fan(void)
     check_calls(ZUVAROPY_OUTCOME_NO, ZUVAROPY_OUTCOME_YES);
 }
 
+/* Merged tables of as many rows as allowed, in 32 cards too; and of more, where each level has a value restriction and
+ * an existential one. */
+static void test_merged(void)
+{
+    unsigned int n, row;
+
+    picture_spread(&in.first, 16, 14);
+    picture_end(&in.first);
+    in.second = in.first;
+    check_calls(ZUVAROPY_OUTCOME_YES, ZUVAROPY_OUTCOME_REFUSAL);
+    picture_kinds(&in.first, ZUVAROPY_MAX_DEPTH, ~0u);
+    for (row = 0; row < ZUVAROPY_MAX_DEPTH; row++)
+        picture_row(&in.first, row, ZUVAROPY_KIND_EXISTS, 0);
+    picture_end(&in.first);
+    CHECK(measure(VALIDATE) == ZUVAROPY_OUTCOME_YES);
+    make_book();
+    for (n = NORMALIZE; n < CALLS; n++) {
+        CHECK(measure(n) == ZUVAROPY_OUTCOME_REFUSAL);
+        CHECK(zuvaropy_question(word) == ZUVAROPY_QUESTION_MERGED);
+    }
+}
+
+/* As many individuals as allowed, each reached from the one before or all from the first, against the deepest. */
+static void test_individuals(void)
+{
+    unsigned int wide, n;
+
+    for (wide = 0; wide < 2; wide++) {
+        make_chain(&in.first, 0, 0, 0);
+        make_chain(&in.second, ZUVAROPY_MAX_DEPTH, wide ? 0 : ~0u, NAME(1));
+        evidence_clear(&in.evidence);
+        for (n = 0; n < ZUVAROPY_MAX_INDIVIDUALS; n++)
+            evidence_individual(&in.evidence, n == 0 || wide ? 0 : n - 1, 0, 0);
+        evidence_end(&in.evidence);
+        CHECK(measure(VERIFY) == ZUVAROPY_OUTCOME_NO);
+    }
+}
+
+static void test_random(void)
+{
+    struct shape shape;
+    unsigned int i, n;
+
+    for (i = 0; i < PAIRS_AT_RANDOM; i++) {
+        shape = random_shape();
+        random_pair(&in.first, &in.second, &shape);
+        make_book();
+        for (n = 0; n < CALLS; n++)
+            measure(n);
+    }
+}
+
 static void nothing(void)
 {
 }
@@ -203,8 +275,16 @@ static void test_measure(void)
 
 int main(void)
 {
+    unsigned int n;
+
     test_measure();
     test_chains();
     test_fan();
+    test_merged();
+    test_individuals();
+    test_random();
+    for (n = 0; n < CALLS; n++)
+        printf("%s: %lu bytes of stack, at most %lu stated\n", calls[n].name, (unsigned long)calls[n].measured,
+               (unsigned long)calls[n].stated);
     return check_summary("stack");
 }

@@ -1,9 +1,10 @@
 //! Damaged pictures, evidence and books.
 
+use super::evidence_files;
 use super::reference::field;
 use super::reference::most_specific::TAG_CARD;
 use super::reference::table::{HEAD_BYTES, ROW_BYTES, TAG_END, VALUE_BYTES};
-use super::reference::{INDIVIDUAL_BYTES, INDIVIDUAL_VALUE_BYTES, MAX_INDIVIDUALS, ROLES, TAG_INDIVIDUAL, TAG_MAP};
+use super::reference::{INDIVIDUAL_BYTES, MAX_INDIVIDUALS, ROLES, TAG_MAP};
 use super::rng::Rng;
 
 /// Numbers next to those that a question compares with.
@@ -96,13 +97,8 @@ fn append_copy(file: &mut Vec<u8>, count: usize, number: usize, rng: &mut Rng) {
 
 /// A map file for so many rows with images below the limit.
 pub fn random_map(rows: usize, limit: usize, rng: &mut Rng) -> Vec<u8> {
-    let mut file = field::head_bytes(TAG_MAP, 2 * rows).to_vec();
-    for row in 0..rows {
-        let image = if row == 0 { 0 } else { rng.below(limit) };
-        file.extend((image as u16).to_be_bytes());
-    }
-    file.extend(field::head_bytes(TAG_END, 0));
-    file
+    let images: Vec<usize> = (0..rows).map(|row| if row == 0 { 0 } else { rng.below(limit) }).collect();
+    evidence_files::map(&images)
 }
 
 /// Individuals in any order of parents, seldom as many as there may be, and then at times one more.
@@ -110,16 +106,12 @@ pub fn random_refutation(rng: &mut Rng) -> Vec<u8> {
     let count = if rng.chance(1, 60) { MAX_INDIVIDUALS + rng.below(2) } else { rng.below(6) };
     let role = rng.below(32);
     let names = rng.pick(&[0, !0]);
-    let mut file = Vec::with_capacity((count + 1) * INDIVIDUAL_BYTES);
+    let mut individuals = Vec::with_capacity(count);
     for number in 0..count {
         let (parent, role) = if number == 0 { (0, 0) } else { (rng.below(number), role as u8) };
-        file.extend(field::head_bytes(TAG_INDIVIDUAL, INDIVIDUAL_VALUE_BYTES));
-        file.extend((parent as u16).to_be_bytes());
-        file.push(role);
-        file.extend(if rng.chance(1, 2) { names } else { rng.next() }.to_be_bytes());
+        individuals.push((parent, role, if rng.chance(1, 2) { names } else { rng.next() }));
     }
-    file.extend(field::head_bytes(TAG_END, 0));
-    file
+    evidence_files::refutation(&individuals)
 }
 
 /// Changes a whole book, mostly the head of a field.

@@ -1,6 +1,7 @@
 //! The library and the reference agree on pairs of pictures, and on cases with books, made at random: on the words, on
 //! every byte of the buffers lent, and on evidence, whole and damaged. Which refutation is written is the library's
-//! choice; whichever it is, both checks take it.
+//! choice; whichever it is, both checks take it. Before that they agree on inputs made by hand: on every truncation of
+//! their files, on buffers of every sort, and on every refusal. Each refusal that a call can give has to be met.
 //!
 //!     random [--seed S] [--seconds N]
 //!
@@ -10,16 +11,22 @@
 mod book;
 mod book_tally;
 mod books;
+mod both;
+mod calls;
 mod checks;
 mod compare;
 mod compare_book;
 mod damage;
 mod draw;
+mod evidence_files;
+mod exhaust;
+mod files;
 mod lent;
 mod library;
 mod pairs;
 #[path = "reference.rs"] // its modules are beside it
 mod reference;
+mod refusals;
 mod rng;
 mod tally;
 mod trees;
@@ -28,11 +35,13 @@ mod weaken;
 use std::process::ExitCode;
 use std::time::{Duration, Instant};
 
+use both::Both;
+use checks::Checks;
 use compare::Comparison;
 use compare_book::BookComparison;
 use rng::Rng;
 
-const PAIRS: u64 = 20_000;
+const PAIRS: u64 = 40_000;
 
 struct Arguments {
     seed: u64,
@@ -63,18 +72,22 @@ fn main() -> ExitCode {
         Some(seconds) => start.elapsed() < Duration::from_secs(seconds),
         None => pairs < PAIRS,
     };
-    let (mut pairs, mut books) = (Comparison::new(), BookComparison::new());
+    let mut both = Both::new();
+    exhaust::compare(&mut both);
+    println!("by hand: {} checks", both.checks.passed + both.checks.failed);
+    let (mut pairs, mut books) = (Comparison::default(), BookComparison::default());
     let mut made = 0;
     while more(made) {
         let seed = arguments.seed.wrapping_add(made);
-        pairs.pair(seed, &mut Rng::new(seed));
-        books.book(seed, &mut Rng::new(!seed));
+        pairs.pair(&mut both, seed, &mut Rng::new(seed));
+        books.book(&mut both, seed, &mut Rng::new(!seed));
         made += 1;
     }
-    pairs.check_tally();
-    books.check_tally();
-    let passed = pairs.checks.passed + books.checks.passed;
-    let failed = pairs.checks.failed + books.checks.failed;
+    pairs.check_tally(&mut both);
+    books.check_tally(&mut both);
+    both.refusals.print();
+    both.checks.check_met(both.refusals.answers());
+    let Checks { passed, failed } = both.checks;
     println!("test_rust_random: {passed} passed, {failed} failed");
     ExitCode::from(u8::from(failed > 0))
 }

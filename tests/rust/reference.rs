@@ -39,7 +39,7 @@ pub const YES: u64 = 1;
 pub const NO: u64 = 2;
 
 /// What a refusal concerns.
-#[derive(Clone, Copy)]
+#[derive(Clone, Copy, Debug)]
 pub enum Input {
     Buffer = 0,
     First = 1,

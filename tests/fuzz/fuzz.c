@@ -1,0 +1,113 @@
+#include "fuzz.h"
+
+#include "check.h"
+
+#include <stdio.h>
+#include <stdlib.h>
+
+#define QUESTIONS (ZUVAROPY_QUESTION_BOOK + 1)
+#define INPUTS (ZUVAROPY_INPUT_CARD + 1)
+#define FEATURE_NUMBERS (FUZZ_COUNTERS / 8)
+
+/* libFuzzer takes the bytes of this section for counters of its own. */
+__attribute__((section("__libfuzzer_extra_counters"))) uint8_t fuzz_counters[FUZZ_COUNTERS];
+
+static unsigned long refused[QUESTIONS][INPUTS];
+static unsigned long answered[ZUVAROPY_OUTCOME_NO + 1];
+
+void fuzz_lend(struct feed *feed, struct lent *work, struct lent *result, size_t result_needed)
+{
+    struct feed choices = *feed;
+    unsigned int i, choice = 0;
+
+    for (i = 0; i < FUZZ_BUFFER_CHOICES; i++)
+        choice = feed_byte(feed);
+    lent_begin((choice & FUZZ_ON_THE_HEAP) == 0);
+    if (work != NULL)
+        lent_writable(work, &choices, ZUVAROPY_WORK_BYTES);
+    if (result != NULL)
+        lent_writable(result, &choices, result_needed);
+}
+
+void fuzz_met(enum feature feature, unsigned int number)
+{
+    fuzz_counters[(unsigned int)feature * FEATURE_NUMBERS + number % FEATURE_NUMBERS]++;
+}
+
+static unsigned int log2_of(uint32_t number)
+{
+    unsigned int bits = 0;
+
+    for (; number > 0; number >>= 1)
+        bits++;
+    return bits;
+}
+
+static int can_refuse(unsigned int question, unsigned int input)
+{
+    const struct refusable *r;
+
+    for (r = fuzz_target.refusable; r->first != 0; r++)
+        if (question >= r->first && question <= r->last && input == r->input)
+            return 1;
+    return 0;
+}
+
+static void check_refusal(uint64_t word)
+{
+    const unsigned int question = zuvaropy_question(word), input = zuvaropy_input(word), card = zuvaropy_card(word);
+
+    CHECK(zuvaropy_value(word) == 0);
+    CHECK(card < ZUVAROPY_MAX_CARDS && (card == 0 || input == ZUVAROPY_INPUT_CARD));
+    CHECK(can_refuse(question, input));
+    if (!can_refuse(question, input))
+        return;
+    refused[question][input]++;
+    fuzz_met(FEATURE_REFUSAL, question * INPUTS + input);
+    fuzz_met(FEATURE_CARD, question * ZUVAROPY_MAX_CARDS + card);
+}
+
+void fuzz_check_word(uint64_t word)
+{
+    const unsigned int outcome = zuvaropy_outcome(word);
+
+    if (outcome == ZUVAROPY_OUTCOME_REFUSAL) {
+        check_refusal(word);
+        return;
+    }
+    CHECK(outcome <= fuzz_target.outcomes);
+    if (outcome > fuzz_target.outcomes)
+        return;
+    CHECK(word == ((uint64_t)outcome << ZUVAROPY_OUTCOME_SHIFT | zuvaropy_value(word)));
+    answered[outcome]++;
+    fuzz_met(FEATURE_ANSWER, outcome * 64 + log2_of(zuvaropy_value(word)));
+}
+
+unsigned long fuzz_answered(void)
+{
+    return answered[ZUVAROPY_OUTCOME_YES] + answered[ZUVAROPY_OUTCOME_NO];
+}
+
+void fuzz_check_met(void)
+{
+    const struct refusable *r;
+    unsigned int question, outcome;
+
+    for (r = fuzz_target.refusable; r->first != 0; r++)
+        for (question = r->first; question <= r->last; question++) {
+            CHECK(refused[question][r->input] > 0);
+            if (refused[question][r->input] == 0)
+                printf("  never met: question %u, input %u\n", question, r->input);
+        }
+    for (outcome = ZUVAROPY_OUTCOME_YES; outcome <= fuzz_target.outcomes; outcome++)
+        CHECK(answered[outcome] > 0);
+}
+
+int fuzz_end(void)
+{
+    if (check_failed() > 0) {
+        fflush(stdout);
+        abort();
+    }
+    return 0;
+}

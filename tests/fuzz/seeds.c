@@ -1,0 +1,278 @@
+#include "corpus.h"
+
+#include "feed.h"
+#include "fuzz.h"
+#include "lcs.h"
+#include "most_specific.h"
+#include "random.h"
+#include "verify.h"
+
+#include <stdio.h>
+#include <stdlib.h>
+#include <string.h>
+
+#define AT_RANDOM 150 /* seeds */
+#define SHAPES 8      /* of FEED_SHAPE */
+#define BOOK_CASE_ROWS 8
+
+static struct corpus *made;
+static uint8_t seed[CORPUS_LENGTH];
+static size_t length;
+
+static void put(unsigned int byte)
+{
+    if (length < sizeof seed)
+        seed[length++] = (uint8_t)byte;
+}
+
+/* Begins a seed: both buffers just long enough, each with a fill of its own; the files are in pages and on the heap by
+ * turns. */
+static void begin(void)
+{
+    length = 0;
+    put(LENT_EXACT);
+    put(0xA5);
+    put(LENT_EXACT);
+    put(made->count % 2 ? 0x5A : 0x5A | FUZZ_ON_THE_HEAP);
+}
+
+static void end(void)
+{
+    corpus_add(made, seed, length);
+}
+
+/* A file as it is. */
+static void put_raw(const uint8_t *bytes, size_t count)
+{
+    put(FEED_RAW);
+    put((unsigned int)count >> 8);
+    put((unsigned int)count & 0xFF);
+    for (; count > 0; count--)
+        put(*bytes++);
+}
+
+/* Files */
+
+static char *const *files;
+static int file_count;
+
+static char letter_of(const char *file)
+{
+    const char *suffix = strrchr(file, '.');
+
+    if (suffix == NULL)
+        return 0;
+    return strcmp(suffix, ".map") == 0 || strcmp(suffix, ".ref") == 0 ? 'e' : suffix[1];
+}
+
+static void put_file(const char *name)
+{
+    static uint8_t bytes[CORPUS_LENGTH];
+    FILE *file = fopen(name, "rb");
+
+    if (file == NULL) {
+        perror(name);
+        exit(EXIT_FAILURE);
+    }
+    put_raw(bytes, fread(bytes, 1, sizeof bytes, file));
+    fclose(file);
+}
+
+/* Each set of files for the inputs that are left. */
+static void add_files(const char *inputs)
+{
+    const size_t before = length;
+    int i;
+
+    if (*inputs == 0) {
+        end();
+        return;
+    }
+    for (i = 0; i < file_count; i++)
+        if (letter_of(files[i]) == *inputs) {
+            put_file(files[i]);
+            add_files(inputs + 1);
+            length = before;
+        }
+}
+
+/* Answers: inputs for each word that the call can give. */
+
+static void put_picture(const struct picture *p)
+{
+    put_raw(p->bytes, p->length);
+}
+
+static void add_checked(unsigned int n)
+{
+    static struct inputs in;
+
+    verify_make(&in, word_number(n));
+    put_picture(&in.first);
+    put_picture(&in.second);
+    put_raw(in.evidence.bytes, in.evidence.length);
+}
+
+static void add_pair(unsigned int n)
+{
+    static struct pair pair;
+
+    lcs_make(&pair, n);
+    put_picture(&pair.first);
+    put_picture(&pair.second);
+}
+
+static void add_lookup(unsigned int n)
+{
+    static struct lookup l;
+
+    lookup_make(&l, n);
+    put_picture(&l.case_picture);
+    put_raw(l.book.bytes, l.book.length);
+}
+
+static void add_single(unsigned int n)
+{
+    static struct picture p;
+
+    picture_refused(&p, n == 0 ? 0 : n + 1);
+    put_picture(&p);
+}
+
+static void add_answers(void)
+{
+    static const struct {
+        const char *inputs;
+        void (*add)(unsigned int n);
+        unsigned int words;
+    } sorts[] = {
+        {"ppe", add_checked, WORDS},
+        {"pp", add_pair, LCS_WORDS},
+        {"pb", add_lookup, LOOKUP_WORDS},
+        {"p", add_single, ZUVAROPY_QUESTION_MERGED},
+    };
+    unsigned int i, n, buffer;
+
+    for (i = 0; i < sizeof sorts / sizeof sorts[0]; i++)
+        for (n = 0; strcmp(sorts[i].inputs, fuzz_target.inputs) == 0 && n < sorts[i].words; n++) {
+            begin();
+            sorts[i].add(n);
+            end();
+            for (buffer = 0; n == 0 && buffer < FUZZ_BUFFER_CHOICES; buffer += 2) {
+                seed[buffer] = LENT_SHORT;
+                end();
+            }
+        }
+}
+
+/* Choices */
+
+static void put_shape(unsigned int shape, unsigned int size)
+{
+    put(FEED_SHAPE);
+    put(shape);
+    put(size);
+    put(size);
+}
+
+/* Input n, or the card in it, has this shape; the others are small. */
+static void add_shape(unsigned int n, unsigned int shape, unsigned int size)
+{
+    unsigned int i;
+
+    begin();
+    for (i = 0; fuzz_target.inputs[i] != 0; i++) {
+        if (fuzz_target.inputs[i] == 'e') {
+            put(FEED_WRITTEN);
+            continue;
+        }
+        if (fuzz_target.inputs[i] == 'b') {
+            put(FEED_ROWS);
+            put(1);
+        }
+        put_shape(i == n ? shape : SHAPES - 2, i == n ? size : 2);
+    }
+    end();
+}
+
+static void add_shapes(void)
+{
+    unsigned int n, shape, size;
+
+    for (n = 0; fuzz_target.inputs[n] != 0; n++) {
+        for (size = 0; size < ZUVAROPY_QUESTION_MERGED - 1; size++)
+            add_shape(n, FEED_REFUSED, size);
+        for (shape = 1; shape < SHAPES; shape++)
+            for (size = 0; size < 256; size += 15)
+                add_shape(n, shape, size);
+    }
+}
+
+/* All inputs have one shape. */
+static void add_alike(void)
+{
+    unsigned int i, shape, size;
+
+    for (shape = 1; shape < SHAPES; shape++)
+        for (size = 0; size < 256; size += 16) {
+            begin();
+            for (i = 0; fuzz_target.inputs[i] != 0; i++)
+                put_shape(shape, size);
+            end();
+        }
+}
+
+static void put_random(unsigned int count)
+{
+    for (; count > 0; count--)
+        put((unsigned int)random_next() & 0xFF);
+}
+
+static void add_random(void)
+{
+    unsigned int i;
+
+    for (i = 0; i < AT_RANDOM; i++) {
+        begin();
+        put_random(random_below(i < AT_RANDOM / 2 ? 40 : 400));
+        end();
+    }
+}
+
+/* Books of each number of cards, made from the case or each from the one before. */
+static void add_books(void)
+{
+    unsigned int cards, i;
+
+    for (cards = 0; cards <= 2 * ZUVAROPY_MAX_CARDS + 3; cards++) {
+        begin();
+        put(FEED_ROWS);
+        put(BOOK_CASE_ROWS);
+        put_random(4 * BOOK_CASE_ROWS);
+        put(FEED_ROWS + (cards & 1 ? FEED_FORMS : 0));
+        put(cards / 2);
+        for (i = 0; i < cards / 2; i++) {
+            put(FEED_LIKE);
+            put(1);
+            put_random(3);
+        }
+        end();
+    }
+}
+
+void corpus_seed(struct corpus *corpus, char *const *names, int count)
+{
+    made = corpus;
+    files = names;
+    file_count = count;
+    length = 0;
+    end();
+    begin();
+    add_files(fuzz_target.inputs);
+    add_answers();
+    add_shapes();
+    add_alike();
+    add_random();
+    if (strchr(fuzz_target.inputs, 'b') != NULL)
+        add_books();
+}
