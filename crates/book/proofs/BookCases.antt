@@ -20,6 +20,7 @@ use Rattle.picture.specs.View.{rowCount, viewOf}
 use Rattle.picture.specs.declared.answer.Input.{Input}
 use Rattle.picture.specs.declared.answer.Input.the-variants.{Book, Buffer, Card, First}
 use Rattle.meaning.specs.Covering.{covers}
+use Rattle.meaning.proofs.CasePictures.{allOf, allRow, empty, end, fourRows, impossible, noneReached, one, oneRow, picture, root, row, someRow, two}
 use Rattle.meaning.specs.NormalTable.{mergedCount, mergedTree, normalTreeOf}
 use Rattle.book.specs.Call.{askedFrom, bookAsked, mergedAsked, mostSpecificAnswer, mostSpecificWork, readAsked}
 use Rattle.book.specs.Form.{bookForm, card, cardAt, cardCount, cardsFrom, fieldPlace}
@@ -32,24 +33,14 @@ pub data Case : Type 0 where
   asked : Limits → List ℕ → List ℕ → ℕ → Selected → Case
   left : Limits → List ℕ → List ℕ → ℕ → List ℕ → Case
 
--- work spaces of 54 and 198 bytes
-abbrev oneRow : Limits
-oneRow = record { rows = 1; depth = 0 }
-
-abbrev fourRows : Limits
-fourRows = record { rows = 4; depth = 2 }
-
 -- ---- books, byte by byte
 
 -- a card of less than 256 bytes, before what follows it
 abbrev withCard : List ℕ → List ℕ → List ℕ
 withCard c rest = 0x51 ∷ 0 ∷ length c ∷ (c ++ rest)
 
-abbrev bookEnd : List ℕ
-bookEnd = 0x2F ∷ 0 ∷ 0 ∷ []
-
 abbrev bookOf : List (List ℕ) → List ℕ
-bookOf [] = bookEnd
+bookOf [] = end
 bookOf (c ∷ cs) = withCard c (bookOf cs)
 
 abbrev emptyCards : ℕ → List ℕ
@@ -67,61 +58,18 @@ runAll (c ∷ cs) = ran c ∷ runAll cs
 abbrev refused : ℕ → Input → Selected
 refused q input = Refused (record { number = q; input = input })
 
--- ---- pictures, byte by byte: {1} is 2, {2} is 4, {3} is 8, {5} is 32, {6} is 64; r is 8, s is 9
-
--- the last byte of the parent, the kind, the role, the impossible byte, and the last bytes of the wanted and of the excluded names
-abbrev row : ℕ → ℕ → ℕ → ℕ → ℕ → ℕ → List ℕ
-row parent kind role mark wanted excluded =
-    0x10 ∷ 0 ∷ 21 ∷ 0 ∷ parent ∷ kind ∷ role ∷ mark
-    ∷ 0 ∷ 0 ∷ 0 ∷ 0 ∷ 0 ∷ 0 ∷ 0 ∷ wanted
-    ∷ 0 ∷ 0 ∷ 0 ∷ 0 ∷ 0 ∷ 0 ∷ 0 ∷ excluded ∷ []
-
--- rows, and the end field
-abbrev picture : List (List ℕ) → List ℕ
-picture [] = 0x2F ∷ 0 ∷ 0 ∷ []
-picture (w ∷ ws) = w ++ picture ws
-
-abbrev root : ℕ → List ℕ
-root wanted = row 0 0 0 0 wanted 0
-
--- the parent, the role and the names wanted
-abbrev someRow : ℕ → ℕ → ℕ → List ℕ
-someRow parent role wanted = row parent 1 role 0 wanted 0
-
-abbrev allRow : ℕ → ℕ → ℕ → List ℕ
-allRow parent role wanted = row parent 2 role 0 wanted 0
+-- ---- pictures
 
 -- one row with names wanted
 abbrev names : ℕ → List ℕ
 names wanted = picture (root wanted ∷ [])
 
-abbrev empty : List ℕ
-empty = names 0
-
-abbrev impossible : List ℕ
-impossible = picture (row 0 0 0 1 0 0 ∷ [])
-
 -- name 3 wanted and excluded
 abbrev broken : List ℕ
 broken = picture (row 0 0 0 0 8 8 ∷ [])
 
--- all r impossible
-abbrev noneReached : List ℕ
-noneReached = picture (root 0 ∷ row 0 2 8 1 0 0 ∷ [])
-
--- all r{..}, and all r{..} and all r{..}
-abbrev allOf : ℕ → List ℕ
-allOf wanted = picture (root 0 ∷ allRow 0 8 wanted ∷ [])
-
 abbrev allTwo : ℕ → ℕ → List ℕ
 allTwo wanted other = picture (root 0 ∷ allRow 0 8 wanted ∷ allRow 0 8 other ∷ [])
-
--- some r{..}, and some r{..} and some r{..}
-abbrev one : ℕ → List ℕ
-one wanted = picture (root 0 ∷ someRow 0 8 wanted ∷ [])
-
-abbrev two : ℕ → ℕ → List ℕ
-two wanted other = picture (root 0 ∷ someRow 0 8 wanted ∷ someRow 0 8 other ∷ [])
 
 -- all r(some s{1}), some r{2}: 4 rows, merged 5
 abbrev grows : List ℕ
@@ -176,20 +124,20 @@ cases =
     ∷ told (names 8) (replicate 31 (names 32) ++ (names 8 ∷ [])) (Cards 2147483648)
     -- 24: no byte, another tag, a picture, a head or a value cut short, no end field, one cut short, one with a length, bytes after it
     ∷ asked benchLimits empty [] 12294 (refused 24 Book)
-    ∷ asked benchLimits empty bookEnd 12294 (Cards 0)
-    ∷ asked benchLimits empty (0x52 ∷ 0 ∷ 0 ∷ bookEnd) 12294 (refused 24 Book)
+    ∷ asked benchLimits empty end 12294 (Cards 0)
+    ∷ asked benchLimits empty (0x52 ∷ 0 ∷ 0 ∷ end) 12294 (refused 24 Book)
     ∷ asked benchLimits empty empty 12294 (refused 24 Book)
     ∷ asked benchLimits empty (0x51 ∷ 0 ∷ []) 12294 (refused 24 Book)
-    ∷ asked benchLimits empty (0x51 ∷ 0 ∷ 4 ∷ bookEnd) 12294 (refused 24 Book)
+    ∷ asked benchLimits empty (0x51 ∷ 0 ∷ 4 ∷ end) 12294 (refused 24 Book)
     ∷ asked benchLimits empty (withCard empty []) 12294 (refused 24 Book)
     ∷ asked benchLimits empty (withCard empty (0x2F ∷ 0 ∷ [])) 12294 (refused 24 Book)
     ∷ asked benchLimits empty (withCard empty (0x2F ∷ 0 ∷ 1 ∷ 0 ∷ [])) 12294 (refused 24 Book)
-    ∷ asked benchLimits empty (withCard empty (bookEnd ++ (0 ∷ []))) 12294 (refused 24 Book)
-    ∷ asked benchLimits empty (withCard empty (bookEnd ++ bookEnd)) 12294 (refused 24 Book)
+    ∷ asked benchLimits empty (withCard empty (end ++ (0 ∷ []))) 12294 (refused 24 Book)
+    ∷ asked benchLimits empty (withCard empty (end ++ end)) 12294 (refused 24 Book)
     -- a card takes the bytes of its length, whatever they are; a length has a high byte
-    ∷ asked benchLimits empty (0x51 ∷ 0 ∷ 3 ∷ (bookEnd ++ bookEnd)) 12294 (refused 7 (Card 0))
-    ∷ asked benchLimits empty (0x51 ∷ 1 ∷ 0 ∷ (empty ++ bookEnd)) 12294 (refused 24 Book)
-    ∷ asked benchLimits empty (0x51 ∷ 1 ∷ 1 ∷ (replicate 257 0 ++ bookEnd)) 12294 (refused 3 (Card 0))
+    ∷ asked benchLimits empty (0x51 ∷ 0 ∷ 3 ∷ (end ++ end)) 12294 (refused 7 (Card 0))
+    ∷ asked benchLimits empty (0x51 ∷ 1 ∷ 0 ∷ (empty ++ end)) 12294 (refused 24 Book)
+    ∷ asked benchLimits empty (0x51 ∷ 1 ∷ 1 ∷ (replicate 257 0 ++ end)) 12294 (refused 3 (Card 0))
     -- a card of no byte meets 2; 32 cards are read, 33 meet 24, and that before the cards
     ∷ asked benchLimits empty (emptyCards 1) 12294 (refused 2 (Card 0))
     ∷ asked benchLimits empty (emptyCards 32) 12294 (refused 2 (Card 0))

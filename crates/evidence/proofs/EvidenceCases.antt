@@ -13,12 +13,13 @@ use Rattle.picture.specs.Questions.{endField, fieldAt, kindOk, lengthFor, paren
 use Rattle.picture.specs.Read.{answerOf, readingOf, scanFrom}
 use Rattle.picture.specs.View.{rowCount, viewOf}
 use Rattle.picture.specs.declared.answer.Input.the-variants.{Evidence}
+use Rattle.meaning.proofs.CasePictures.{allRow, empty, end, impossible, noneReached, root, row, someBoth, someEach, someReached, someRow}
 use Rattle.meaning.specs.NormalTable.{mergedCount, mergedTree, normalFile, normalTreeOf}
 use Rattle.countermodel.specs.Individual.{individualHead, individualOk, refutationForm}
 use Rattle.countermodel.specs.Layout.{individualCount}
 use Rattle.workspace.specs.Prepare.{mergedAsked, prepareAnswer, workSize}
 use Rattle.evidence.specs.declared.check.Verified.{Verified}
-use Rattle.evidence.specs.declared.check.Verified.the-variants.{MapTaken, RefutationTaken, Refused}
+use Rattle.evidence.specs.declared.check.Verified.the-variants.{MapTaken, Refused, RefutationTaken}
 use Rattle.evidence.specs.Call.{evidenceAnswer, verifyAnswer}
 use Rattle.evidence.specs.Check.{checkAnswer, refutationAsked}
 use Rattle.evidence.specs.Form.{formOf, mapForm}
@@ -38,69 +39,36 @@ runAll (c ∷ cs) = ran c ∷ runAll cs
 abbrev refused : ℕ → Verified
 refused q = Refused (record { number = q; input = Evidence })
 
--- ---- pictures: {3} is 8, {5} is 32, both 40; r is 8, s is 9
-
-abbrev end : List ℕ
-end = 0x2F ∷ 0 ∷ 0 ∷ []
-
-abbrev root : ℕ → List ℕ
-root wanted = rowOf 0 0 0 0 wanted 0
-
-abbrev some : ℕ → ℕ → ℕ → List ℕ
-some parent role wanted = rowOf parent 1 role 0 wanted 0
-
-abbrev all : ℕ → List ℕ
-all wanted = rowOf 0 2 8 0 wanted 0
-
-abbrev marked : List ℕ
-marked = rowOf 0 2 8 1 0 0
-
-abbrev empty : List ℕ
-empty = root 0 ++ end
+-- ---- pictures
 
 abbrev named : List ℕ
 named = root 8 ++ end
 
-abbrev impossible : List ℕ
-impossible = rowOf 0 0 0 1 0 0 ++ end
-
-abbrev someReached : List ℕ
-someReached = root 0 ++ (some 0 8 0 ++ end)
-
-abbrev someBoth : List ℕ
-someBoth = root 0 ++ (some 0 8 40 ++ end)
-
-abbrev someEach : List ℕ
-someEach = root 0 ++ (some 0 8 8 ++ (some 0 8 32 ++ end))
-
 abbrev someThree : List ℕ
-someThree = root 0 ++ (some 0 8 8 ++ end)
+someThree = root 0 ++ (someRow 0 8 8 ++ end)
 
 abbrev twice : List ℕ
-twice = root 0 ++ (some 0 8 8 ++ (some 0 8 8 ++ end))
+twice = root 0 ++ (someRow 0 8 8 ++ (someRow 0 8 8 ++ end))
 
 abbrev otherRole : List ℕ
-otherRole = root 0 ++ (some 0 9 8 ++ end)
+otherRole = root 0 ++ (someRow 0 9 8 ++ end)
 
 abbrev excluding : List ℕ
-excluding = root 0 ++ (rowOf 0 1 8 0 0 16 ++ end)
+excluding = root 0 ++ (row 0 1 8 0 0 16 ++ end)
 
 abbrev chain : List ℕ
-chain = root 0 ++ (some 0 8 0 ++ (some 1 8 0 ++ end))
+chain = root 0 ++ (someRow 0 8 0 ++ (someRow 1 8 0 ++ end))
 
 abbrev allFive : List ℕ
-allFive = root 0 ++ (all 32 ++ end)
-
-abbrev noneReached : List ℕ
-noneReached = root 0 ++ (marked ++ end)
+allFive = root 0 ++ (allRow 0 8 32 ++ end)
 
 -- and some s{} beside
 abbrev noneBeside : List ℕ
-noneBeside = root 0 ++ (marked ++ (some 0 9 0 ++ end))
+noneBeside = root 0 ++ (row 0 2 8 1 0 0 ++ (someRow 0 9 0 ++ end))
 
 -- all r(some s{})
 abbrev allSome : List ℕ
-allSome = root 0 ++ (all 0 ++ (some 1 9 0 ++ end))
+allSome = root 0 ++ (allRow 0 8 0 ++ (someRow 1 9 0 ++ end))
 
 -- ---- evidence
 
@@ -164,14 +132,14 @@ cases =
     ∷ case someBoth someEach (map3 0 1 2) (refused 17)
     ∷ case someBoth someReached (0x41 ∷ 0 ∷ 4 ∷ 0 ∷ 0 ∷ 1 ∷ 1 ∷ end) (refused 17)
     ∷ case someReached someBoth (map2 0 2) (refused 17)
-    ∷ case someReached (root 8 ++ (some 0 8 0 ++ end)) (map2 0 2) (refused 19)
+    ∷ case someReached (root 8 ++ (someRow 0 8 0 ++ end)) (map2 0 2) (refused 19)
     -- 18; 17 comes before it, and 19 after
     ∷ case someBoth empty (map1 0) MapTaken
     ∷ case someBoth empty (map1 1) (refused 18)
     ∷ case someBoth empty (map1 2) (refused 17)
     ∷ case someReached named (map1 1) (refused 18)
     ∷ case someReached named (map1 0) (refused 19)
-    -- 19: names wanted, names excluded, the mark; a marked image takes everything; 19 comes before 20
+    -- 19: names wanted, names excluded, the mark; a row 0 2 8 1 0 0 image takes everything; 19 comes before 20
     ∷ case someEach someBoth (map2 0 1) (refused 19)
     ∷ case someBoth excluding (map2 0 1) (refused 19)
     ∷ case excluding excluding (map2 0 1) MapTaken
@@ -186,7 +154,7 @@ cases =
     ∷ case someBoth someReached (map2 0 0) (refused 20)
     ∷ case chain chain (map3 0 1 2) MapTaken
     ∷ case chain chain (map3 0 1 1) (refused 20)
-    -- below a marked image that image, and no other
+    -- below a row 0 2 8 1 0 0 image that image, and no other
     ∷ case noneBeside allSome (map3 0 1 1) MapTaken
     ∷ case noneBeside allSome (map3 0 1 0) (refused 20)
     ∷ case noneBeside allSome (map3 0 1 2) (refused 20)

@@ -19,6 +19,7 @@ use Rattle.picture.specs.Read.{answerOf, readingOf, scanFrom}
 use Rattle.picture.specs.View.{rowCount, viewOf}
 use Rattle.picture.specs.declared.answer.Input.{Input}
 use Rattle.picture.specs.declared.answer.Input.the-variants.{Buffer, First, Second}
+use Rattle.meaning.proofs.CasePictures.{allOf, allRow, empty, fourRows, impossible, noneReached, one, oneRow, picture, root, row, someRow, two}
 use Rattle.meaning.specs.NormalTable.{mergedCount, mergedTree, normalFile, normalTreeOf}
 use Rattle.normal.specs.Half.{halfOf}
 use Rattle.workspace.specs.Lent.{pairWork}
@@ -33,13 +34,6 @@ pub data Case : Type 0 where
   asked : Limits → List ℕ → List ℕ → ℕ → ℕ → Common → Case
   wrote : Limits → List ℕ → List ℕ → ℕ → ℕ → List ℕ → Case
   left : Limits → List ℕ → List ℕ → ℕ → ℕ → List ℕ → Case
-
--- work spaces of 54, 198 and 246 bytes, result buffers of 27, 99 and 123
-abbrev oneRow : Limits
-oneRow = record { rows = 1; depth = 0 }
-
-abbrev fourRows : Limits
-fourRows = record { rows = 4; depth = 2 }
 
 abbrev fiveRows : Limits
 fiveRows = record { rows = 5; depth = 2 }
@@ -57,88 +51,46 @@ runAll (c ∷ cs) = ran c ∷ runAll cs
 abbrev refused : ℕ → Input → Common
 refused q input = Refused (record { number = q; input = input })
 
--- ---- pictures, byte by byte: {1} is 2, {2} is 4, {3} is 8, {4} is 16, {5} is 32, {6} is 64, {7} is 128; r is 8, s is 9
-
--- the last byte of the parent, the kind, the role, the impossible byte, and the last bytes of the wanted and of the excluded names
-abbrev row : ℕ → ℕ → ℕ → ℕ → ℕ → ℕ → List ℕ
-row parent kind role mark wanted excluded =
-    0x10 ∷ 0 ∷ 21 ∷ 0 ∷ parent ∷ kind ∷ role ∷ mark
-    ∷ 0 ∷ 0 ∷ 0 ∷ 0 ∷ 0 ∷ 0 ∷ 0 ∷ wanted
-    ∷ 0 ∷ 0 ∷ 0 ∷ 0 ∷ 0 ∷ 0 ∷ 0 ∷ excluded ∷ []
-
--- rows, and the end field
-abbrev picture : List (List ℕ) → List ℕ
-picture [] = 0x2F ∷ 0 ∷ 0 ∷ []
-picture (w ∷ ws) = w ++ picture ws
-
-abbrev root : ℕ → List ℕ
-root wanted = row 0 0 0 0 wanted 0
-
--- the parent, the role and the names wanted
-abbrev some : ℕ → ℕ → ℕ → List ℕ
-some parent role wanted = row parent 1 role 0 wanted 0
-
-abbrev all : ℕ → ℕ → ℕ → List ℕ
-all parent role wanted = row parent 2 role 0 wanted 0
-
-abbrev empty : List ℕ
-empty = picture (root 0 ∷ [])
+-- ---- pictures
 
 -- one row with names wanted and names excluded
 abbrev names : ℕ → ℕ → List ℕ
 names wanted excluded = picture (row 0 0 0 0 wanted excluded ∷ [])
 
-abbrev impossible : List ℕ
-impossible = picture (row 0 0 0 1 0 0 ∷ [])
-
--- all r impossible
-abbrev noneReached : List ℕ
-noneReached = picture (root 0 ∷ row 0 2 8 1 0 0 ∷ [])
-
--- all r{..}, some r{..}, and some r{..} and some r{..}
-abbrev allOf : ℕ → List ℕ
-allOf wanted = picture (root 0 ∷ all 0 8 wanted ∷ [])
-
-abbrev one : ℕ → List ℕ
-one wanted = picture (root 0 ∷ some 0 8 wanted ∷ [])
-
-abbrev two : ℕ → ℕ → List ℕ
-two wanted other = picture (root 0 ∷ some 0 8 wanted ∷ some 0 8 other ∷ [])
-
 -- all r(some s{..}), all r(all s{..}), some r(some s{..})
 abbrev allSome : ℕ → List ℕ
-allSome wanted = picture (root 0 ∷ all 0 8 0 ∷ some 1 9 wanted ∷ [])
+allSome wanted = picture (root 0 ∷ allRow 0 8 0 ∷ someRow 1 9 wanted ∷ [])
 
 abbrev allAll : ℕ → List ℕ
-allAll wanted = picture (root 0 ∷ all 0 8 0 ∷ all 1 9 wanted ∷ [])
+allAll wanted = picture (root 0 ∷ allRow 0 8 0 ∷ allRow 1 9 wanted ∷ [])
 
 abbrev someSome : ℕ → List ℕ
-someSome wanted = picture (root 0 ∷ some 0 8 0 ∷ some 1 9 wanted ∷ [])
+someSome wanted = picture (root 0 ∷ someRow 0 8 0 ∷ someRow 1 9 wanted ∷ [])
 
 -- all r{3}, some r{5}, and its normal table
 abbrev spread : List ℕ
-spread = picture (root 0 ∷ all 0 8 8 ∷ some 0 8 32 ∷ [])
+spread = picture (root 0 ∷ allRow 0 8 8 ∷ someRow 0 8 32 ∷ [])
 
 abbrev spreadNormal : List ℕ
-spreadNormal = picture (root 0 ∷ all 0 8 8 ∷ some 0 8 40 ∷ [])
+spreadNormal = picture (root 0 ∷ allRow 0 8 8 ∷ someRow 0 8 40 ∷ [])
 
 -- some s{3}, some r{3}, all r{5}, all s{5} in file order, and the normal table
 abbrev mixed : List ℕ
-mixed = picture (root 0 ∷ some 0 9 8 ∷ some 0 8 8 ∷ all 0 8 32 ∷ all 0 9 32 ∷ [])
+mixed = picture (root 0 ∷ someRow 0 9 8 ∷ someRow 0 8 8 ∷ allRow 0 8 32 ∷ allRow 0 9 32 ∷ [])
 
 abbrev mixedNormal : List ℕ
-mixedNormal = picture (root 0 ∷ all 0 8 32 ∷ some 0 8 40 ∷ all 0 9 32 ∷ some 0 9 40 ∷ [])
+mixedNormal = picture (root 0 ∷ allRow 0 8 32 ∷ someRow 0 8 40 ∷ allRow 0 9 32 ∷ someRow 0 9 40 ∷ [])
 
 -- all r(some s{1}), some r{2}: 4 rows, merged 5
 abbrev grows : List ℕ
-grows = picture (root 0 ∷ all 0 8 0 ∷ some 1 9 2 ∷ some 0 8 4 ∷ [])
+grows = picture (root 0 ∷ allRow 0 8 0 ∷ someRow 1 9 2 ∷ someRow 0 8 4 ∷ [])
 
 -- all r{..} or all r(all r{..}), beside two some s
 abbrev beside : ℕ → List ℕ
-beside wanted = picture (root 0 ∷ all 0 8 wanted ∷ some 0 9 2 ∷ some 0 9 4 ∷ [])
+beside wanted = picture (root 0 ∷ allRow 0 8 wanted ∷ someRow 0 9 2 ∷ someRow 0 9 4 ∷ [])
 
 abbrev besideDeep : ℕ → List ℕ
-besideDeep wanted = picture (root 0 ∷ all 0 8 0 ∷ all 1 8 wanted ∷ some 0 9 2 ∷ some 0 9 4 ∷ [])
+besideDeep wanted = picture (root 0 ∷ allRow 0 8 0 ∷ allRow 1 8 wanted ∷ someRow 0 9 2 ∷ someRow 0 9 4 ∷ [])
 
 -- refused by 3 and by 4
 abbrev badTag : List ℕ
@@ -150,8 +102,8 @@ badLength = 0x10 ∷ 0 ∷ 20 ∷ []
 abbrev pub cases : List Case
 cases =
     -- K9, K10, K11
-    told (picture (root 8 ∷ some 0 8 16 ∷ [])) (picture (root 40 ∷ some 0 8 80 ∷ some 0 8 128 ∷ [])) (Length 75)
-    (picture (root 8 ∷ some 0 8 16 ∷ some 0 8 0 ∷ []))
+    told (picture (root 8 ∷ someRow 0 8 16 ∷ [])) (picture (root 40 ∷ someRow 0 8 80 ∷ someRow 0 8 128 ∷ [])) (Length 75)
+    (picture (root 8 ∷ someRow 0 8 16 ∷ someRow 0 8 0 ∷ []))
     ∷ told (allOf 8) (allOf 32) (Length 27) empty
     ∷ told noneReached (allOf 32) (Length 51) (allOf 32)
     -- the normal tables are intersected, never the raw ones
@@ -173,15 +125,15 @@ cases =
     ∷ told noneReached (one 32) (Length 27) empty
     -- all with all, some with some, each role with itself; an empty some stays
     ∷ told (allOf 8) (one 8) (Length 27) empty
-    ∷ told (one 8) (picture (root 0 ∷ some 0 9 8 ∷ [])) (Length 27) empty
+    ∷ told (one 8) (picture (root 0 ∷ someRow 0 9 8 ∷ [])) (Length 27) empty
     ∷ told (one 8) (one 32) (Length 51) (one 0)
     -- by role, all before some, then the first's row and then the second's
     ∷ told mixed mixed (Length 123) mixedNormal
-    ∷ told (two 40 32) (two 8 32) (Length 123) (picture (root 0 ∷ some 0 8 8 ∷ some 0 8 32 ∷ some 0 8 0 ∷ some 0 8 32 ∷ []))
-    ∷ told (two 8 32) (two 40 32) (Length 123) (picture (root 0 ∷ some 0 8 8 ∷ some 0 8 0 ∷ some 0 8 32 ∷ some 0 8 32 ∷ []))
+    ∷ told (two 40 32) (two 8 32) (Length 123) (picture (root 0 ∷ someRow 0 8 8 ∷ someRow 0 8 32 ∷ someRow 0 8 0 ∷ someRow 0 8 32 ∷ []))
+    ∷ told (two 8 32) (two 40 32) (Length 123) (picture (root 0 ∷ someRow 0 8 8 ∷ someRow 0 8 0 ∷ someRow 0 8 32 ∷ someRow 0 8 32 ∷ []))
     -- depth first, each parent by its number in this table
-    ∷ told (picture (root 0 ∷ some 0 8 0 ∷ some 0 8 0 ∷ some 1 9 2 ∷ some 2 9 4 ∷ [])) (someSome 6) (Length 123)
-    (picture (root 0 ∷ some 0 8 0 ∷ some 1 9 2 ∷ some 0 8 0 ∷ some 3 9 4 ∷ []))
+    ∷ told (picture (root 0 ∷ someRow 0 8 0 ∷ someRow 0 8 0 ∷ someRow 1 9 2 ∷ someRow 2 9 4 ∷ [])) (someSome 6) (Length 123)
+    (picture (root 0 ∷ someRow 0 8 0 ∷ someRow 1 9 2 ∷ someRow 0 8 0 ∷ someRow 3 9 4 ∷ []))
     -- dropping from the leaves up; what hangs from an all keeps it
     ∷ told (allAll 8) (allAll 32) (Length 27) empty
     ∷ told (allSome 8) (allSome 32) (Length 75) (allSome 0)
@@ -206,7 +158,7 @@ cases =
     ∷ asked fourRows grows grows 198 99 (refused 14 First)
     ∷ asked fourRows (two 2 4) (two 2 4) 198 99 (refused 15 Second)
     -- as many rows as the limit; 15 counts after the dropping, and what is not dropped
-    ∷ asked fourRows (picture (root 0 ∷ some 0 8 2 ∷ some 0 8 4 ∷ some 0 8 8 ∷ [])) (one 2) 198 99 (Length 99)
+    ∷ asked fourRows (picture (root 0 ∷ someRow 0 8 2 ∷ someRow 0 8 4 ∷ someRow 0 8 8 ∷ [])) (one 2) 198 99 (Length 99)
     ∷ asked fiveRows (two 2 4) (two 2 4) 246 123 (Length 123)
     ∷ asked fiveRows (beside 8) (beside 32) 246 123 (Length 123)
     ∷ asked fiveRows (besideDeep 8) (besideDeep 32) 246 123 (Length 123)

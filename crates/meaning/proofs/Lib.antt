@@ -8,4 +8,5 @@ pub mod Pictures
 pub mod Normals
 pub mod Coverings
 -- computed
+pub mod CasePictures
 pub mod Cases

@@ -19,6 +19,7 @@ use Rattle.picture.specs.View.{rowCount, viewOf}
 use Rattle.picture.specs.declared.answer.Input.{Input}
 use Rattle.picture.specs.declared.answer.Input.the-variants.{Buffer, First, Second}
 use Rattle.meaning.specs.Covering.{covers}
+use Rattle.meaning.proofs.CasePictures.{allOf, allRow, empty, end, fourRows, impossible, noneReached, one, oneRow, picture, root, row, someBoth, someEach, someReached, someRow, two}
 use Rattle.meaning.specs.NormalTable.{mergedCount, mergedTree, normalFile, normalTreeOf}
 use Rattle.homomorphism.specs.Map.{lowestMap, mapFile}
 use Rattle.countermodel.specs.Writing.{individualBytes, refutationFile}
@@ -33,12 +34,6 @@ pub data Case : Type 0 where
   asked : Limits → List ℕ → List ℕ → ℕ → ℕ → Verdict → Case
   wrote : List ℕ → List ℕ → ℕ → List ℕ → Case
 
-abbrev oneRow : Limits
-oneRow = record { rows = 1; depth = 0 }
-
-abbrev fourRows : Limits
-fourRows = record { rows = 4; depth = 2 }
-
 abbrev ran : Case → Case
 ran (told first second v e) = told first second (subsumesAnswer benchLimits first second 12294 46595) (evidenceOf benchLimits first second)
 ran (asked limits first second work result v) = asked limits first second work result (subsumesAnswer limits first second work result)
@@ -51,70 +46,28 @@ runAll (c ∷ cs) = ran c ∷ runAll cs
 abbrev refused : ℕ → Input → Verdict
 refused q input = Refused (record { number = q; input = input })
 
--- ---- pictures: {1} is 2, {2} is 4, {3} is 8, {5} is 32; r is 8, s is 9
-
-abbrev end : List ℕ
-end = 0x2F ∷ 0 ∷ 0 ∷ []
-
-abbrev root : ℕ → List ℕ
-root wanted = rowOf 0 0 0 0 wanted 0
-
--- the parent, the role and the names wanted
-abbrev some : ℕ → ℕ → ℕ → List ℕ
-some parent role wanted = rowOf parent 1 role 0 wanted 0
-
-abbrev all : ℕ → ℕ → ℕ → List ℕ
-all parent role wanted = rowOf parent 2 role 0 wanted 0
-
-abbrev empty : List ℕ
-empty = root 0 ++ end
+-- ---- pictures
 
 abbrev wanting : ℕ → List ℕ
 wanting names = root names ++ end
 
 abbrev excluding : ℕ → List ℕ
-excluding names = rowOf 0 0 0 0 0 names ++ end
-
-abbrev impossible : List ℕ
-impossible = rowOf 0 0 0 1 0 0 ++ end
-
-abbrev someReached : List ℕ
-someReached = root 0 ++ (some 0 8 0 ++ end)
-
-abbrev someBoth : List ℕ
-someBoth = root 0 ++ (some 0 8 40 ++ end)
-
-abbrev someEach : List ℕ
-someEach = root 0 ++ (some 0 8 8 ++ (some 0 8 32 ++ end))
-
-abbrev noneReached : List ℕ
-noneReached = root 0 ++ (rowOf 0 2 8 1 0 0 ++ end)
-
--- all r{..}
-abbrev allWanting : ℕ → List ℕ
-allWanting names = root 0 ++ (all 0 8 names ++ end)
-
--- some r{..}, and some r{..} and some r{..}
-abbrev one : ℕ → List ℕ
-one names = root 0 ++ (some 0 8 names ++ end)
-
-abbrev two : ℕ → ℕ → List ℕ
-two names others = root 0 ++ (some 0 8 names ++ (some 0 8 others ++ end))
+excluding names = row 0 0 0 0 0 names ++ end
 
 -- some r(some s{..}), and two of them
 abbrev below : ℕ → List ℕ
-below names = root 0 ++ (some 0 8 0 ++ (some 1 9 names ++ end))
+below names = root 0 ++ (someRow 0 8 0 ++ (someRow 1 9 names ++ end))
 
 abbrev twoBelow : ℕ → ℕ → List ℕ
-twoBelow names others = root 0 ++ (some 0 8 0 ++ (some 1 9 names ++ (some 0 8 0 ++ (some 3 9 others ++ end))))
+twoBelow names others = root 0 ++ (someRow 0 8 0 ++ (someRow 1 9 names ++ (someRow 0 8 0 ++ (someRow 3 9 others ++ end))))
 
 -- all r(some s{1})
 abbrev allSome : List ℕ
-allSome = root 0 ++ (all 0 8 0 ++ (some 1 9 2 ++ end))
+allSome = root 0 ++ (allRow 0 8 0 ++ (someRow 1 9 2 ++ end))
 
 -- all r(some s{1}), some r{2}: 4 rows, merged 5
 abbrev grows : List ℕ
-grows = root 0 ++ (all 0 8 0 ++ (some 1 9 2 ++ (some 0 8 4 ++ end)))
+grows = root 0 ++ (allRow 0 8 0 ++ (someRow 1 9 2 ++ (someRow 0 8 4 ++ end)))
 
 -- refused by 3 and by 4
 abbrev badTag : List ℕ
@@ -160,7 +113,7 @@ cases =
     -- K7, K8
     told someBoth someEach (Yes 12) (map3 1 1)
     ∷ told someEach someBoth (No 45) (also (individual 0 8 8 ++ individual 0 8 32))
-    ∷ told noneReached (allWanting 32) (Yes 10) (map2 1)
+    ∷ told noneReached (allOf 32) (Yes 10) (map2 1)
     ∷ told noneReached someReached (No 17) alone
     -- every picture is covered by the empty one, and an impossible one by every picture
     ∷ told someBoth empty (Yes 8) map1
@@ -182,11 +135,11 @@ cases =
     -- some: nobody, or not the one wanted, two levels down; what else the first asks is there
     ∷ told empty someReached (No 17) alone
     ∷ told (below 8) (below 32) (No 45) (also (individual 0 8 0 ++ individual 1 9 8))
-    ∷ told (root 0 ++ (some 0 8 8 ++ (some 0 9 2 ++ end))) (one 32) (No 45) (also (individual 0 8 8 ++ individual 0 9 2))
+    ∷ told (root 0 ++ (someRow 0 8 8 ++ (someRow 0 9 2 ++ end))) (one 32) (No 45) (also (individual 0 8 8 ++ individual 0 9 2))
     -- all: one more individual, of whom only that is so that the first says of all; what else the first asks comes after it
-    ∷ told empty (allWanting 32) (No 31) (also (individual 0 8 0))
-    ∷ told (allWanting 8) (allWanting 40) (No 31) (also (individual 0 8 8))
-    ∷ told (root 0 ++ (some 0 9 2 ++ end)) (allWanting 32) (No 45) (also (individual 0 8 0 ++ individual 0 9 2))
+    ∷ told empty (allOf 32) (No 31) (also (individual 0 8 0))
+    ∷ told (allOf 8) (allOf 40) (No 31) (also (individual 0 8 8))
+    ∷ told (root 0 ++ (someRow 0 9 2 ++ end)) (allOf 32) (No 45) (also (individual 0 8 0 ++ individual 0 9 2))
     ∷ told empty noneReached (No 31) (also (individual 0 8 0))
     -- 1, whichever buffer is short; before the questions about the pictures; longer ones are as good
     ∷ asked benchLimits empty empty 12294 46595 (Yes 8)
