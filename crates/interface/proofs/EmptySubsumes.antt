@@ -18,7 +18,7 @@ use Rattle.ale.proofs.Concepts.{subsumed-concepts}
 use Rattle.ale.proofs.Structures.{satisfies-emptyLabel}
 use Rattle.ale.proofs.Tests.{or-right}
 use Rattle.ale.specs.Homomorphism.{labelWithin}
-use Rattle.ale.specs.Interpretation.{Subsumed, structureOf}
+use Rattle.ale.specs.Interpretation.{structureOf}
 use Rattle.ale.specs.PictureSignature.{pictureSignature}
 use Rattle.ale.specs.RowMap.{IsHomomorphism, bottomAt, labelAgrees}
 use Rattle.ale.specs.Structure.{Fits}
@@ -127,15 +127,17 @@ module _ (first : List ℕ) (few : mergedCount benchLimits first ≤ maxRows) wh
     empty-taken work enough = map-verify first empty k1-map (length work) enough pair (record { form = empty-form; maps = empty-map })
 
 -- whatever fits a picture fits the empty row
-empty-covers : (first : List ℕ) → Subsumed pictureSignature (pictureTree benchLimits first) (pictureTree benchLimits empty)
-empty-covers first I x l f =
+empty-covers : (first : List ℕ) → Covers benchLimits empty first
+empty-covers first =
+    subsumed-concepts pictureSignature (pictureTree benchLimits first) (pictureTree benchLimits empty) .0
+    (λ I x l f.
     subst (λ t. Fits pictureSignature (structureOf pictureSignature I) t x) (sym empty-tree)
-    (satisfies-emptyLabel pictureSignature (structureOf pictureSignature I) x, tt)
+    (satisfies-emptyLabel pictureSignature (structureOf pictureSignature I) x, tt))
 
 pub empty-subsumes : Holds k1
 empty-subsumes = (
   empty-counted,
   λ first readable.
-      let covers = subsumed-concepts pictureSignature (pictureTree benchLimits first) (pictureTree benchLimits empty) .0 (empty-covers first) in
-      (empty-covers first, λ few. (empty-writes first few readable covers, empty-taken first few readable covers)),
+      let covers = empty-covers first in
+      (covers, λ few. (empty-writes first few readable covers, empty-taken first few readable covers)),
 )

@@ -6,9 +6,6 @@ use lib.ListN.{length}
 use mathlib.Core.List.{List}
 use mathlib.Core.Path.{_∙_, _≡_, ap, refl, subst}
 use native.Mathlib.Omega.{arith}
-use Rattle.ale.proofs.Concepts.{subsumed-concepts}
-use Rattle.ale.specs.Interpretation.{Subsumed}
-use Rattle.ale.specs.PictureSignature.{pictureSignature}
 use Rattle.countermodel.specs.Individual.{individualHead, individualOk, refutationForm}
 use Rattle.countermodel.specs.Layout.{individualCount}
 use Rattle.countermodel.specs.Writing.{individualBytes, refutationFile}
@@ -21,7 +18,6 @@ use Rattle.lcs.proofs.Commons.{lcs-covers-first, lcs-covers-second}
 use Rattle.lcs.specs.Call.{commonAnswer, lcsAnswer}
 use Rattle.lcs.specs.Product.{lcsCount, lcsFile, lcsTree}
 use Rattle.meaning.specs.Covering.{Covers, covers}
-use Rattle.meaning.specs.Meaning.{pictureTree}
 use Rattle.meaning.specs.NormalTable.{mergedCount, mergedTree, normalFile, normalTreeOf}
 use Rattle.picture.specs.Depth.{depth, depthIn}
 use Rattle.picture.specs.Questions.{endField, fieldAt, kindOk, lengthFor, parentOk, roleOk, rowField, tagOk, valueField}
@@ -90,11 +86,6 @@ shown-normal rows first left table counted left-counted opened few is = (
 
 -- a common picture that is given with buffers of the lengths laid down stands in any result buffer that is long enough, and covers both
 module _ (first second : List ℕ) (rows : ℕ) (table : List ℕ) (is : lcsFile benchLimits first second ≡ table) where
-  covers-common : (s : List ℕ) → Covers benchLimits (lcsFile benchLimits first second) s →
-      Subsumed pictureSignature (pictureTree benchLimits s) (pictureTree benchLimits table)
-  covers-common s c =
-      subsumed-concepts pictureSignature (pictureTree benchLimits s) (pictureTree benchLimits table) .1 (subst (λ e. Covers benchLimits e s) is c)
-
   shown-common : HasRows table rows → outcome (lcsWord first second workRoom tableRoom) ≡ outcomeYes → Holds (common first second rows table)
   shown-common counted told =
       let a = lcs-yes first second workRoom tableRoom told in (
@@ -102,8 +93,8 @@ module _ (first second : List ℕ) (rows : ℕ) (table : List ℕ) (is : lcsFile
         λ work result enough long.
             let given = lcs-common first second work result enough long (a .pair) (a .few) in
             (given .0 ∙ ap (λ (e : List ℕ). valueWord outcomeYes (length e)) is, given .2 ∙ ap (λ (e : List ℕ). put result 0 e) is),
-        covers-common first (lcs-covers-first benchLimits first second (a .few) bench),
-        covers-common second (lcs-covers-second benchLimits first second (a .few) bench),
+        subst (λ e. Covers benchLimits e first) is (lcs-covers-first benchLimits first second (a .few) bench),
+        subst (λ e. Covers benchLimits e second) is (lcs-covers-second benchLimits first second (a .few) bench),
       )
 
 pub starred-hold : AllHold starred

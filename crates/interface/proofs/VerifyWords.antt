@@ -18,23 +18,22 @@ use mathlib.Core.List.{List, _++_}
 use mathlib.Core.Logic.{⊎-elim}
 use mathlib.Core.Path.{_∙_, _≡_, ap, refl}
 use Rattle.table.specs.Bounds.{benchLimits}
-use Rattle.ale.specs.Interpretation.{Subsumed}
-use Rattle.ale.specs.PictureSignature.{pictureSignature}
 use Rattle.picture.specs.declared.answer.Input.{Input}
 use Rattle.picture.specs.declared.answer.Input.the-variants.{Buffer, Evidence}
 use Rattle.picture.specs.declared.answer.Refusal.{Refusal}
-use Rattle.meaning.specs.Meaning.{pictureTree}
+use Rattle.meaning.specs.Covering.{Covers}
 use Rattle.meaning.specs.NormalTable.{normalFile}
 use Rattle.normal.specs.Half.{halfOf}
 use Rattle.workspace.proofs.Preparations.{halves-same}
 use Rattle.workspace.specs.Prepare.{Acceptable, halvesPut, workSize}
 use Rattle.evidence.proofs.Refusals.{verify-refusal}
-use Rattle.evidence.proofs.Soundness.{map-no-refusal, map-sound, map-taken, refutation-no-refusal, refutation-sound, refutation-taken}
+use Rattle.evidence.proofs.Soundness.{map-no-refusal, map-taken, refutation-no-refusal, refutation-taken}
 use Rattle.evidence.proofs.Verifications.{acceptable-verify, acceptable-work, refused-verify, refused-work, short-verify, short-work, verify-taken, work-kept, work-past}
 use Rattle.evidence.specs.Call.{evidenceAnswer, verifyAnswer}
 use Rattle.evidence.specs.Taken.{MapOf, RefutationOf}
 use Rattle.evidence.specs.declared.check.Verified.{Verified}
 use Rattle.evidence.specs.declared.check.Verified.the-variants as verified
+use Rattle.subsumption.proofs.Writers.{map-covers, refutation-fails}
 use Rattle.interface.specs.Calls.{verifySpace, verifyWord}
 use Rattle.interface.specs.Word.{outcomeNo, outcomeYes, refusalWord, verifiedWord}
 use Rattle.interface.proofs.PairWords.{Refusals, bench, concerns-zero, known-zero, refusals}
@@ -125,14 +124,12 @@ module _ (first second evidence : List ℕ) (room : ℕ) where
         ap verifiedWord (acceptable-verify benchLimits first second evidence room enough pair ∙ refutation-taken benchLimits first second evidence bench pair .1 m)
 
   -- a map is taken only if the second covers the first, a refutation only if it does not
-  pub verify-map-subsumed : outcome (verifyWord first second evidence room) ≡ outcomeYes →
-      Subsumed pictureSignature (pictureTree benchLimits first) (pictureTree benchLimits second)
+  pub verify-map-subsumed : outcome (verifyWord first second evidence room) ≡ outcomeYes → Covers benchLimits second first
+  unfolding verifyWord
   verify-map-subsumed h =
-      let (enough, pair, m) = verify-map h in
-      map-sound benchLimits first second evidence bench pair (map-taken benchLimits first second evidence bench pair .1 m)
+      map-covers benchLimits first second evidence room bench (map-word (verifyAnswer benchLimits first second evidence room) refl h)
 
-  pub verify-refutation-not : outcome (verifyWord first second evidence room) ≡ outcomeNo →
-      Subsumed pictureSignature (pictureTree benchLimits first) (pictureTree benchLimits second) → ⊥
+  pub verify-refutation-not : outcome (verifyWord first second evidence room) ≡ outcomeNo → Covers benchLimits second first → ⊥
+  unfolding verifyWord
   verify-refutation-not h =
-      let (enough, pair, m) = verify-refutation h in
-      refutation-sound benchLimits first second evidence bench pair (refutation-taken benchLimits first second evidence bench pair .1 m)
+      refutation-fails benchLimits first second evidence room bench (refutation-word (verifyAnswer benchLimits first second evidence room) refl h)

@@ -30,11 +30,9 @@ use Rattle.table.specs.Fields.{endBytes, rowOf}
 use Rattle.table.specs.Layout.{kindExists, kindForAll, kindRoot, nameBytes, numberSize}
 use Rattle.table.specs.Number.{beBytes}
 use Rattle.table.specs.Put.{put}
-use Rattle.ale.specs.Interpretation.{Subsumed}
-use Rattle.ale.specs.PictureSignature.{pictureSignature}
-use Rattle.meaning.specs.Meaning.{pictureTree}
 use Rattle.countermodel.specs.Layout.{individualLength, individualTag}
 use Rattle.picture.specs.View.{Readable}
+use Rattle.meaning.specs.Covering.{Covers}
 use Rattle.meaning.specs.NormalTable.{mergedCount}
 use Rattle.workspace.specs.Prepare.{workSize}
 use Rattle.homomorphism.specs.Layout.{mapTag}
@@ -145,20 +143,20 @@ Holds (normal rows first left table) = HasRows first rows × HasRows table left 
 Holds (subsumes first second map) =
     WritesEvidence first second outcomeYes map
     × TakesEvidence first second outcomeYes map
-    × Subsumed pictureSignature (pictureTree benchLimits first) (pictureTree benchLimits second)
+    × Covers benchLimits second first
 Holds (subsumesNot first second refuting) =
     WritesEvidence first second outcomeNo refuting
     × TakesEvidence first second outcomeNo refuting
-    × (Subsumed pictureSignature (pictureTree benchLimits first) (pictureTree benchLimits second) → ⊥)
+    × (Covers benchLimits second first → ⊥)
 Holds (common first second rows table) =
     HasRows table rows
     × WritesCommon first second table
-    × Subsumed pictureSignature (pictureTree benchLimits first) (pictureTree benchLimits table)
-    × Subsumed pictureSignature (pictureTree benchLimits second) (pictureTree benchLimits table)
+    × Covers benchLimits table first
+    × Covers benchLimits table second
 Holds (subsumesAll rows second map) =
     HasRows second rows
     × ((first : List ℕ) → Readable benchLimits first →
-    Subsumed pictureSignature (pictureTree benchLimits first) (pictureTree benchLimits second)
+    Covers benchLimits second first
     × (mergedCount benchLimits first ≤ maxRows → WritesEvidence first second outcomeYes map × TakesEvidence first second outcomeYes map))
 
 abbrev pub AllHold : List Case → Type 0

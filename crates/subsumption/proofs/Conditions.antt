@@ -10,6 +10,7 @@
 --   Covers                the second picture covers the first: 003, Definition 1, with Table 1's extensions, over finite interpretations (meaning, specs/Covering)
 --   any-interpretation    a positive count and any tables for names and roles are an interpretation: what else the record asks, that roles respect their
 --                         inclusion, asks nothing where inclusion is equality
+--   covers-fits           covering by 01's own words, "every individual fitting the first root fits the second", is the same
 --   SaysYes, SaysNo       the verdict is yes, is no, with evidence of a length
 --   written               the result buffer's bytes up to the reported length
 --   condition-2-verdict   condition 2
@@ -24,13 +25,14 @@ use mathlib.Core.List.{List}
 use mathlib.Core.Logic.{_↔_, _⊎_, inl, inr}
 use mathlib.Core.Path.{_≡_, refl, subst, sym}
 use native.Mathlib.Omega.{arith}
-use Rattle.ale.specs.Interpretation.{Interpretation}
+use Rattle.ale.proofs.Concepts.{subsumed-concepts}
+use Rattle.ale.specs.Interpretation.{Interpretation, Subsumed}
 use Rattle.ale.specs.PictureSignature.{pictureSignature}
 use Rattle.countermodel.specs.Individual.{refutationForm}
 use Rattle.evidence.specs.Call.{verifyAnswer}
 use Rattle.evidence.specs.Form.{mapForm}
 use Rattle.meaning.specs.Covering.{Covers}
-use Rattle.meaning.specs.Meaning.{pictureTable}
+use Rattle.meaning.specs.Meaning.{pictureTable, pictureTree}
 use Rattle.meaning.specs.NormalTable.{normalFile}
 use Rattle.table.proofs.Bools.{by-test}
 use Rattle.table.specs.Bounds.{Bounded, benchLimits}
@@ -53,6 +55,10 @@ any-interpretation count positive holds edge = (
   refl,
   refl,
 )
+
+pub covers-fits : (limits : Limits) (first second : List ℕ) →
+    Subsumed pictureSignature (pictureTree limits first) (pictureTree limits second) ↔ Covers limits second first
+covers-fits limits first second = subsumed-concepts pictureSignature (pictureTree limits first) (pictureTree limits second)
 
 abbrev pub SaysYes : Verdict → Type 0
 SaysYes answer = (n : ℕ) × (answer ≡ Yes n)
