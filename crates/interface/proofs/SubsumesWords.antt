@@ -12,7 +12,7 @@
 --   subsumes-yes, subsumes-no   outcome 1 or 2 is given only with room, for an acceptable pair, with that verdict; the value is the evidence's length
 --   subsumes-covers,
 --   subsumes-not                so only if the second covers the first, only if it does not
---   subsumes-exactly            with buffers of the lengths laid down and for an acceptable pair: exactly then
+--   subsumes-exactly            with buffers of the lengths laid down and for an acceptable pair: exactly then, and the outcome is one of the two
 --   subsumes-evidence           the result buffer's bytes up to that length are the evidence,
 --   subsumes-map-taken,
 --   subsumes-refutation-taken   and the check takes it: a map where the outcome is 1, a refutation where it is 2
@@ -22,7 +22,7 @@ use native.Mathlib.Omega.{arith}
 use lib.ListN.{getD, length, take}
 use mathlib.Core.Bool.{Bool, false, true}
 use mathlib.Core.List.{List, _++_}
-use mathlib.Core.Logic.{_↔_}
+use mathlib.Core.Logic.{_↔_, _⊎_, inl, inr, ⊎-elim}
 use mathlib.Core.Path.{_∙_, _≡_, ap, refl, subst, sym}
 use Rattle.table.specs.Bounds.{benchLimits}
 use Rattle.table.specs.Put.{put}
@@ -39,7 +39,7 @@ use Rattle.evidence.proofs.Verifications.{pair-work}
 use Rattle.evidence.specs.declared.check.Verified.the-variants as verified
 use Rattle.subsumption.proofs.Answers.{Answered, acceptable-result, acceptable-subsumes, answered-no, answered-yes, evidence-read, refused-result, refused-subsumes, result-kept, result-past, short-result, short-subsumes}
 use Rattle.meaning.specs.Covering.{Covers}
-use Rattle.subsumption.proofs.Conditions.{condition-2-verdict}
+use Rattle.subsumption.proofs.Conditions.{SaysNo, SaysYes, condition-2-verdict}
 use Rattle.subsumption.proofs.Refusals.{subsumes-refusal}
 use Rattle.subsumption.proofs.Writers.{evidence-size, no-verify, verdict-covers, verdict-fails, yes-verify}
 use Rattle.subsumption.specs.Call.{subsumesAnswer, subsumesResult, subsumesWork, verdictAnswer}
@@ -156,26 +156,30 @@ module _ (first second : List ℕ) (work result : ℕ) where
   pub subsumes-not : outcome (subsumesWord first second work result) ≡ outcomeNo → Covers benchLimits second first → ⊥
   subsumes-not h = let a = subsumes-no h in verdict-fails benchLimits first second bench (a .pair) .0 (a .verdict-is)
 
-  -- with buffers of the lengths laid down, exactly then
-  pub subsumes-exactly : workSize benchLimits ≤ work → evidenceSize benchLimits ≤ result → Acceptable benchLimits first second →
-      ((outcome (subsumesWord first second work result) ≡ outcomeYes) ↔ Covers benchLimits second first)
-      × ((outcome (subsumesWord first second work result) ≡ outcomeNo) ↔ (Covers benchLimits second first → ⊥))
+  -- the word of an answer yes, of an answer no
+  says-yes : SaysYes (subsumesAnswer benchLimits first second work result) → outcome (subsumesWord first second work result) ≡ outcomeYes
   unfolding subsumesWord
-  subsumes-exactly enough long pair =
-      let (yes-is, no-is, one) = condition-2-verdict benchLimits bench first second pair work result enough long in (
-        (
-          subsumes-covers,
-          λ c. let (n, e) = yes-is .1 c in
-              ap (λ v. outcome (verdictWord v)) e
-              ∙ value-outcome outcomeYes n (answered-small true n (answered-yes benchLimits first second work result n e)),
-        ),
-        (
-          subsumes-not,
-          λ c. let (n, e) = no-is .1 c in
-              ap (λ v. outcome (verdictWord v)) e
-              ∙ value-outcome outcomeNo n (answered-small false n (answered-no benchLimits first second work result n e)),
-        ),
-      )
+  says-yes (n, e) =
+      ap (λ v. outcome (verdictWord v)) e
+      ∙ value-outcome outcomeYes n (answered-small true n (answered-yes benchLimits first second work result n e))
+
+  says-no : SaysNo (subsumesAnswer benchLimits first second work result) → outcome (subsumesWord first second work result) ≡ outcomeNo
+  unfolding subsumesWord
+  says-no (n, e) =
+      ap (λ v. outcome (verdictWord v)) e
+      ∙ value-outcome outcomeNo n (answered-small false n (answered-no benchLimits first second work result n e))
+
+  module _ (enough : workSize benchLimits ≤ work) (long : evidenceSize benchLimits ≤ result) (pair : Acceptable benchLimits first second) where
+    pub subsumes-exactly :
+        ((outcome (subsumesWord first second work result) ≡ outcomeYes) ↔ Covers benchLimits second first)
+        × ((outcome (subsumesWord first second work result) ≡ outcomeNo) ↔ (Covers benchLimits second first → ⊥))
+        × ((outcome (subsumesWord first second work result) ≡ outcomeYes) ⊎ (outcome (subsumesWord first second work result) ≡ outcomeNo))
+    subsumes-exactly =
+        let c = condition-2-verdict benchLimits bench first second pair in (
+          (subsumes-covers, λ h. says-yes (c .yes-exactly work result enough long .1 h)),
+          (subsumes-not, λ h. says-no (c .no-exactly work result enough long .1 h)),
+          ⊎-elim (λ h. inl (says-yes h)) (λ h. inr (says-no h)) (c .one work result enough long),
+        )
 
 -- ---- the evidence
 
