@@ -10,14 +10,19 @@
 --   refutation-verify             and "refutation taken" exactly when it is a refutation and 21 to 23 are
 --   verify-map-subsumed,
 --   verify-refutation-not         so a map is taken only if the second covers the first, a refutation only if it does not
+--   SomeMap, SomeRefutation       some bytes are taken as a map, as a refutation
+--   verify-some-map,
+--   verify-some-refutation        for an acceptable pair so exactly when the second covers the first, and exactly when it does not;
+--   verify-one                    so exactly one of the two
 --   verify-past, verify-kept      bytes past the two halves keep their contents, whatever the answer; so does the work space's length
 use Prim.Native.Nat.{ℕ, _<_, _≤_}
 use native.Mathlib.Omega.{arith}
 use lib.ListN.{getD, length, take}
 use mathlib.Core.List.{List, _++_}
-use mathlib.Core.Logic.{⊎-elim}
+use mathlib.Core.Logic.{_↔_, _⊎_, inl, inr, ⊎-elim}
 use mathlib.Core.Path.{_∙_, _≡_, ap, refl}
 use Rattle.table.specs.Bounds.{benchLimits}
+use Rattle.table.specs.Number.{Bytes}
 use Rattle.picture.specs.declared.answer.Input.{Input}
 use Rattle.picture.specs.declared.answer.Input.the-variants.{Buffer, Evidence}
 use Rattle.picture.specs.declared.answer.Refusal.{Refusal}
@@ -33,6 +38,7 @@ use Rattle.evidence.specs.Call.{evidenceAnswer, verifyAnswer}
 use Rattle.evidence.specs.Taken.{MapOf, RefutationOf}
 use Rattle.evidence.specs.declared.check.Verified.{Verified}
 use Rattle.evidence.specs.declared.check.Verified.the-variants as verified
+use Rattle.subsumption.proofs.Conditions.{condition-3}
 use Rattle.subsumption.proofs.Writers.{map-covers, refutation-fails}
 use Rattle.interface.specs.Calls.{verifySpace, verifyWord}
 use Rattle.interface.specs.Word.{outcomeNo, outcomeYes, refusalWord, verifiedWord}
@@ -133,3 +139,40 @@ module _ (first second evidence : List ℕ) (room : ℕ) where
   unfolding verifyWord
   verify-refutation-not h =
       refutation-fails benchLimits first second evidence room bench (refutation-word (verifyAnswer benchLimits first second evidence room) refl h)
+
+-- ---- some evidence: with a work space of the length laid down and for an acceptable pair
+
+module _ (first second : List ℕ) (room : ℕ) where
+  abbrev pub SomeMap : Type 0
+  SomeMap = (e : List ℕ) × Bytes e × (outcome (verifyWord first second e room) ≡ outcomeYes)
+
+  abbrev pub SomeRefutation : Type 0
+  SomeRefutation = (e : List ℕ) × Bytes e × (outcome (verifyWord first second e room) ≡ outcomeNo)
+
+  -- what the answer says, the word says
+  map-shown : (e : List ℕ) × Bytes e × (verifyAnswer benchLimits first second e room ≡ verified.MapTaken) → SomeMap
+  unfolding verifyWord
+  map-shown (e, bytes, h) = (e, bytes, ap (λ v. outcome (verifiedWord v)) h)
+
+  refutation-shown : (e : List ℕ) × Bytes e × (verifyAnswer benchLimits first second e room ≡ verified.RefutationTaken) → SomeRefutation
+  unfolding verifyWord
+  refutation-shown (e, bytes, h) = (e, bytes, ap (λ v. outcome (verifiedWord v)) h)
+
+  module _ (enough : workSize benchLimits ≤ room) (pair : Acceptable benchLimits first second) where
+    pub verify-some-map : SomeMap ↔ Covers benchLimits second first
+    verify-some-map = (
+      λ (e, bytes, h). verify-map-subsumed first second e room h,
+      λ c. map-shown (condition-3 benchLimits bench first second pair .some-map room enough .1 c),
+    )
+
+    pub verify-some-refutation : SomeRefutation ↔ (Covers benchLimits second first → ⊥)
+    verify-some-refutation = (
+      λ (e, bytes, h). verify-refutation-not first second e room h,
+      λ c. refutation-shown (condition-3 benchLimits bench first second pair .some-refutation room enough .1 c),
+    )
+
+    pub verify-one : (SomeMap ⊎ SomeRefutation) × (SomeMap → SomeRefutation → ⊥)
+    verify-one = (
+      ⊎-elim (λ h. inl (map-shown h)) (λ h. inr (refutation-shown h)) (condition-3 benchLimits bench first second pair .one room enough),
+      λ m n. verify-some-refutation .0 n (verify-some-map .0 m),
+    )
