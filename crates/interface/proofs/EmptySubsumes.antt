@@ -42,7 +42,7 @@ use Rattle.table.specs.Bounds.{benchLimits, maxRows}
 use Rattle.table.specs.Fields.{endBytes, endsAt, rowOf}
 use Rattle.table.specs.Number.{be, beBytes}
 use Rattle.table.specs.Put.{put}
-use Rattle.workspace.specs.Prepare.{Acceptable, workSize}
+use Rattle.workspace.specs.Prepare.{Acceptable}
 use Rattle.interface.specs.Calls.{subsumesBuffer, subsumesWord, validateWord}
 use Rattle.interface.specs.Starred.{HasRows, Holds, TakesEvidence, WritesEvidence, empty, k1, k1-map}
 use Rattle.interface.specs.Word.{outcomeYes, valueWord, verdictWord}

@@ -33,12 +33,12 @@ use Rattle.table.specs.Range.{each}
 use Rattle.workspace.specs.Prepare.{Acceptable, mergedAsked, prepareAnswer}
 use Rattle.interface.specs.Calls.{lcsWord, validateWord, verifyWord}
 use Rattle.interface.specs.Starred.{AllHold, HasRows, Holds, WritesEvidence, common, empty, k10-first, k10-second, k11-first, k11-second, k12-first, k12-normal, k12-normal-again, k2-first, k2-normal, k3-first, k3-normal, k4-first, k4-normal, k5-first, k6-first, k6-more, k7-first, k7-map, k7-refutation, k7-second, k8-first, k8-map, k8-other, k8-refutation, k8-second, k9-common, k9-first, k9-second, normal, starred, subsumes, subsumesNot, tableRoom, workRoom}
-use Rattle.interface.specs.Word.{outcomeNo, outcomeYes, valueWord, verdictWord}
+use Rattle.interface.specs.Word.{outcome, outcomeNo, outcomeYes, valueWord, verdictWord}
 use Rattle.interface.proofs.EmptySubsumes.{empty-subsumes}
 use Rattle.interface.proofs.LcsWords.{lcs-common, lcs-yes}
 use Rattle.interface.proofs.PairWords.{bench}
 use Rattle.interface.proofs.VerifyWords.{map-verify, refutation-verify, verify-map, verify-map-subsumed, verify-refutation, verify-refutation-not}
-use Rattle.interface.proofs.Words.{outcome, validate-readable}
+use Rattle.interface.proofs.Words.{validate-readable}
 use lib.Dec.{leb}
 use borrow.Author.Tests.{leb-true}
 use mathlib.Core.Bool.{true}

@@ -17,7 +17,7 @@
 --   subsumes-map-taken,
 --   subsumes-refutation-taken   and the check takes it: a map where the outcome is 1, a refutation where it is 2
 --   word-read, yes-small, no-small   what the code does with the answer at the limits it has
-use Prim.Native.Nat.{ℕ, _<_, _^_, _≤_}
+use Prim.Native.Nat.{ℕ, _<_, _≤_}
 use native.Mathlib.Omega.{arith}
 use lib.ListN.{getD, length, take}
 use mathlib.Core.Bool.{Bool, false, true}
@@ -47,9 +47,10 @@ use Rattle.subsumption.specs.Verdict.{evidenceOf, evidenceSize}
 use Rattle.subsumption.specs.declared.verdict.Verdict.{Verdict}
 use Rattle.subsumption.specs.declared.verdict.Verdict.the-variants as verdict
 use Rattle.interface.specs.Calls.{subsumesBuffer, subsumesSpace, subsumesWord, verifySpace, verifyWord}
-use Rattle.interface.specs.Word.{outcomeNo, outcomeYes, refusalWord, verdictWord, verifiedWord}
-use Rattle.interface.proofs.PairWords.{Refusals, bench, known-zero, refusals}
-use Rattle.interface.proofs.Words.{outcome, refused, value, value-outcome, value-value}
+use Rattle.interface.specs.Refusals.{Refusals}
+use Rattle.interface.specs.Word.{outcome, outcomeNo, outcomeYes, refusalWord, refused, value, valueRange, verdictWord, verifiedWord}
+use Rattle.interface.proofs.PairWords.{bench, known-zero, refusals}
+use Rattle.interface.proofs.Words.{value-outcome, value-value}
 
 module _ (first second work result : List ℕ) where
   abbrev pub Gives : ℕ → List ℕ → List ℕ → Type 0
@@ -116,7 +117,7 @@ module _ (first second work result : List ℕ) where
 -- ---- what a word shows
 
 module _ (first second : List ℕ) (work result : ℕ) where
-  answered-small : (b : Bool) (n : ℕ) → Answered benchLimits first second work result b n → n < 2 ^ 32
+  answered-small : (b : Bool) (n : ℕ) → Answered benchLimits first second work result b n → n < valueRange
   answered-small b n a = omega (arith, a .length-is, evidence-size benchLimits first second bench (a .pair))
 
   refusal-zero : (r : Refusal) → subsumesAnswer benchLimits first second work result ≡ verdict.Refused r → outcome (refusalWord r) ≡ 0
@@ -228,8 +229,8 @@ module _ (first second : List ℕ) (limits : Limits) (is : limits ≡ benchLimit
     bench-answer : subsumesAnswer benchLimits first second work result ≡ answer
     bench-answer = sym (a ∙ ap (λ l. subsumesAnswer l first second work result) is)
 
-    pub yes-small : answer ≡ verdict.Yes n → n < 2 ^ 32
+    pub yes-small : answer ≡ verdict.Yes n → n < valueRange
     yes-small e = answered-small first second work result true n (answered-yes benchLimits first second work result n (bench-answer ∙ e))
 
-    pub no-small : answer ≡ verdict.No n → n < 2 ^ 32
+    pub no-small : answer ≡ verdict.No n → n < valueRange
     no-small e = answered-small first second work result false n (answered-no benchLimits first second work result n (bench-answer ∙ e))

@@ -41,9 +41,9 @@ use Rattle.evidence.specs.declared.check.Verified.the-variants as verified
 use Rattle.subsumption.proofs.Conditions.{condition-3}
 use Rattle.subsumption.proofs.Writers.{map-covers, refutation-fails}
 use Rattle.interface.specs.Calls.{verifySpace, verifyWord}
-use Rattle.interface.specs.Word.{outcomeNo, outcomeYes, refusalWord, verifiedWord}
-use Rattle.interface.proofs.PairWords.{Refusals, bench, concerns-zero, known-zero, refusals}
-use Rattle.interface.proofs.Words.{outcome, refused}
+use Rattle.interface.specs.Refusals.{Refusals}
+use Rattle.interface.specs.Word.{outcome, outcomeNo, outcomeYes, refusalWord, refused, verifiedWord}
+use Rattle.interface.proofs.PairWords.{bench, concerns-zero, known-zero, refusals}
 
 module _ (first second evidence work : List ℕ) where
   abbrev pub Refuses : ℕ → Input → Type 0
