@@ -39,7 +39,7 @@ use Rattle.table.specs.declared.layout.Limits.{Limits}
 use Rattle.workspace.proofs.Lendings.{TooShort, acceptable-work, refused-work, short-work, work-kept, work-past}
 use Rattle.workspace.proofs.Preparations.{halves-same}
 use Rattle.workspace.specs.Prepare.{Acceptable, halvesPut, workSize}
-use Rattle.interface.specs.Calls.{lcsBuffer, lcsSpace, lcsWord, verifySpace}
+use Rattle.interface.specs.Calls.{lcsBuffer, LcsGives, lcsSpace, lcsWord, verifySpace}
 use Rattle.interface.specs.Refusals.{Refusals}
 use Rattle.interface.specs.Word.{commonWord, outcome, outcomeYes, refusalWord, refused, value, valueRange, valueWord}
 use Rattle.interface.proofs.PairWords.{bench, concerns-zero, known-zero, refusals}
@@ -186,13 +186,13 @@ module _ (first second : List ℕ) (limits : Limits) (is : limits ≡ benchLimit
     pub word-read : answer ≡ lcsAnswer limits first second (length work) (length result) →
         space ≡ lcsWork limits first second work (length result) → buffer ≡ lcsResult limits first second (length work) result →
         w ≡ commonWord answer →
-        (w ≡ lcsWord first second (length work) (length result))
-        × ((space ≡ lcsSpace first second work (length result)) × (buffer ≡ lcsBuffer first second (length work) result))
+        LcsGives first second work result w space buffer
     unfolding lcsWord lcsSpace lcsBuffer
-    word-read a b c d = (
-      d ∙ ap commonWord (a ∙ ap (λ l. lcsAnswer l first second (length work) (length result)) is),
-      (b ∙ ap (λ l. lcsWork l first second work (length result)) is, c ∙ ap (λ l. lcsResult l first second (length work) result) is),
-    )
+    word-read a b c d = record {
+      word-is = d ∙ ap commonWord (a ∙ ap (λ l. lcsAnswer l first second (length work) (length result)) is);
+      work-is = b ∙ ap (λ l. lcsWork l first second work (length result)) is;
+      result-is = c ∙ ap (λ l. lcsResult l first second (length work) result) is;
+    }
 
   pub length-small : (work result n : ℕ) (answer : Common) → answer ≡ lcsAnswer limits first second work result → answer ≡ common.Length n → n < valueRange
   length-small work result n answer a e =

@@ -40,7 +40,7 @@ use Rattle.table.specs.NameSet.{has}
 use Rattle.table.specs.Put.{put, zeros}
 use Rattle.table.specs.declared.layout.Limits.{Limits}
 use Rattle.workspace.specs.Prepare.{workSize}
-use Rattle.interface.specs.Calls.{mostSpecificSpace, mostSpecificWord}
+use Rattle.interface.specs.Calls.{MostSpecificGives, mostSpecificSpace, mostSpecificWord}
 use Rattle.interface.specs.Word.{card, cardOf, input, inputCode, outcome, outcomeYes, partRange, question, refused, selectedWord, value, valueRange, valueWord}
 use Rattle.interface.proofs.Words.{refusal-card, refusal-input, refusal-outcome, refusal-question, value-outcome, value-value}
 
@@ -174,9 +174,9 @@ module _ (case book work : List ℕ) where
 
 module _ (case book : List ℕ) (limits : Limits) (is : limits ≡ benchLimits) (work space : List ℕ) (answer : Selected) (w : ℕ) where
   pub word-read : answer ≡ mostSpecificAnswer limits case book (length work) → space ≡ mostSpecificWork limits case book work → w ≡ selectedWord answer →
-      (w ≡ mostSpecificWord case book (length work)) × (space ≡ mostSpecificSpace case book work)
+      MostSpecificGives case book work w space
   unfolding mostSpecificWord mostSpecificSpace
-  word-read a b c = (
-    c ∙ ap selectedWord (a ∙ ap (λ l. mostSpecificAnswer l case book (length work)) is),
-    b ∙ ap (λ l. mostSpecificWork l case book work) is,
-  )
+  word-read a b c = record {
+    word-is = c ∙ ap selectedWord (a ∙ ap (λ l. mostSpecificAnswer l case book (length work)) is);
+    buffer-is = b ∙ ap (λ l. mostSpecificWork l case book work) is;
+  }

@@ -46,7 +46,7 @@ use Rattle.subsumption.specs.Call.{subsumesAnswer, subsumesResult, subsumesWork
 use Rattle.subsumption.specs.Verdict.{evidenceOf, evidenceSize}
 use Rattle.subsumption.specs.declared.verdict.Verdict.{Verdict}
 use Rattle.subsumption.specs.declared.verdict.Verdict.the-variants as verdict
-use Rattle.interface.specs.Calls.{subsumesBuffer, subsumesSpace, subsumesWord, verifySpace, verifyWord}
+use Rattle.interface.specs.Calls.{subsumesBuffer, SubsumesGives, subsumesSpace, subsumesWord, verifySpace, verifyWord}
 use Rattle.interface.specs.Refusals.{Refusals}
 use Rattle.interface.specs.Word.{outcome, outcomeNo, outcomeYes, refusalWord, refused, value, valueRange, verdictWord, verifiedWord}
 use Rattle.interface.proofs.PairWords.{bench, known-zero, refusals}
@@ -217,13 +217,13 @@ module _ (first second : List ℕ) (limits : Limits) (is : limits ≡ benchLimit
     pub word-read : answer ≡ subsumesAnswer limits first second (length work) (length result) →
         space ≡ subsumesWork limits first second work (length result) → buffer ≡ subsumesResult limits first second (length work) result →
         w ≡ verdictWord answer →
-        (w ≡ subsumesWord first second (length work) (length result))
-        × ((space ≡ subsumesSpace first second work (length result)) × (buffer ≡ subsumesBuffer first second (length work) result))
+        SubsumesGives first second work result w space buffer
     unfolding subsumesWord subsumesSpace subsumesBuffer
-    word-read a b c d = (
-      d ∙ ap verdictWord (a ∙ ap (λ l. subsumesAnswer l first second (length work) (length result)) is),
-      (b ∙ ap (λ l. subsumesWork l first second work (length result)) is, c ∙ ap (λ l. subsumesResult l first second (length work) result) is),
-    )
+    word-read a b c d = record {
+      word-is = d ∙ ap verdictWord (a ∙ ap (λ l. subsumesAnswer l first second (length work) (length result)) is);
+      work-is = b ∙ ap (λ l. subsumesWork l first second work (length result)) is;
+      result-is = c ∙ ap (λ l. subsumesResult l first second (length work) result) is;
+    }
 
   module _ (work result n : ℕ) (answer : Verdict) (a : answer ≡ subsumesAnswer limits first second work result) where
     bench-answer : subsumesAnswer benchLimits first second work result ≡ answer
