@@ -6,6 +6,7 @@ use normal::normalize::Normalized;
 use normalize::normalize::normalize;
 use picture::answer::Answer;
 use picture::answer::Input;
+use picture::answer::Refusal;
 use picture_reader::read::read;
 use table::layout::END_SIZE;
 use table::layout::Limits;
@@ -25,13 +26,46 @@ fn say(what: &[u8], number: u64) {
     io::write_all(STDOUT_FILENO, b"\n");
 }
 
+// The input that a refusal names.
+fn say_input(input: Input) {
+    match input {
+        Input::Buffer => {
+            io::write_all(STDOUT_FILENO, b"buffer");
+        }
+        Input::First => {
+            io::write_all(STDOUT_FILENO, b"first");
+        }
+        Input::Second => {
+            io::write_all(STDOUT_FILENO, b"second");
+        }
+        Input::Evidence => {
+            io::write_all(STDOUT_FILENO, b"evidence");
+        }
+        Input::Book => {
+            io::write_all(STDOUT_FILENO, b"book");
+        }
+        Input::Card(_) => {
+            io::write_all(STDOUT_FILENO, b"card");
+        }
+    }
+}
+
+// The end of the line of a refusal: the input, and the question's number.
+fn say_refused(refusal: Refusal) {
+    let input = refusal.input;
+    let number = refusal.number;
+    io::write_all(STDOUT_FILENO, b": refused ");
+    say_input(input);
+    say(b" ", number as u64);
+}
+
 fn tell_answer(s: &[u8]) {
     match read(s, Limits::bench(), Input::First) {
         Answer::Rows(n) => {
             say(b": rows ", n as u64);
         }
         Answer::Refused(refusal) => {
-            say(b": refused ", refusal.number as u64);
+            say_refused(refusal);
         }
     }
 }
@@ -60,7 +94,7 @@ fn tell_normalized(s: &[u8], out: &mut [u8]) {
             say(b": length ", n as u64);
         }
         Normalized::Refused(refusal) => {
-            say(b": refused ", refusal.number as u64);
+            say_refused(refusal);
         }
     }
 }
@@ -102,7 +136,7 @@ fn tell_least(first: &[u8], second: &[u8]) {
             say(b": length ", n as u64);
         }
         Common::Refused(refusal) => {
-            say(b": refused ", refusal.number as u64);
+            say_refused(refusal);
         }
     }
 }

@@ -1,5 +1,5 @@
 -- K1: one empty row subsumes every picture. Whatever fits a picture fits it; and its one row is sent to row 0, whose label carries no less than nothing.
---   empty-bytes                the bytes that the paper gives
+--   empty-counted              it has one row
 --   empty-tree                 its tree is one node without names and without a mark
 --   empty-rows, empty-label    its normal table is one such row
 --   empty-map                  so the map of one row is one to any normal table
@@ -9,16 +9,16 @@
 --   empty-subsumes             all of these
 use Prim.Native.Nat.{_<_, _≤_, ℕ}
 use lib.Dec.{T}
-use lib.ListN.{length, replicate}
+use lib.ListN.{length}
 use mathlib.Core.Bool.{true}
-use mathlib.Core.List.{List, [], _++_, _∷_}
+use mathlib.Core.List.{List}
 use mathlib.Core.Path.{_∙_, _≡_, ap, refl, subst, sym}
 use native.Mathlib.Omega.{arith}
 use Rattle.ale.proofs.Concepts.{subsumed-concepts}
 use Rattle.ale.proofs.Structures.{satisfies-emptyLabel}
 use Rattle.ale.proofs.Tests.{or-right}
 use Rattle.ale.specs.Homomorphism.{labelWithin}
-use Rattle.ale.specs.Interpretation.{Subsumed, structureOf}
+use Rattle.ale.specs.Interpretation.{structureOf}
 use Rattle.ale.specs.PictureSignature.{pictureSignature}
 use Rattle.ale.specs.RowMap.{IsHomomorphism, bottomAt, labelAgrees}
 use Rattle.ale.specs.Structure.{Fits}
@@ -32,7 +32,7 @@ use Rattle.meaning.specs.Meaning.{pictureTable, pictureTree}
 use Rattle.meaning.specs.NormalTable.{mergedCount, mergedTree, normalFile, normalTreeOf}
 use Rattle.picture.specs.Depth.{depth, depthIn}
 use Rattle.picture.specs.Questions.{endField, fieldAt, kindOk, lengthFor, parentOk, roleOk, rowField, tagOk, valueField}
-use Rattle.picture.specs.Read.{readingOf, scanFrom}
+use Rattle.picture.specs.Read.{answerOf, readingOf, scanFrom}
 use Rattle.picture.specs.View.{Readable, rowCount, viewOf}
 use Rattle.subsumption.proofs.Answers.{acceptable-result, yes-subsumes}
 use Rattle.meaning.specs.Covering.{Covers}
@@ -42,9 +42,9 @@ use Rattle.table.specs.Bounds.{benchLimits, maxRows}
 use Rattle.table.specs.Fields.{endBytes, endsAt, rowOf}
 use Rattle.table.specs.Number.{be, beBytes}
 use Rattle.table.specs.Put.{put}
-use Rattle.workspace.specs.Prepare.{Acceptable, workSize}
-use Rattle.interface.specs.Calls.{subsumesBuffer, subsumesWord, verifyWord}
-use Rattle.interface.specs.Starred.{Holds, Writes, empty, evidenceRoom, k1, room, toRoot}
+use Rattle.workspace.specs.Prepare.{Acceptable}
+use Rattle.interface.specs.Calls.{subsumesBuffer, subsumesWord, validateWord}
+use Rattle.interface.specs.Starred.{HasRows, Holds, TakesEvidence, WritesEvidence, empty, k1, k1-map}
 use Rattle.interface.specs.Word.{outcomeYes, valueWord, verdictWord}
 use Rattle.interface.proofs.PairWords.{bench}
 use Rattle.interface.proofs.VerifyWords.{map-verify}
@@ -52,12 +52,8 @@ use Rattle.interface.proofs.VerifyWords.{map-verify}
 abbrev q : Table pictureSignature
 q = pictureTable (normalFile benchLimits empty)
 
-pub empty-bytes : empty ≡ (0x10 ∷ 0x00 ∷ 0x15 ∷ []) ++ replicate 21 0 ++ (0x2F ∷ 0x00 ∷ 0x00 ∷ [])
-unfolding be beBytes rowOf endBytes
-empty-bytes = refl
-
 empty-tree : pictureTree benchLimits empty ≡ top pictureSignature
-unfolding be beBytes rowOf endBytes rowCount viewOf
+unfolding be beBytes endBytes rowCount viewOf
 empty-tree = refl
 
 empty-rows : q .rows ≡ 1
@@ -71,18 +67,22 @@ module _ (l : Label pictureSignature) where
   empty-label = tt
 
 empty-readable : Readable benchLimits empty
-unfolding be beBytes rowOf endBytes depthIn depth tagOk lengthFor kindOk roleOk parentOk valueField rowField endField fieldAt scanFrom readingOf
+unfolding be beBytes endBytes depthIn depth tagOk lengthFor kindOk roleOk parentOk valueField rowField endField fieldAt scanFrom readingOf
 empty-readable = record { rows = 1; reads = refl }
 
+empty-counted : HasRows empty 1
+unfolding be beBytes endBytes depthIn depth tagOk lengthFor kindOk roleOk parentOk valueField rowField endField fieldAt scanFrom readingOf answerOf validateWord
+empty-counted = refl
+
 empty-few : mergedCount benchLimits empty ≤ maxRows
-unfolding be beBytes rowOf endBytes rowCount viewOf mergedTree mergedCount
+unfolding be beBytes endBytes rowCount viewOf mergedTree mergedCount
 empty-few = omega arith
 
-empty-form : mapForm (q .rows) toRoot ≡ true
+empty-form : mapForm (q .rows) k1-map ≡ true
 unfolding be beBytes rowOf endBytes rowCount viewOf mergedTree normalTreeOf normalFile mapForm endsAt
 empty-form = refl
 
-empty-image : imageOf toRoot 0 ≡ 0
+empty-image : imageOf k1-map 0 ≡ 0
 unfolding be beBytes endBytes
 empty-image = refl
 
@@ -93,19 +93,19 @@ module _ (first : List ℕ) (few : mergedCount benchLimits first ≤ maxRows) wh
   only : (i : ℕ) → i < q .rows → 0 ≡ i
   only i l = omega (arith, empty-rows)
 
-  empty-map : IsHomomorphism pictureSignature p q (imageOf toRoot)
+  empty-map : IsHomomorphism pictureSignature p q (imageOf k1-map)
   empty-map =
       let some : 0 < p .rows = normal-some benchLimits first (omega arith, omega arith) few in
       record {
-        inside = λ i l. subst (λ j. imageOf toRoot j < p .rows) (only i l) (omega (arith, empty-image));
+        inside = λ i l. subst (λ j. imageOf k1-map j < p .rows) (only i l) (omega (arith, empty-image));
         root = empty-image;
-        labels = λ i l. subst (λ j. T (labelAgrees pictureSignature p q j (imageOf toRoot j))) (only i l)
-            (or-right (bottomAt pictureSignature p (imageOf toRoot 0)) (labelWithin pictureSignature (q .label 0) (p .label (imageOf toRoot 0))) (empty-label (p .label (imageOf toRoot 0))));
+        labels = λ i l. subst (λ j. T (labelAgrees pictureSignature p q j (imageOf k1-map j))) (only i l)
+            (or-right (bottomAt pictureSignature p (imageOf k1-map 0)) (labelWithin pictureSignature (q .label 0) (p .label (imageOf k1-map 0))) (empty-label (p .label (imageOf k1-map 0))));
         edges = λ i l z. absurd (z (sym (only i l)));
       }
 
   -- what is written where the verdict is yes
-  empty-evidence : verdictOf benchLimits first empty ≡ true → evidenceOf benchLimits first empty ≡ toRoot
+  empty-evidence : verdictOf benchLimits first empty ≡ true → evidenceOf benchLimits first empty ≡ k1-map
   unfolding be beBytes rowOf endBytes rowCount viewOf mergedTree normalTreeOf normalFile evidenceOf mapOf lowestMap mapFile
   empty-evidence yes-is = rw yes-is
 
@@ -114,26 +114,30 @@ module _ (first : List ℕ) (few : mergedCount benchLimits first ≤ maxRows) wh
     abbrev pair : Acceptable benchLimits first empty
     pair = record { first-readable = readable; second-readable = empty-readable; first-few = few; second-few = empty-few }
 
-    empty-writes : Writes first empty outcomeYes toRoot
+    empty-writes : WritesEvidence first empty outcomeYes k1-map
     unfolding subsumesWord subsumesBuffer
-    empty-writes =
-        let enough : workSize benchLimits ≤ room = omega arith in
+    empty-writes work result enough long =
         let decided = verdict-covers benchLimits first empty bench pair .0 covers in (
-          ap verdictWord (yes-subsumes benchLimits first empty room evidenceRoom enough (omega arith) pair decided)
+          ap verdictWord (yes-subsumes benchLimits first empty (length work) (length result) enough long pair decided)
               ∙ ap (λ (e : List ℕ). valueWord outcomeYes (length e)) (empty-evidence decided),
-          λ result h. acceptable-result benchLimits first empty room result enough h pair ∙ ap (λ (e : List ℕ). put result 0 e) (empty-evidence decided),
+          acceptable-result benchLimits first empty (length work) result enough long pair ∙ ap (λ (e : List ℕ). put result 0 e) (empty-evidence decided),
         )
 
-    empty-taken : verifyWord first empty toRoot room ≡ valueWord outcomeYes 0
-    empty-taken = map-verify first empty toRoot room (omega arith) pair (record { form = empty-form; maps = empty-map })
+    empty-taken : TakesEvidence first empty outcomeYes k1-map
+    empty-taken work enough = map-verify first empty k1-map (length work) enough pair (record { form = empty-form; maps = empty-map })
 
 -- whatever fits a picture fits the empty row
-empty-covers : (first : List ℕ) → Subsumed pictureSignature (pictureTree benchLimits first) (pictureTree benchLimits empty)
-empty-covers first I x l f =
+empty-covers : (first : List ℕ) → Covers benchLimits empty first
+empty-covers first =
+    subsumed-concepts pictureSignature (pictureTree benchLimits first) (pictureTree benchLimits empty) .0
+    (λ I x l f.
     subst (λ t. Fits pictureSignature (structureOf pictureSignature I) t x) (sym empty-tree)
-    (satisfies-emptyLabel pictureSignature (structureOf pictureSignature I) x, tt)
+    (satisfies-emptyLabel pictureSignature (structureOf pictureSignature I) x, tt))
 
 pub empty-subsumes : Holds k1
-empty-subsumes first readable =
-    let covers = subsumed-concepts pictureSignature (pictureTree benchLimits first) (pictureTree benchLimits empty) .0 (empty-covers first) in
-    (empty-covers first, λ few. (empty-writes first few readable covers, empty-taken first few readable covers))
+empty-subsumes = (
+  empty-counted,
+  λ first readable.
+      let covers = empty-covers first in
+      (covers, λ few. (empty-writes first few readable covers, empty-taken first few readable covers)),
+)

@@ -13,7 +13,7 @@
 --   lcs-least-common            so the result buffer's bytes up to that length are the common picture, which covers both and is covered by all that do
 --   lcs-exactly                 with buffers of the lengths laid down and for an acceptable pair: outcome 1 exactly if it has at most 256 rows, else 15
 --   word-read, length-small     what the code does with the answer at the limits it has
-use Prim.Native.Nat.{_<_, _^_, _≤_, ℕ}
+use Prim.Native.Nat.{_<_, _≤_, ℕ}
 use lib.ListN.{getD, length, take}
 use mathlib.Core.List.{List, _++_}
 use mathlib.Core.Logic.{_↔_, ⊎-elim}
@@ -39,10 +39,11 @@ use Rattle.table.specs.declared.layout.Limits.{Limits}
 use Rattle.workspace.proofs.Lendings.{TooShort, acceptable-work, refused-work, short-work, work-kept, work-past}
 use Rattle.workspace.proofs.Preparations.{halves-same}
 use Rattle.workspace.specs.Prepare.{Acceptable, halvesPut, workSize}
-use Rattle.interface.specs.Calls.{lcsBuffer, lcsSpace, lcsWord, verifySpace}
-use Rattle.interface.specs.Word.{commonWord, outcomeYes, refusalWord, valueWord}
-use Rattle.interface.proofs.PairWords.{Refusals, bench, concerns-zero, known-zero, refusals}
-use Rattle.interface.proofs.Words.{outcome, refused, value, value-outcome, value-value}
+use Rattle.interface.specs.Calls.{lcsBuffer, LcsGives, lcsSpace, lcsWord, verifySpace}
+use Rattle.interface.specs.Refusals.{Refusals}
+use Rattle.interface.specs.Word.{commonWord, outcome, outcomeYes, refusalWord, refused, value, valueRange, valueWord}
+use Rattle.interface.proofs.PairWords.{bench, concerns-zero, known-zero, refusals}
+use Rattle.interface.proofs.Words.{value-outcome, value-value}
 
 module _ (first second work result : List ℕ) where
   abbrev pub Gives : ℕ → List ℕ → List ℕ → Type 0
@@ -122,7 +123,7 @@ module _ (first second work result : List ℕ) where
 -- ---- what a word shows
 
 module _ (first second : List ℕ) (work result : ℕ) where
-  answered-small : (n : ℕ) → Answered benchLimits first second work result n → n < 2 ^ 32
+  answered-small : (n : ℕ) → Answered benchLimits first second work result n → n < valueRange
   answered-small n a = omega (arith, a .length-is, lcs-size benchLimits first second (a .few))
 
   refusal-zero : (r : Refusal) → lcsAnswer benchLimits first second work result ≡ common.Refused r → outcome (refusalWord r) ≡ 0
@@ -185,15 +186,15 @@ module _ (first second : List ℕ) (limits : Limits) (is : limits ≡ benchLimit
     pub word-read : answer ≡ lcsAnswer limits first second (length work) (length result) →
         space ≡ lcsWork limits first second work (length result) → buffer ≡ lcsResult limits first second (length work) result →
         w ≡ commonWord answer →
-        (w ≡ lcsWord first second (length work) (length result))
-        × ((space ≡ lcsSpace first second work (length result)) × (buffer ≡ lcsBuffer first second (length work) result))
+        LcsGives first second work result w space buffer
     unfolding lcsWord lcsSpace lcsBuffer
-    word-read a b c d = (
-      d ∙ ap commonWord (a ∙ ap (λ l. lcsAnswer l first second (length work) (length result)) is),
-      (b ∙ ap (λ l. lcsWork l first second work (length result)) is, c ∙ ap (λ l. lcsResult l first second (length work) result) is),
-    )
+    word-read a b c d = record {
+      word-is = d ∙ ap commonWord (a ∙ ap (λ l. lcsAnswer l first second (length work) (length result)) is);
+      work-is = b ∙ ap (λ l. lcsWork l first second work (length result)) is;
+      result-is = c ∙ ap (λ l. lcsResult l first second (length work) result) is;
+    }
 
-  pub length-small : (work result n : ℕ) (answer : Common) → answer ≡ lcsAnswer limits first second work result → answer ≡ common.Length n → n < 2 ^ 32
+  pub length-small : (work result n : ℕ) (answer : Common) → answer ≡ lcsAnswer limits first second work result → answer ≡ common.Length n → n < valueRange
   length-small work result n answer a e =
       answered-small first second work result n
       (answered-length benchLimits first second work result n (sym (a ∙ ap (λ l. lcsAnswer l first second work result) is) ∙ e))

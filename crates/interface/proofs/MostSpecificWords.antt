@@ -15,7 +15,7 @@
 --   most-specific-clear            with outcome 1 the work space's two halves are zero,
 --   most-specific-untouched        with outcome 0 it is as it was
 --   word-read                      what the code does with the answer at the limits it has
-use Prim.Native.Nat.{_<_, _^_, _≤_, ℕ}
+use Prim.Native.Nat.{_<_, _≤_, ℕ}
 use lib.ListN.{getD, length}
 use mathlib.Core.Bool.{false, true}
 use mathlib.Core.List.{List}
@@ -40,9 +40,9 @@ use Rattle.table.specs.NameSet.{has}
 use Rattle.table.specs.Put.{put, zeros}
 use Rattle.table.specs.declared.layout.Limits.{Limits}
 use Rattle.workspace.specs.Prepare.{workSize}
-use Rattle.interface.specs.Calls.{mostSpecificSpace, mostSpecificWord}
-use Rattle.interface.specs.Word.{cardOf, inputCode, outcomeYes, selectedWord, valueWord}
-use Rattle.interface.proofs.Words.{card, input, outcome, question, refusal-card, refusal-input, refusal-outcome, refusal-question, refused, value, value-outcome, value-value}
+use Rattle.interface.specs.Calls.{MostSpecificGives, mostSpecificSpace, mostSpecificWord}
+use Rattle.interface.specs.Word.{card, cardOf, input, inputCode, outcome, outcomeYes, partRange, question, refused, selectedWord, value, valueRange, valueWord}
+use Rattle.interface.proofs.Words.{refusal-card, refusal-input, refusal-outcome, refusal-question, value-outcome, value-value}
 
 module _ (case book work : List ℕ) where
   abbrev pub Gives : ℕ → List ℕ → Type 0
@@ -90,16 +90,16 @@ module _ (case book : List ℕ) (room : ℕ) where
     pub by-card : card w ≡ cardOf (refusal .input)
 
   -- a number and a card's number fit their bytes
-  named-fits : (r : Refusal) → Named book r → (r .number < 256) × (cardOf (r .input) < 256)
+  named-fits : (r : Refusal) → Named book r → (r .number < partRange) × (cardOf (r .input) < partRange)
   named-fits r (inl (is, a, b)) = (omega arith, rw is (omega arith))
   named-fits r (inr (inl (is, a, b))) = (omega arith, rw is (omega arith))
   named-fits r (inr (inr (inl (is, a, b)))) = (omega arith, rw is (omega arith))
   named-fits r (inr (inr (inr (k, l, (is, a, b))))) = (omega arith, rw is (omega (arith, count-most book)))
 
-  refusal-fits : (r : Refusal) → mostSpecificAnswer benchLimits case book room ≡ Refused r → (r .number < 256) × (cardOf (r .input) < 256)
+  refusal-fits : (r : Refusal) → mostSpecificAnswer benchLimits case book room ≡ Refused r → (r .number < partRange) × (cardOf (r .input) < partRange)
   refusal-fits r e = named-fits r (book-refusal benchLimits case book room r e)
 
-  word-small : (n : ℕ) → mostSpecificAnswer benchLimits case book room ≡ Cards n → n < 2 ^ 32
+  word-small : (n : ℕ) → mostSpecificAnswer benchLimits case book room ≡ Cards n → n < valueRange
   word-small n e = nearest-cards benchLimits case book .fits room n e
 
   abbrev pub ShowsCards : ℕ → Type 0
@@ -174,9 +174,9 @@ module _ (case book work : List ℕ) where
 
 module _ (case book : List ℕ) (limits : Limits) (is : limits ≡ benchLimits) (work space : List ℕ) (answer : Selected) (w : ℕ) where
   pub word-read : answer ≡ mostSpecificAnswer limits case book (length work) → space ≡ mostSpecificWork limits case book work → w ≡ selectedWord answer →
-      (w ≡ mostSpecificWord case book (length work)) × (space ≡ mostSpecificSpace case book work)
+      MostSpecificGives case book work w space
   unfolding mostSpecificWord mostSpecificSpace
-  word-read a b c = (
-    c ∙ ap selectedWord (a ∙ ap (λ l. mostSpecificAnswer l case book (length work)) is),
-    b ∙ ap (λ l. mostSpecificWork l case book work) is,
-  )
+  word-read a b c = record {
+    word-is = c ∙ ap selectedWord (a ∙ ap (λ l. mostSpecificAnswer l case book (length work)) is);
+    buffer-is = b ∙ ap (λ l. mostSpecificWork l case book work) is;
+  }

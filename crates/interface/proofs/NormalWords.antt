@@ -36,9 +36,9 @@ use Rattle.meaning.specs.Meaning.{pictureTree}
 use Rattle.meaning.proofs.Normals.{normal-readable, normal-size, normalFile-equivalent}
 use Rattle.normal.specs.Call.{normalizeResult}
 use Rattle.normal.proofs.Answers.{Accepted, few-answer, many-answer, result-kept, result-past, short-answer, unreadable-answer}
-use Rattle.interface.specs.Word.{outcomeYes, valueWord}
+use Rattle.interface.specs.Word.{outcome, outcomeYes, refused, value, valueWord}
 use Rattle.interface.specs.Calls.{normalizeBuffer, normalizeWord}
-use Rattle.interface.proofs.Words.{outcome, refused, value, value-value}
+use Rattle.interface.proofs.Words.{value-value}
 
 module _ (s out : List ℕ) where
   abbrev pub Refuses : ℕ → Input → Type 0

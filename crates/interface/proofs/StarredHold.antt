@@ -1,14 +1,11 @@
 -- 01, "Starred ones are proved, gathered into one list with a single theorem over the list": computed from the calls' definitions.
--- Of K7 and K8 the words and the evidence are computed, and by the laws of the check they show what the two pictures mean; of K9 to K11 the words and the
--- common picture, and by the laws of that call it covers both.
-use Prim.Native.Nat.{_<_, _^_, _≤_, ℕ}
+-- Row counts, normal tables, evidence and common pictures are computed; that they are given with all buffers that are long enough, what evidence shows of
+-- the meaning, and that a common picture covers both, is by the laws of the calls.
+use Prim.Native.Nat.{ℕ}
 use lib.ListN.{length}
 use mathlib.Core.List.{List}
 use mathlib.Core.Path.{_∙_, _≡_, ap, refl, subst}
 use native.Mathlib.Omega.{arith}
-use Rattle.ale.proofs.Concepts.{subsumed-concepts}
-use Rattle.ale.specs.Interpretation.{Subsumed}
-use Rattle.ale.specs.PictureSignature.{pictureSignature}
 use Rattle.countermodel.specs.Individual.{individualHead, individualOk, refutationForm}
 use Rattle.countermodel.specs.Layout.{individualCount}
 use Rattle.countermodel.specs.Writing.{individualBytes, refutationFile}
@@ -17,106 +14,130 @@ use Rattle.evidence.specs.Check.{checkAnswer, refutationAsked}
 use Rattle.evidence.specs.Form.{formOf, mapForm}
 use Rattle.evidence.specs.Map.{inOrder, mapAsked, rowAsked}
 use Rattle.homomorphism.specs.Map.{lowestMap, mapFile}
-use Rattle.lcs.proofs.Answers.{common-result}
 use Rattle.lcs.proofs.Commons.{lcs-covers-first, lcs-covers-second}
 use Rattle.lcs.specs.Call.{commonAnswer, lcsAnswer}
 use Rattle.lcs.specs.Product.{lcsCount, lcsFile, lcsTree}
 use Rattle.meaning.specs.Covering.{Covers, covers}
-use Rattle.meaning.specs.Meaning.{pictureTree}
 use Rattle.meaning.specs.NormalTable.{mergedCount, mergedTree, normalFile, normalTreeOf}
-use Rattle.normal.specs.Call.{normalizeAnswer, normalizeResult}
 use Rattle.picture.specs.Depth.{depth, depthIn}
 use Rattle.picture.specs.Questions.{endField, fieldAt, kindOk, lengthFor, parentOk, roleOk, rowField, tagOk, valueField}
 use Rattle.picture.specs.Read.{answerOf, readingOf, scanFrom}
 use Rattle.picture.specs.View.{rowCount, viewOf}
-use Rattle.subsumption.proofs.Answers.{acceptable-result}
-use Rattle.subsumption.specs.Call.{subsumesAnswer, verdictAnswer}
+use Rattle.subsumption.specs.Call.{verdictAnswer}
 use Rattle.subsumption.specs.Verdict.{evidenceOf, mapOf, refutationOf, verdictOf}
-use Rattle.table.specs.Bounds.{benchLimits, pictureSize}
+use Rattle.table.specs.Bounds.{benchLimits, maxRows}
 use Rattle.table.specs.Fields.{endBytes, endsAt, rowOf}
 use Rattle.table.specs.Number.{be, beBytes}
 use Rattle.table.specs.Put.{put}
 use Rattle.table.specs.Range.{each}
 use Rattle.workspace.specs.Prepare.{Acceptable, mergedAsked, prepareAnswer}
-use Rattle.interface.specs.Calls.{lcsBuffer, lcsWord, normalizeBuffer, normalizeWord, subsumesBuffer, subsumesWord, verifyWord}
-use Rattle.interface.specs.Starred.{AllHold, Holds, allFive, allThree, alone, common, empty, evidenceRoom, fourAndAny, noneReached, oneEach, room, someBoth, someEach, someFour, someReached, someTwo, starred, subsumes, subsumesNot, toBoth, toMarked}
-use Rattle.interface.specs.Word.{outcomeNo, outcomeYes, valueWord}
+use Rattle.interface.specs.Calls.{lcsWord, validateWord, verifyWord}
+use Rattle.interface.specs.Starred.{AllHold, HasRows, Holds, WritesEvidence, common, empty, k10-first, k10-second, k11-first, k11-second, k12-first, k12-normal, k12-normal-again, k2-first, k2-normal, k3-first, k3-normal, k4-first, k4-normal, k5-first, k6-first, k6-more, k7-first, k7-map, k7-refutation, k7-second, k8-first, k8-map, k8-other, k8-refutation, k8-second, k9-common, k9-first, k9-second, normal, starred, subsumes, subsumesNot, tableRoom, workRoom}
+use Rattle.interface.specs.Word.{outcome, outcomeNo, outcomeYes, valueWord, verdictWord}
 use Rattle.interface.proofs.EmptySubsumes.{empty-subsumes}
-use Rattle.interface.proofs.LcsWords.{lcs-yes}
+use Rattle.interface.proofs.LcsWords.{lcs-common, lcs-yes}
 use Rattle.interface.proofs.PairWords.{bench}
-use Rattle.interface.proofs.VerifyWords.{verify-map, verify-map-subsumed, verify-refutation, verify-refutation-not}
-use Rattle.interface.proofs.Words.{outcome, value-outcome}
+use Rattle.interface.proofs.VerifyWords.{map-verify, refutation-verify, verify-map, verify-map-subsumed, verify-refutation, verify-refutation-not}
+use Rattle.interface.proofs.Words.{validate-readable}
+use lib.Dec.{leb}
+use borrow.Author.Tests.{leb-true}
+use mathlib.Core.Bool.{true}
+use Rattle.interface.proofs.SubsumesWords.{subsumes-decided}
+use Rattle.interface.proofs.NormalWords.{normalize-written}
 
--- words that say so show what the two pictures mean, and that the evidence stands in any result buffer that is long enough
-module _ (first second e : List ℕ) where
-  stands : Acceptable benchLimits first second → evidenceOf benchLimits first second ≡ e →
-      (result : List ℕ) → evidenceRoom ≤ length result → subsumesBuffer first second room result ≡ put result 0 e
-  unfolding subsumesBuffer
-  stands pair is result long =
-      acceptable-result benchLimits first second room result (omega arith) long pair ∙ ap (λ (l : List ℕ). put result 0 l) is
+-- evidence that is computed and taken with a work space of the length laid down is so with all buffers that are long enough, and shows what the two pictures
+-- mean
+module _ (first second e : List ℕ) (is : evidenceOf benchLimits first second ≡ e) where
+  writes : (o : ℕ) → Acceptable benchLimits first second → verdictWord (verdictAnswer benchLimits first second) ≡ valueWord o (length e) →
+      WritesEvidence first second o e
+  writes o pair told work result enough long =
+      let decided = subsumes-decided first second work result enough long pair in
+      (decided .0 ∙ told, decided .2 ∙ ap (λ (l : List ℕ). put result 0 l) is)
 
-  shown : subsumesWord first second room evidenceRoom ≡ valueWord outcomeYes (length e) → evidenceOf benchLimits first second ≡ e →
-      verifyWord first second e room ≡ valueWord outcomeYes 0 → Holds (subsumes first second e)
-  shown told is w =
-      let (enough, pair, map) = verify-map first second e room (omega (arith, w)) in
-      ((told, stands pair is), w, verify-map-subsumed first second e room (omega (arith, w)))
+  shown : verdictWord (verdictAnswer benchLimits first second) ≡ valueWord outcomeYes (length e) →
+      verifyWord first second e workRoom ≡ valueWord outcomeYes 0 → Holds (subsumes first second e)
+  shown told taken =
+      let (enough, pair, map) = verify-map first second e workRoom (omega (arith, taken)) in (
+        writes outcomeYes pair told,
+        λ work long. map-verify first second e (length work) long pair map,
+        verify-map-subsumed first second e workRoom (omega (arith, taken)),
+      )
 
-  shown-not : subsumesWord first second room evidenceRoom ≡ valueWord outcomeNo (length e) → evidenceOf benchLimits first second ≡ e →
-      verifyWord first second e room ≡ valueWord outcomeNo 0 → Holds (subsumesNot first second e)
-  shown-not told is w =
-      let (enough, pair, refuting) = verify-refutation first second e room (omega (arith, w)) in
-      ((told, stands pair is), w, verify-refutation-not first second e room (omega (arith, w)))
+  shown-not : verdictWord (verdictAnswer benchLimits first second) ≡ valueWord outcomeNo (length e) →
+      verifyWord first second e workRoom ≡ valueWord outcomeNo 0 → Holds (subsumesNot first second e)
+  shown-not told taken =
+      let (enough, pair, refuting) = verify-refutation first second e workRoom (omega (arith, taken)) in (
+        writes outcomeNo pair told,
+        λ work long. refutation-verify first second e (length work) long pair refuting,
+        verify-refutation-not first second e workRoom (omega (arith, taken)),
+      )
 
--- a word that says so shows that the common picture stands in any result buffer that is long enough, and that it covers both
-module _ (first second picture : List ℕ) where
-  covers-common : (s : List ℕ) → lcsFile benchLimits first second ≡ picture → Covers benchLimits (lcsFile benchLimits first second) s →
-      Subsumed pictureSignature (pictureTree benchLimits s) (pictureTree benchLimits picture)
-  covers-common s is c =
-      subsumed-concepts pictureSignature (pictureTree benchLimits s) (pictureTree benchLimits picture) .1 (subst (λ e. Covers benchLimits e s) is c)
+-- a normal table that is computed stands in any result buffer that is long enough
+shown-normal : (rows : ℕ) (first : List ℕ) (left : ℕ) (table : List ℕ) → HasRows first rows → HasRows table left →
+    outcome (validateWord first) ≡ outcomeYes → leb (mergedCount benchLimits first) maxRows ≡ true → normalFile benchLimits first ≡ table →
+    Holds (normal rows first left table)
+shown-normal rows first left table counted left-counted opened few is = (
+  counted,
+  left-counted,
+  λ result long.
+      let written = normalize-written first result long (validate-readable first opened) (leb-true (mergedCount benchLimits first) maxRows few) in
+      (written .0 ∙ ap (λ (e : List ℕ). valueWord outcomeYes (length e)) is, written .1 ∙ ap (λ (e : List ℕ). put result 0 e) is),
+)
 
-  shown-common : lcsWord first second room (pictureSize benchLimits) ≡ valueWord outcomeYes (length picture) →
-      lcsFile benchLimits first second ≡ picture → length picture < 2 ^ 32 → Holds (common first second picture)
-  unfolding lcsBuffer
-  shown-common told is small =
-      let a = lcs-yes first second room (pictureSize benchLimits) (ap outcome told ∙ value-outcome outcomeYes (length picture) small) in (
-        told,
-        λ result long. common-result benchLimits first second room result (omega arith) long (a .pair) (a .few) ∙ ap (λ (e : List ℕ). put result 0 e) is,
-        covers-common first is (lcs-covers-first benchLimits first second (a .few) bench),
-        covers-common second is (lcs-covers-second benchLimits first second (a .few) bench),
+-- a common picture that is given with buffers of the lengths laid down stands in any result buffer that is long enough, and covers both
+module _ (first second : List ℕ) (rows : ℕ) (table : List ℕ) (is : lcsFile benchLimits first second ≡ table) where
+  shown-common : HasRows table rows → outcome (lcsWord first second workRoom tableRoom) ≡ outcomeYes → Holds (common first second rows table)
+  shown-common counted told =
+      let a = lcs-yes first second workRoom tableRoom told in (
+        counted,
+        λ work result enough long.
+            let given = lcs-common first second work result enough long (a .pair) (a .few) in
+            (given .0 ∙ ap (λ (e : List ℕ). valueWord outcomeYes (length e)) is, given .2 ∙ ap (λ (e : List ℕ). put result 0 e) is),
+        subst (λ e. Covers benchLimits e first) is (lcs-covers-first benchLimits first second (a .few) bench),
+        subst (λ e. Covers benchLimits e second) is (lcs-covers-second benchLimits first second (a .few) bench),
       )
 
 pub starred-hold : AllHold starred
-unfolding be beBytes rowOf endBytes endsAt put depthIn depth tagOk lengthFor kindOk roleOk parentOk valueField rowField endField fieldAt scanFrom readingOf answerOf rowCount viewOf mergedTree mergedCount normalTreeOf normalFile normalizeAnswer normalizeResult normalizeWord normalizeBuffer
+unfolding be beBytes rowOf endBytes endsAt depthIn depth tagOk lengthFor kindOk roleOk parentOk valueField rowField endField fieldAt scanFrom readingOf answerOf validateWord rowCount viewOf mergedTree mergedCount normalTreeOf normalFile
     each individualCount individualHead refutationForm individualOk mapForm formOf rowAsked inOrder mapAsked refutationAsked checkAnswer evidenceAnswer mergedAsked prepareAnswer verifyAnswer verifyWord
-    covers verdictOf mapOf lowestMap mapFile refutationOf refutationFile individualBytes evidenceOf verdictAnswer subsumesAnswer subsumesWord
+    covers verdictOf mapOf lowestMap mapFile refutationOf refutationFile individualBytes evidenceOf verdictAnswer
     lcsTree lcsCount lcsFile commonAnswer lcsAnswer lcsWord
 starred-hold = (
   empty-subsumes,
   (
-    (refl, refl),
+    shown-normal 1 k2-first 1 k2-normal refl refl refl refl refl,
     (
-      (refl, refl),
+      shown-normal 3 k3-first 2 k3-normal refl refl refl refl refl,
       (
-        (refl, refl),
+        shown-normal 3 k4-first 3 k4-normal refl refl refl refl refl,
         (
-          (refl, refl),
+          shown-normal 2 k5-first 1 empty refl refl refl refl refl,
           (
-            (refl, refl),
+            shown-normal 2 k6-first 2 k6-first refl refl refl refl refl,
             (
-              (refl, refl),
+              shown-normal 3 k6-more 1 k2-normal refl refl refl refl refl,
               (
-                shown someBoth someEach toBoth refl refl refl,
+                shown k7-first k7-second k7-map refl refl refl,
                 (
-                  shown-not someEach someBoth oneEach refl refl refl,
+                  shown-not k7-second k7-first k7-refutation refl refl refl,
                   (
-                    shown noneReached allFive toMarked refl refl refl,
+                    shown k8-first k8-second k8-map refl refl refl,
                     (
-                      shown-not noneReached someReached alone refl refl refl,
+                      shown-not k8-first k8-other k8-refutation refl refl refl,
                       (
-                        shown-common someFour someTwo fourAndAny refl refl (omega arith),
+                        shown-common k9-first k9-second 3 k9-common refl refl refl,
                         (
-                          shown-common allThree allFive empty refl refl (omega arith),
-                          (shown-common noneReached allFive allFive refl refl (omega arith), ((refl, refl), ((refl, refl), tt))),
+                          shown-common k10-first k10-second 1 empty refl refl refl,
+                          (
+                            shown-common k11-first k11-second 2 k11-second refl refl refl,
+                            (
+                              shown-normal 4 k12-first 5 k12-normal refl refl refl refl refl,
+                              (
+                                shown-normal 5 k12-normal 6 k12-normal-again refl refl refl refl refl,
+                                tt,
+                              ),
+                            ),
+                          ),
                         ),
                       ),
                     ),

@@ -12,17 +12,17 @@
 --   subsumes-yes, subsumes-no   outcome 1 or 2 is given only with room, for an acceptable pair, with that verdict; the value is the evidence's length
 --   subsumes-covers,
 --   subsumes-not                so only if the second covers the first, only if it does not
---   subsumes-exactly            with buffers of the lengths laid down and for an acceptable pair: exactly then
+--   subsumes-exactly            with buffers of the lengths laid down and for an acceptable pair: exactly then, and the outcome is one of the two
 --   subsumes-evidence           the result buffer's bytes up to that length are the evidence,
 --   subsumes-map-taken,
 --   subsumes-refutation-taken   and the check takes it: a map where the outcome is 1, a refutation where it is 2
 --   word-read, yes-small, no-small   what the code does with the answer at the limits it has
-use Prim.Native.Nat.{ℕ, _<_, _^_, _≤_}
+use Prim.Native.Nat.{ℕ, _<_, _≤_}
 use native.Mathlib.Omega.{arith}
 use lib.ListN.{getD, length, take}
 use mathlib.Core.Bool.{Bool, false, true}
 use mathlib.Core.List.{List, _++_}
-use mathlib.Core.Logic.{_↔_}
+use mathlib.Core.Logic.{_↔_, _⊎_, inl, inr, ⊎-elim}
 use mathlib.Core.Path.{_∙_, _≡_, ap, refl, subst, sym}
 use Rattle.table.specs.Bounds.{benchLimits}
 use Rattle.table.specs.Put.{put}
@@ -39,17 +39,18 @@ use Rattle.evidence.proofs.Verifications.{pair-work}
 use Rattle.evidence.specs.declared.check.Verified.the-variants as verified
 use Rattle.subsumption.proofs.Answers.{Answered, acceptable-result, acceptable-subsumes, answered-no, answered-yes, evidence-read, refused-result, refused-subsumes, result-kept, result-past, short-result, short-subsumes}
 use Rattle.meaning.specs.Covering.{Covers}
-use Rattle.subsumption.proofs.Conditions.{condition-2-verdict}
+use Rattle.subsumption.proofs.Conditions.{SaysNo, SaysYes, condition-2-verdict}
 use Rattle.subsumption.proofs.Refusals.{subsumes-refusal}
 use Rattle.subsumption.proofs.Writers.{evidence-size, no-verify, verdict-covers, verdict-fails, yes-verify}
 use Rattle.subsumption.specs.Call.{subsumesAnswer, subsumesResult, subsumesWork, verdictAnswer}
 use Rattle.subsumption.specs.Verdict.{evidenceOf, evidenceSize}
 use Rattle.subsumption.specs.declared.verdict.Verdict.{Verdict}
 use Rattle.subsumption.specs.declared.verdict.Verdict.the-variants as verdict
-use Rattle.interface.specs.Calls.{subsumesBuffer, subsumesSpace, subsumesWord, verifySpace, verifyWord}
-use Rattle.interface.specs.Word.{outcomeNo, outcomeYes, refusalWord, verdictWord, verifiedWord}
-use Rattle.interface.proofs.PairWords.{Refusals, bench, known-zero, refusals}
-use Rattle.interface.proofs.Words.{outcome, refused, value, value-outcome, value-value}
+use Rattle.interface.specs.Calls.{subsumesBuffer, SubsumesGives, subsumesSpace, subsumesWord, verifySpace, verifyWord}
+use Rattle.interface.specs.Refusals.{Refusals}
+use Rattle.interface.specs.Word.{outcome, outcomeNo, outcomeYes, refusalWord, refused, value, valueRange, verdictWord, verifiedWord}
+use Rattle.interface.proofs.PairWords.{bench, known-zero, refusals}
+use Rattle.interface.proofs.Words.{value-outcome, value-value}
 
 module _ (first second work result : List ℕ) where
   abbrev pub Gives : ℕ → List ℕ → List ℕ → Type 0
@@ -116,7 +117,7 @@ module _ (first second work result : List ℕ) where
 -- ---- what a word shows
 
 module _ (first second : List ℕ) (work result : ℕ) where
-  answered-small : (b : Bool) (n : ℕ) → Answered benchLimits first second work result b n → n < 2 ^ 32
+  answered-small : (b : Bool) (n : ℕ) → Answered benchLimits first second work result b n → n < valueRange
   answered-small b n a = omega (arith, a .length-is, evidence-size benchLimits first second bench (a .pair))
 
   refusal-zero : (r : Refusal) → subsumesAnswer benchLimits first second work result ≡ verdict.Refused r → outcome (refusalWord r) ≡ 0
@@ -156,26 +157,30 @@ module _ (first second : List ℕ) (work result : ℕ) where
   pub subsumes-not : outcome (subsumesWord first second work result) ≡ outcomeNo → Covers benchLimits second first → ⊥
   subsumes-not h = let a = subsumes-no h in verdict-fails benchLimits first second bench (a .pair) .0 (a .verdict-is)
 
-  -- with buffers of the lengths laid down, exactly then
-  pub subsumes-exactly : workSize benchLimits ≤ work → evidenceSize benchLimits ≤ result → Acceptable benchLimits first second →
-      ((outcome (subsumesWord first second work result) ≡ outcomeYes) ↔ Covers benchLimits second first)
-      × ((outcome (subsumesWord first second work result) ≡ outcomeNo) ↔ (Covers benchLimits second first → ⊥))
+  -- the word of an answer yes, of an answer no
+  says-yes : SaysYes (subsumesAnswer benchLimits first second work result) → outcome (subsumesWord first second work result) ≡ outcomeYes
   unfolding subsumesWord
-  subsumes-exactly enough long pair =
-      let (yes-is, no-is, one) = condition-2-verdict benchLimits bench first second pair work result enough long in (
-        (
-          subsumes-covers,
-          λ c. let (n, e) = yes-is .1 c in
-              ap (λ v. outcome (verdictWord v)) e
-              ∙ value-outcome outcomeYes n (answered-small true n (answered-yes benchLimits first second work result n e)),
-        ),
-        (
-          subsumes-not,
-          λ c. let (n, e) = no-is .1 c in
-              ap (λ v. outcome (verdictWord v)) e
-              ∙ value-outcome outcomeNo n (answered-small false n (answered-no benchLimits first second work result n e)),
-        ),
-      )
+  says-yes (n, e) =
+      ap (λ v. outcome (verdictWord v)) e
+      ∙ value-outcome outcomeYes n (answered-small true n (answered-yes benchLimits first second work result n e))
+
+  says-no : SaysNo (subsumesAnswer benchLimits first second work result) → outcome (subsumesWord first second work result) ≡ outcomeNo
+  unfolding subsumesWord
+  says-no (n, e) =
+      ap (λ v. outcome (verdictWord v)) e
+      ∙ value-outcome outcomeNo n (answered-small false n (answered-no benchLimits first second work result n e))
+
+  module _ (enough : workSize benchLimits ≤ work) (long : evidenceSize benchLimits ≤ result) (pair : Acceptable benchLimits first second) where
+    pub subsumes-exactly :
+        ((outcome (subsumesWord first second work result) ≡ outcomeYes) ↔ Covers benchLimits second first)
+        × ((outcome (subsumesWord first second work result) ≡ outcomeNo) ↔ (Covers benchLimits second first → ⊥))
+        × ((outcome (subsumesWord first second work result) ≡ outcomeYes) ⊎ (outcome (subsumesWord first second work result) ≡ outcomeNo))
+    subsumes-exactly =
+        let c = condition-2-verdict benchLimits bench first second pair in (
+          (subsumes-covers, λ h. says-yes (c .yes-exactly work result enough long .1 h)),
+          (subsumes-not, λ h. says-no (c .no-exactly work result enough long .1 h)),
+          ⊎-elim (λ h. inl (says-yes h)) (λ h. inr (says-no h)) (c .one work result enough long),
+        )
 
 -- ---- the evidence
 
@@ -212,20 +217,20 @@ module _ (first second : List ℕ) (limits : Limits) (is : limits ≡ benchLimit
     pub word-read : answer ≡ subsumesAnswer limits first second (length work) (length result) →
         space ≡ subsumesWork limits first second work (length result) → buffer ≡ subsumesResult limits first second (length work) result →
         w ≡ verdictWord answer →
-        (w ≡ subsumesWord first second (length work) (length result))
-        × ((space ≡ subsumesSpace first second work (length result)) × (buffer ≡ subsumesBuffer first second (length work) result))
+        SubsumesGives first second work result w space buffer
     unfolding subsumesWord subsumesSpace subsumesBuffer
-    word-read a b c d = (
-      d ∙ ap verdictWord (a ∙ ap (λ l. subsumesAnswer l first second (length work) (length result)) is),
-      (b ∙ ap (λ l. subsumesWork l first second work (length result)) is, c ∙ ap (λ l. subsumesResult l first second (length work) result) is),
-    )
+    word-read a b c d = record {
+      word-is = d ∙ ap verdictWord (a ∙ ap (λ l. subsumesAnswer l first second (length work) (length result)) is);
+      work-is = b ∙ ap (λ l. subsumesWork l first second work (length result)) is;
+      result-is = c ∙ ap (λ l. subsumesResult l first second (length work) result) is;
+    }
 
   module _ (work result n : ℕ) (answer : Verdict) (a : answer ≡ subsumesAnswer limits first second work result) where
     bench-answer : subsumesAnswer benchLimits first second work result ≡ answer
     bench-answer = sym (a ∙ ap (λ l. subsumesAnswer l first second work result) is)
 
-    pub yes-small : answer ≡ verdict.Yes n → n < 2 ^ 32
+    pub yes-small : answer ≡ verdict.Yes n → n < valueRange
     yes-small e = answered-small first second work result true n (answered-yes benchLimits first second work result n (bench-answer ∙ e))
 
-    pub no-small : answer ≡ verdict.No n → n < 2 ^ 32
+    pub no-small : answer ≡ verdict.No n → n < valueRange
     no-small e = answered-small first second work result false n (answered-no benchLimits first second work result n (bench-answer ∙ e))

@@ -1,13 +1,11 @@
 -- The answer word: what a caller takes out of it is what was put in.
---   outcome, question, input, card, value   the parts, as include/zuvaropy.h takes them
 --   refusal-outcome .. refusal-card         those of a refusal
 --   value-outcome, value-value              those of an answer
---   refused                                 the word of a refusal by its number and input
 --   codes-agree                             the words of a refusal of each input, and of an answer of each call, computed
 --   validate-readable, readable-validate    the plain test answers with a row count exactly when the picture is readable
 use mathlib.Core.Path.{_≡_, refl}
 use mathlib.Core.List.{List, [], _∷_}
-use Prim.Native.Nat.{ℕ, _/_, _%_, _^_, _<_}
+use Prim.Native.Nat.{ℕ, _<_}
 use native.Mathlib.Omega.{arith}
 use Rattle.table.specs.Bounds.{benchLimits}
 use Rattle.picture.specs.declared.answer.Input.{Input}
@@ -18,6 +16,7 @@ use Rattle.picture.specs.declared.read.Reading.{Reading}
 use Rattle.picture.specs.declared.read.Reading.the-variants as reading
 use Rattle.picture.specs.Read.{readingOf, answered, answerOf}
 use Rattle.picture.specs.View.{Readable, rowCount}
+use Rattle.normal.specs.declared.normalize.Normalized.the-variants as normalized
 use Rattle.evidence.specs.declared.check.Verified.the-variants as verified
 use Rattle.lcs.specs.Call.{tooLarge}
 use Rattle.lcs.specs.declared.common.Common.the-variants as common
@@ -25,25 +24,10 @@ use Rattle.book.specs.Call.{noBook}
 use Rattle.book.specs.declared.answer.Selected.the-variants as selected
 use Rattle.subsumption.specs.declared.verdict.Verdict.the-variants as verdict
 use Rattle.picture.proofs.Readables.{reading-answer, reading-number, readable-count}
-use Rattle.interface.specs.Word.{outcomeYes, inputCode, cardOf, commonWord, valueWord, refusalWord, readWord, selectedWord, verdictWord, verifiedWord}
+use Rattle.interface.specs.Word.{card, cardOf, commonWord, input, inputCode, normalizedWord, outcome, outcomeYes, partRange, question, readWord, refusalWord, refused, selectedWord, value, valueRange, valueWord, verdictWord, verifiedWord}
 use Rattle.interface.specs.Calls.{validateWord}
 
-abbrev pub outcome : ℕ → ℕ
-outcome w = w / 2 ^ 56
-
-abbrev pub question : ℕ → ℕ
-question w = w / 2 ^ 48 % 256
-
-abbrev pub input : ℕ → ℕ
-input w = w / 2 ^ 40 % 256
-
-abbrev pub card : ℕ → ℕ
-card w = w / 2 ^ 32 % 256
-
-abbrev pub value : ℕ → ℕ
-value w = w % 2 ^ 32
-
-code-small : (i : Input) → inputCode i < 256
+code-small : (i : Input) → inputCode i < partRange
 code-small Buffer = omega arith
 code-small First = omega arith
 code-small Second = omega arith
@@ -51,7 +35,7 @@ code-small Evidence = omega arith
 code-small Book = omega arith
 code-small (Card n) = omega arith
 
-module _ (r : Refusal) (number : r .number < 256) (few : cardOf (r .input) < 256) where
+module _ (r : Refusal) (number : r .number < partRange) (few : cardOf (r .input) < partRange) where
   pub refusal-outcome : outcome (refusalWord r) ≡ 0
   refusal-outcome = omega (arith, code-small (r .input))
 
@@ -64,15 +48,12 @@ module _ (r : Refusal) (number : r .number < 256) (few : cardOf (r .input) < 256
   pub refusal-card : card (refusalWord r) ≡ cardOf (r .input)
   refusal-card = omega (arith, code-small (r .input))
 
-module _ (o v : ℕ) (small : v < 2 ^ 32) where
+module _ (o v : ℕ) (small : v < valueRange) where
   pub value-outcome : outcome (valueWord o v) ≡ o
   value-outcome = omega arith
 
   pub value-value : value (valueWord o v) ≡ v
   value-value = omega arith
-
-abbrev pub refused : ℕ → Input → ℕ
-refused number input = refusalWord (record { number = number; input = input })
 
 abbrev pub words : List ℕ
 words =
@@ -82,7 +63,8 @@ words =
     ∷ refused 16 Evidence
     ∷ refused 24 Book
     ∷ refused 2 (Card 31)
-    ∷ valueWord outcomeYes 256
+    ∷ readWord (answer.Rows 256)
+    ∷ normalizedWord (normalized.Length 6147)
     ∷ verdictWord (verdict.Yes 12)
     ∷ verdictWord (verdict.No 46595)
     ∷ commonWord (common.Length 6147)
@@ -102,6 +84,7 @@ pub codes-agree : words ≡
     ∷ 0x0018040000000000
     ∷ 0x0002051F00000000
     ∷ 0x0100000000000100
+    ∷ 0x0100000000001803
     ∷ 0x010000000000000C
     ∷ 0x020000000000B603
     ∷ 0x0100000000001803

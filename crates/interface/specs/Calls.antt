@@ -5,7 +5,12 @@
 --   lcsWord, lcsSpace, lcsBuffer                  the common picture
 --   verifyWord, verifySpace                       the check of evidence
 --   mostSpecificWord, mostSpecificSpace           the nearest cards
+--   OneBuffer, TwoBuffers                         the word and what is left in the buffers are those of given definitions
+--   NormalizeGives, SubsumesGives, LcsGives,
+--   VerifyGives, MostSpecificGives                so of each call: the inputs, the buffers as lent, the word, and the buffers as left
+use lib.ListN.{length}
 use mathlib.Core.List.{List}
+use mathlib.Core.Path.{_≡_}
 use Prim.Native.Nat.{ℕ}
 use Rattle.table.specs.Bounds.{benchLimits}
 use Rattle.picture.specs.declared.answer.Input.the-variants.{First}
@@ -34,7 +39,8 @@ normalizeBuffer picture result = normalizeResult benchLimits picture result
 unfoldable pub subsumesWord : List ℕ → List ℕ → ℕ → ℕ → ℕ
 subsumesWord first second work result = verdictWord (subsumesAnswer benchLimits first second work result)
 
--- the work space, as that of the check if the result buffer, so many bytes long, is long enough, else nothing written
+-- the work space: once 1 to 14 are answered yes, both normal tables, each in its half, the rest of each half zero; else nothing written. The result buffer is
+-- so many bytes long
 unfoldable pub subsumesSpace : List ℕ → List ℕ → List ℕ → ℕ → List ℕ
 subsumesSpace first second work result = subsumesWork benchLimits first second work result
 
@@ -46,7 +52,8 @@ subsumesBuffer first second work result = subsumesResult benchLimits first secon
 unfoldable pub lcsWord : List ℕ → List ℕ → ℕ → ℕ → ℕ
 lcsWord first second work result = commonWord (lcsAnswer benchLimits first second work result)
 
--- the work space, as that of the check if the result buffer, so many bytes long, is long enough, whatever 15 answers; else nothing written
+-- the work space: once 1 to 14 are answered yes, whatever 15 answers, both normal tables, each in its half, the rest of each half zero; else nothing
+-- written. The result buffer is so many bytes long
 unfoldable pub lcsSpace : List ℕ → List ℕ → List ℕ → ℕ → List ℕ
 lcsSpace first second work result = lcsWork benchLimits first second work result
 
@@ -69,3 +76,32 @@ mostSpecificWord case book room = selectedWord (mostSpecificAnswer benchLimits c
 -- the work space: 12,294 bytes zero where a word is answered, else nothing written
 unfoldable pub mostSpecificSpace : List ℕ → List ℕ → List ℕ → List ℕ
 mostSpecificSpace case book work = mostSpecificWork benchLimits case book work
+
+-- ---- what each call promises
+
+-- a call with one buffer lent for writing
+pub record OneBuffer (wordOf : ℕ → ℕ) (leftOf : List ℕ → List ℕ) (buffer : List ℕ) (word : ℕ) (left : List ℕ) : Type 0 where
+  pub word-is : word ≡ wordOf (length buffer)
+  pub buffer-is : left ≡ leftOf buffer
+
+-- a call with a work space and a result buffer
+pub record TwoBuffers (wordOf : ℕ → ℕ → ℕ) (workOf : List ℕ → ℕ → List ℕ) (resultOf : ℕ → List ℕ → List ℕ)
+    (work result : List ℕ) (word : ℕ) (workLeft resultLeft : List ℕ) : Type 0 where
+  pub word-is : word ≡ wordOf (length work) (length result)
+  pub work-is : workLeft ≡ workOf work (length result)
+  pub result-is : resultLeft ≡ resultOf (length work) result
+
+abbrev pub NormalizeGives : List ℕ → List ℕ → ℕ → List ℕ → Type 0
+NormalizeGives picture = OneBuffer (normalizeWord picture) (normalizeBuffer picture)
+
+abbrev pub SubsumesGives : List ℕ → List ℕ → List ℕ → List ℕ → ℕ → List ℕ → List ℕ → Type 0
+SubsumesGives first second = TwoBuffers (subsumesWord first second) (subsumesSpace first second) (subsumesBuffer first second)
+
+abbrev pub LcsGives : List ℕ → List ℕ → List ℕ → List ℕ → ℕ → List ℕ → List ℕ → Type 0
+LcsGives first second = TwoBuffers (lcsWord first second) (lcsSpace first second) (lcsBuffer first second)
+
+abbrev pub VerifyGives : List ℕ → List ℕ → List ℕ → List ℕ → ℕ → List ℕ → Type 0
+VerifyGives first second evidence = OneBuffer (verifyWord first second evidence) (verifySpace first second)
+
+abbrev pub MostSpecificGives : List ℕ → List ℕ → List ℕ → ℕ → List ℕ → Type 0
+MostSpecificGives case book = OneBuffer (mostSpecificWord case book) (mostSpecificSpace case book)

@@ -1,4 +1,5 @@
--- The answer word, the calls, and the starred cases.
+-- The answer word, the calls, what those on two pictures refuse, and the starred cases.
 pub mod Word
 pub mod Calls
+pub mod Refusals
 pub mod Starred

@@ -1,8 +1,15 @@
--- The 64-bit answer word of a call.
---   bits 63..56  outcome: 0 a refusal, 1 yes, 2 no
+-- The 64-bit answer word of a call: how it is put together, and how include/zuvaropy.h takes it apart.
+--   bits 63..56  outcome: 0 a refusal; 1 a value, verdict yes or map taken; 2 verdict no or refutation taken
 --   a refusal:   bits 55..48 the question's number, 47..40 the input's code, 39..32 the card's number or 0, the rest 0
 --   an answer:   bits 31..0 the value, the rest 0
-use Prim.Native.Nat.{ℕ, _+_, _*_, _^_}
+--
+--   outcomeYes, outcomeNo                   the outcomes of an answer
+--   inputCode, cardOf                       the code of an input, and its card's number
+--   outcomeWeight .. cardWeight             the weights of the parts; a part but the value is below `partRange`, the value below `valueRange`
+--   valueWord, refusalWord, refused         the word of an answer; of a refusal; of a refusal by its number and input
+--   outcome, question, input, card, value   the parts of a word
+--   readWord, normalizedWord, verdictWord, commonWord, verifiedWord, selectedWord   the word of each call's answer
+use Prim.Native.Nat.{ℕ, _%_, _*_, _+_, _/_, _^_}
 use Rattle.picture.specs.declared.answer.Input.{Input}
 use Rattle.picture.specs.declared.answer.Input.the-variants.{Buffer, First, Second, Evidence, Book, Card}
 use Rattle.picture.specs.declared.answer.Refusal.{Refusal}
@@ -41,11 +48,47 @@ cardOf Evidence = 0
 cardOf Book = 0
 cardOf (Card n) = n
 
+abbrev pub partRange : ℕ
+partRange = 2 ^ 8
+
+abbrev pub valueRange : ℕ
+valueRange = 2 ^ 32
+
+abbrev pub cardWeight : ℕ
+cardWeight = valueRange
+
+abbrev pub inputWeight : ℕ
+inputWeight = 2 ^ 40
+
+abbrev pub questionWeight : ℕ
+questionWeight = 2 ^ 48
+
+abbrev pub outcomeWeight : ℕ
+outcomeWeight = 2 ^ 56
+
 abbrev pub valueWord : ℕ → ℕ → ℕ
-valueWord outcome value = outcome * 2 ^ 56 + value
+valueWord outcome value = outcome * outcomeWeight + value
 
 abbrev pub refusalWord : Refusal → ℕ
-refusalWord r = r .number * 2 ^ 48 + inputCode (r .input) * 2 ^ 40 + cardOf (r .input) * 2 ^ 32
+refusalWord r = r .number * questionWeight + inputCode (r .input) * inputWeight + cardOf (r .input) * cardWeight
+
+abbrev pub refused : ℕ → Input → ℕ
+refused number input = refusalWord (record { number = number; input = input })
+
+abbrev pub outcome : ℕ → ℕ
+outcome w = w / outcomeWeight
+
+abbrev pub question : ℕ → ℕ
+question w = w / questionWeight % partRange
+
+abbrev pub input : ℕ → ℕ
+input w = w / inputWeight % partRange
+
+abbrev pub card : ℕ → ℕ
+card w = w / cardWeight % partRange
+
+abbrev pub value : ℕ → ℕ
+value w = w % valueRange
 
 -- the plain test: the row count, or the refusal
 abbrev pub readWord : Answer → ℕ

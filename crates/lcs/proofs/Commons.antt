@@ -8,7 +8,8 @@
 --   lcs-reads, lcs-readable            the file is readable, with a row for each node
 --   lcs-meaning                        its tree is the product
 --   lcs-covers-first, lcs-covers-second   it covers both pictures,
---   lcs-least                          and every readable picture that covers both covers it
+--   lcs-least-any                      and every description of known roles that covers both covers it,
+--   lcs-least                          so every readable picture that does
 use Prim.Native.Nat.{_^_, _≤_, ℕ}
 use lib.ListN.{length}
 use mathlib.Core.List.{List}
@@ -41,6 +42,7 @@ use Rattle.table.specs.Bounds.{Bounded, pictureSize}
 use Rattle.table.specs.Layout.{endSize, numberSize, place}
 use Rattle.table.specs.Number.{Bytes}
 use Rattle.table.specs.declared.layout.Limits.{Limits}
+use Rattle.lcs.specs.Description.{DescriptionCovers}
 use Rattle.lcs.specs.Product.{lcsCount, lcsFile, lcsTree}
 
 module _ (limits : Limits) (first second : List ℕ) where
@@ -131,13 +133,17 @@ module _ (limits : Limits) (first second : List ℕ) where
       pub lcs-covers-second : Covers limits (lcsFile limits first second) second
       lcs-covers-second = covers-by second second-lcs
 
+      -- d may have any number of rows and edges
+      pub lcs-least-any : Readable limits first → Readable limits second → (d : Tree pictureSignature) → RolesKnown pictureSignature d →
+          DescriptionCovers limits d first → DescriptionCovers limits d second → DescriptionCovers limits d (lcsFile limits first second)
+      lcs-least-any r t d known a b =
+          subsumed-concepts pictureSignature (pictureTree limits (lcsFile limits first second)) d .0
+          (of-picture (λ v. Subsumed pictureSignature v d)
+          (lcs-below r t d known (subsumed-concepts pictureSignature (pictureTree limits first) d .1 a)
+          (subsumed-concepts pictureSignature (pictureTree limits second) d .1 b)))
+
       -- p may have any number of merged rows
       pub lcs-least : Readable limits first → Readable limits second → (p : List ℕ) → Readable limits p →
           Covers limits p first → Covers limits p second → Covers limits p (lcsFile limits first second)
-      lcs-least r t p q a b =
-          let u = pictureTree limits p in
-          let known = treeOf-rolesKnown pictureSignature (pictureTable p) (picture-known limits p q) (limits .depth) 0 in
-          subsumed-concepts pictureSignature (pictureTree limits (lcsFile limits first second)) u .0
-          (of-picture (λ v. Subsumed pictureSignature v u)
-          (lcs-below r t u known (subsumed-concepts pictureSignature (pictureTree limits first) u .1 a)
-          (subsumed-concepts pictureSignature (pictureTree limits second) u .1 b)))
+      lcs-least r t p q =
+          lcs-least-any r t (pictureTree limits p) (treeOf-rolesKnown pictureSignature (pictureTable p) (picture-known limits p q) (limits .depth) 0)

@@ -4,7 +4,7 @@
 -- The pair: "any two readable pictures, each at most 256 rows when merged" is `Acceptable` (workspace, specs/Prepare). "Buffers of the lengths laid down" are
 -- at least `workSize` and `pictureSize` bytes long; what they hold beforehand is no argument of an answer, only their lengths are. The inputs are lists of any
 -- numbers, bytes among them; what is written is bytes. `Covers` is 003, Definition 1, with Table 1's extensions, over finite interpretations (meaning,
--- specs/Covering); its trees are read down to the depth limit, below which a readable picture has no row (meaning, proofs/Pictures: `picture-whole`). The
+-- specs/Covering); its trees are read down to the depth limit, where nothing is cut (subsumption, proofs/Conditions: `nothing-cut`). The
 -- product laid down in the papers is `product` of the two normal trees, with its dropping (ale, specs/Product); `lcsCount` is the number of its rows.
 --
 --   SaysLength, written   a length is given; the result buffer's bytes up to it
@@ -23,7 +23,7 @@ use native.Mathlib.Omega.{arith}
 use borrow.Author.Tests.{leb-false, leb-true}
 use Rattle.ale.specs.PictureSignature.{pictureSignature}
 use Rattle.ale.specs.Product.{product}
-use Rattle.ale.specs.Tree.{size}
+use Rattle.ale.specs.Tree.{RolesKnown, Tree, size}
 use Rattle.meaning.specs.Covering.{Covers}
 use Rattle.meaning.specs.NormalTable.{normalTreeOf}
 use Rattle.picture.specs.Read.{readingOf}
@@ -36,11 +36,12 @@ use Rattle.table.specs.Number.{Bytes}
 use Rattle.table.specs.declared.layout.Limits.{Limits}
 use Rattle.workspace.specs.Prepare.{Acceptable, workSize}
 use Rattle.lcs.specs.Call.{lcsAnswer, lcsResult, tooLarge}
+use Rattle.lcs.specs.Description.{DescriptionCovers}
 use Rattle.lcs.specs.Product.{lcsCount, lcsFile, lcsTree}
 use Rattle.lcs.specs.declared.common.Common.{Common}
 use Rattle.lcs.specs.declared.common.Common.the-variants.{Length, Refused}
 use Rattle.lcs.proofs.Answers.{answered-length, common-lcs, common-read, refused-large, large-exactly, large-lcs}
-use Rattle.lcs.proofs.Commons.{lcs-bytes, lcs-covers-first, lcs-covers-second, lcs-least, lcs-readable, lcs-reads, lcs-size}
+use Rattle.lcs.proofs.Commons.{lcs-bytes, lcs-covers-first, lcs-covers-second, lcs-least, lcs-least-any, lcs-readable, lcs-reads, lcs-size}
 
 abbrev pub SaysLength : Common → Type 0
 SaysLength answer = (n : ℕ) × (answer ≡ Length n)
@@ -60,6 +61,9 @@ pub record LeastCommon (limits : Limits) (first second : List ℕ) (n : ℕ) (pi
   pub covers-second : Covers limits picture second
   -- "and every picture that covers both covers it;" however many rows it has when merged
   pub least : (other : List ℕ) → Readable limits other → Covers limits other first → Covers limits other second → Covers limits other picture
+  -- 003, Definition 2: so does every description of known roles, however many rows and edges it has
+  pub least-any : (d : Tree pictureSignature) → RolesKnown pictureSignature d →
+      DescriptionCovers limits d first → DescriptionCovers limits d second → DescriptionCovers limits d picture
 
 pub record Condition2Common (limits : Limits) (first second : List ℕ) : Type 0 where
   -- whenever a length is given, the result buffer's bytes up to it are the common picture
@@ -89,6 +93,7 @@ common-least limits bounded first second pair few n is = record {
   covers-first = lcs-covers-first limits first second few bounded;
   covers-second = lcs-covers-second limits first second few bounded;
   least = lcs-least limits first second few bounded (pair .first-readable) (pair .second-readable);
+  least-any = lcs-least-any limits first second few bounded (pair .first-readable) (pair .second-readable);
 }
 
 pub condition-2-common : (limits : Limits) → Bounded limits → (first second : List ℕ) → Acceptable limits first second →

@@ -5,33 +5,43 @@
 -- The pair: "any two readable pictures, each at most 256 rows when merged" is `Acceptable` (workspace, specs/Prepare). "Buffers of the lengths laid down"
 -- are at least `workSize` and `evidenceSize` bytes long; what the two lent buffers hold beforehand is no argument of an answer, only their lengths are. The
 -- inputs are lists of any numbers, bytes among them; where evidence is said to exist, or is written, it is bytes. The trees of `Covers` are read down to the
--- depth limit, below which a readable picture has no row (meaning, proofs/Pictures: `picture-whole`).
+-- depth limit, where nothing is cut (`nothing-cut`).
 --
 --   Covers                the second picture covers the first: 003, Definition 1, with Table 1's extensions, over finite interpretations (meaning, specs/Covering)
 --   any-interpretation    a positive count and any tables for names and roles are an interpretation: what else the record asks, that roles respect their
 --                         inclusion, asks nothing where inclusion is equality
+--   covers-fits           covering by 01's own words, "every individual fitting the first root fits the second", is the same
+--   nothing-cut           a readable picture has no row below the depth limit: its tree, and the rows that 14 counts, are the same at any greater depth
 --   SaysYes, SaysNo       the verdict is yes, is no, with evidence of a length
 --   written               the result buffer's bytes up to the reported length
+--   Condition2Verdict,
 --   condition-2-verdict   condition 2
+--   Condition3,
 --   condition-3           condition 3
 --   condition-3-any       its first sentence of any bytes at all, in the place of the pictures too
 --   paper-limits          paper 01's limits are such limits, and have its lengths
-use Prim.Native.Nat.{_<_, _≤_, ℕ}
+use Prim.Native.Nat.{_+_, _<_, _≤_, ℕ}
 use lib.Dec.{T, eqb→eq}
 use lib.ListN.{length, take}
 use mathlib.Core.Bool.{Bool, false, true}
-use mathlib.Core.List.{List}
+use mathlib.Core.List.{List, [], _∷_}
 use mathlib.Core.Logic.{_↔_, _⊎_, inl, inr}
 use mathlib.Core.Path.{_≡_, refl, subst, sym}
 use native.Mathlib.Omega.{arith}
-use Rattle.ale.specs.Interpretation.{Interpretation}
+use Rattle.ale.proofs.Concepts.{subsumed-concepts}
+use Rattle.ale.specs.Interpretation.{Interpretation, Subsumed}
+use Rattle.ale.specs.Merged.{merged}
 use Rattle.ale.specs.PictureSignature.{pictureSignature}
+use Rattle.ale.specs.Table.{tree}
+use Rattle.ale.specs.Tree.{size}
 use Rattle.countermodel.specs.Individual.{refutationForm}
 use Rattle.evidence.specs.Call.{verifyAnswer}
 use Rattle.evidence.specs.Form.{mapForm}
 use Rattle.meaning.specs.Covering.{Covers}
-use Rattle.meaning.specs.Meaning.{pictureTable}
-use Rattle.meaning.specs.NormalTable.{normalFile}
+use Rattle.meaning.specs.Meaning.{pictureTable, pictureTree}
+use Rattle.meaning.specs.NormalTable.{mergedCount, normalFile}
+use Rattle.meaning.proofs.Pictures.{count-whole, picture-whole}
+use Rattle.picture.specs.View.{Readable}
 use Rattle.table.proofs.Bools.{by-test}
 use Rattle.table.specs.Bounds.{Bounded, benchLimits}
 use Rattle.table.specs.Number.{Bytes}
@@ -54,6 +64,15 @@ any-interpretation count positive holds edge = (
   refl,
 )
 
+pub covers-fits : (limits : Limits) (first second : List ℕ) →
+    Subsumed pictureSignature (pictureTree limits first) (pictureTree limits second) ↔ Covers limits second first
+covers-fits limits first second = subsumed-concepts pictureSignature (pictureTree limits first) (pictureTree limits second)
+
+pub nothing-cut : (limits : Limits) (s : List ℕ) → Readable limits s → (k : ℕ) →
+    (pictureTree limits s ≡ tree pictureSignature (pictureTable s) (k + limits .depth))
+    × (mergedCount limits s ≡ size pictureSignature (merged pictureSignature (pictureTable s) (k + limits .depth) (0 ∷ [])))
+nothing-cut limits s readable k = (picture-whole limits s readable k, count-whole limits s readable k)
+
 abbrev pub SaysYes : Verdict → Type 0
 SaysYes answer = (n : ℕ) × (answer ≡ Yes n)
 
@@ -63,24 +82,36 @@ SaysNo answer = (n : ℕ) × (answer ≡ No n)
 abbrev pub written : Limits → List ℕ → List ℕ → ℕ → List ℕ → ℕ → List ℕ
 written limits first second work result n = take n (subsumesResult limits first second work result)
 
--- "The verdict is yes if and only if, in every finite interpretation, each individual fitting the first picture fits the second, by the published meaning
--- of ALE." And else it is no: such a pair is not refused.
+pub record Condition2Verdict (limits : Limits) (first second : List ℕ) : Type 0 where
+  -- "The verdict is yes if and only if, in every finite interpretation, each individual fitting the first picture fits the second, by the published meaning
+  -- of ALE."
+  pub yes-exactly : (work result : ℕ) → workSize limits ≤ work → evidenceSize limits ≤ result →
+      SaysYes (subsumesAnswer limits first second work result) ↔ Covers limits second first
+  pub no-exactly : (work result : ℕ) → workSize limits ≤ work → evidenceSize limits ≤ result →
+      SaysNo (subsumesAnswer limits first second work result) ↔ (Covers limits second first → ⊥)
+  -- nothing else is answered: such a pair is not refused
+  pub one : (work result : ℕ) → workSize limits ≤ work → evidenceSize limits ≤ result →
+      SaysYes (subsumesAnswer limits first second work result) ⊎ SaysNo (subsumesAnswer limits first second work result)
+
 pub condition-2-verdict : (limits : Limits) → Bounded limits → (first second : List ℕ) → Acceptable limits first second →
-    (work result : ℕ) → workSize limits ≤ work → evidenceSize limits ≤ result →
-    let answer = subsumesAnswer limits first second work result in
-    (SaysYes answer ↔ Covers limits second first) × (SaysNo answer ↔ (Covers limits second first → ⊥)) × (SaysYes answer ⊎ SaysNo answer)
-condition-2-verdict limits bounded first second pair work result enough long =
+    Condition2Verdict limits first second
+condition-2-verdict limits bounded first second pair =
     let n = length (evidenceOf limits first second) in
     let covers = verdict-covers limits first second bounded pair in
     let fails = verdict-fails limits first second bounded pair in
-    let says-yes : verdictOf limits first second ≡ true → SaysYes (subsumesAnswer limits first second work result) =
-    λ e. (n, yes-subsumes limits first second work result enough long pair e) in
-    let says-no : verdictOf limits first second ≡ false → SaysNo (subsumesAnswer limits first second work result) =
-    λ e. (n, no-subsumes limits first second work result enough long pair e) in (
-      (λ (m, h). covers .1 (answered-yes limits first second work result m h .verdict-is), λ c. says-yes (covers .0 c)),
-      (λ (m, h). fails .0 (answered-no limits first second work result m h .verdict-is), λ c. says-no (fails .1 c)),
-      by-test (verdictOf limits first second) (λ e. inl (says-yes e)) (λ e. inr (says-no e)),
-    )
+    record {
+      yes-exactly = λ work result enough long. (
+        λ (m, h). covers .1 (answered-yes limits first second work result m h .verdict-is),
+        λ c. (n, yes-subsumes limits first second work result enough long pair (covers .0 c)),
+      );
+      no-exactly = λ work result enough long. (
+        λ (m, h). fails .0 (answered-no limits first second work result m h .verdict-is),
+        λ c. (n, no-subsumes limits first second work result enough long pair (fails .1 c)),
+      );
+      one = λ work result enough long. by-test (verdictOf limits first second)
+          (λ e. inl (n, yes-subsumes limits first second work result enough long pair e))
+          (λ e. inr (n, no-subsumes limits first second work result enough long pair e));
+    }
 
 pub record Condition3 (limits : Limits) (first second : List ℕ) : Type 0 where
   -- "Whatever bytes reach the check, a map is taken only if the second covers the first, a refutation only if it does not."
@@ -95,7 +126,7 @@ pub record Condition3 (limits : Limits) (first second : List ℕ) : Type 0 where
   pub one : (room : ℕ) → workSize limits ≤ room →
       ((e : List ℕ) × Bytes e × (verifyAnswer limits first second e room ≡ MapTaken))
       ⊎ ((e : List ℕ) × Bytes e × (verifyAnswer limits first second e room ≡ RefutationTaken))
-  pub not-both : (d e : List ℕ) (room hall : ℕ) → verifyAnswer limits first second d room ≡ MapTaken → verifyAnswer limits first second e hall ≡ RefutationTaken → ⊥
+  pub not-both : (d e : List ℕ) (room other : ℕ) → verifyAnswer limits first second d room ≡ MapTaken → verifyAnswer limits first second e other ≡ RefutationTaken → ⊥
   -- "Our writer produces evidence of at most 46,595 bytes, a map exactly when its verdict is yes,"
   pub length-yes : (work result n : ℕ) → subsumesAnswer limits first second work result ≡ Yes n → n ≤ evidenceSize limits
   pub length-no : (work result n : ℕ) → subsumesAnswer limits first second work result ≡ No n → n ≤ evidenceSize limits
@@ -141,7 +172,7 @@ condition-3 limits bounded first second pair =
       one = λ room enough. by-test (verdictOf limits first second)
           (λ v. inl (evidence, bytes, yes-verify limits first second bounded pair room enough v))
           (λ v. inr (evidence, bytes, no-verify limits first second bounded pair room enough v));
-      not-both = λ d e room hall h k. refutation-fails limits first second e hall bounded k (map-covers limits first second d room bounded h);
+      not-both = λ d e room other h k. refutation-fails limits first second e other bounded k (map-covers limits first second d room bounded h);
       length-yes = λ work result n h. omega (arith, answered-yes limits first second work result n h .length-is);
       length-no = λ work result n h. omega (arith, answered-no limits first second work result n h .length-is);
       sized-yes = λ work result n h.

@@ -18,8 +18,7 @@ use subsumes::subsumes::subsumes;
 use subsumption::verdict::Verdict;
 use table::layout::Limits;
 ghost use mathlib.Core.Path.{_≡_};
-ghost use lib.ListN.{length};
-ghost use Rattle.interface.specs.Calls.{lcsBuffer, lcsSpace, lcsWord, mostSpecificSpace, mostSpecificWord, validateWord, normalizeWord, normalizeBuffer, subsumesBuffer, subsumesSpace, subsumesWord, verifySpace, verifyWord};
+ghost use Rattle.interface.specs.Calls.{LcsGives, MostSpecificGives, NormalizeGives, SubsumesGives, VerifyGives, validateWord};
 
 mod word;
 
@@ -37,7 +36,7 @@ pub extern "C" fn zuvaropy_validate(picture: &[u8]) -> u64
 // Writes the normal table of a picture, and gives its length in bytes.
 #[no_mangle]
 pub extern "C" fn zuvaropy_normalize(picture: &[u8], result: &mut [u8]) -> u64
-    ensures { λ r. ⌜ (r ≡ normalizeWord (now (picture .entry)) (length (now (result .entry)))) × (now (result .exit) ≡ normalizeBuffer (now (picture .entry)) (now (result .entry))) ⌝ }
+    ensures { λ r. ⌜ NormalizeGives (now (picture .entry)) (now (result .entry)) r (now (result .exit)) ⌝ }
 {
     match normalize(picture, Limits::bench(), result) {
         Normalized::Length(n) => value_word(YES, n as u64),
@@ -54,7 +53,7 @@ pub extern "C" fn zuvaropy_subsumes(
     work: &mut [u8],
     result: &mut [u8],
 ) -> u64
-    ensures { λ r. ⌜ (r ≡ subsumesWord (now (first .entry)) (now (second .entry)) (length (now (work .entry))) (length (now (result .entry)))) × ((now (work .exit) ≡ subsumesSpace (now (first .entry)) (now (second .entry)) (now (work .entry)) (length (now (result .entry)))) × (now (result .exit) ≡ subsumesBuffer (now (first .entry)) (now (second .entry)) (length (now (work .entry))) (now (result .entry)))) ⌝ }
+    ensures { λ r. ⌜ SubsumesGives (now (first .entry)) (now (second .entry)) (now (work .entry)) (now (result .entry)) r (now (work .exit)) (now (result .exit)) ⌝ }
 {
     match subsumes(first, second, Limits::bench(), work, result) {
         Verdict::Yes(n) => value_word(YES, n as u64),
@@ -72,7 +71,7 @@ pub extern "C" fn zuvaropy_lcs(
     work: &mut [u8],
     result: &mut [u8],
 ) -> u64
-    ensures { λ r. ⌜ (r ≡ lcsWord (now (first .entry)) (now (second .entry)) (length (now (work .entry))) (length (now (result .entry)))) × ((now (work .exit) ≡ lcsSpace (now (first .entry)) (now (second .entry)) (now (work .entry)) (length (now (result .entry)))) × (now (result .exit) ≡ lcsBuffer (now (first .entry)) (now (second .entry)) (length (now (work .entry))) (now (result .entry)))) ⌝ }
+    ensures { λ r. ⌜ LcsGives (now (first .entry)) (now (second .entry)) (now (work .entry)) (now (result .entry)) r (now (work .exit)) (now (result .exit)) ⌝ }
 {
     match lcs(first, second, Limits::bench(), work, result) {
         Common::Length(n) => value_word(YES, n as u64),
@@ -88,7 +87,7 @@ pub extern "C" fn zuvaropy_verify(
     evidence: &[u8],
     work: &mut [u8],
 ) -> u64
-    ensures { λ r. ⌜ (r ≡ verifyWord (now (first .entry)) (now (second .entry)) (now (evidence .entry)) (length (now (work .entry)))) × (now (work .exit) ≡ verifySpace (now (first .entry)) (now (second .entry)) (now (work .entry))) ⌝ }
+    ensures { λ r. ⌜ VerifyGives (now (first .entry)) (now (second .entry)) (now (evidence .entry)) (now (work .entry)) r (now (work .exit)) ⌝ }
 {
     match verify(first, second, evidence, Limits::bench(), work) {
         Verified::MapTaken => value_word(YES, 0),
@@ -100,7 +99,7 @@ pub extern "C" fn zuvaropy_verify(
 // The most specific cards of a book that subsume a case: the nearest ones. The work space is zero then.
 #[no_mangle]
 pub extern "C" fn zuvaropy_most_specific(case: &[u8], book: &[u8], work: &mut [u8]) -> u64
-    ensures { λ r. ⌜ (r ≡ mostSpecificWord (now (case .entry)) (now (book .entry)) (length (now (work .entry)))) × (now (work .exit) ≡ mostSpecificSpace (now (case .entry)) (now (book .entry)) (now (work .entry))) ⌝ }
+    ensures { λ r. ⌜ MostSpecificGives (now (case .entry)) (now (book .entry)) (now (work .entry)) r (now (work .exit)) ⌝ }
 {
     match most_specific(case, book, Limits::bench(), work) {
         Selected::Cards(word) => value_word(YES, word as u64),

@@ -2,8 +2,8 @@
 use picture::answer::Input;
 use picture::answer::Refusal;
 ghost use mathlib.Core.Path.{_≡_};
-ghost use Prim.Native.Nat.{ℕ, _+_, _*_, _^_, _≤_, _<_};
-ghost use Rattle.interface.specs.Word.{outcomeNo, valueWord, refusalWord, inputCode, cardOf};
+ghost use Prim.Native.Nat.{_<_, _≤_};
+ghost use Rattle.interface.specs.Word.{cardOf, inputCode, outcomeNo, refusalWord, valueRange, valueWord};
 
 // The outcomes of an answer: a value, verdict yes or a map taken; verdict no or a refutation taken.
 pub const YES: u64 = 1;
@@ -20,7 +20,7 @@ const INPUT: u64 = 0x0000_0100_0000_0000;
 const CARD: u64 = 0x0000_0001_0000_0000;
 
 pub fn value_word(outcome: u64, value: u64) -> u64
-    requires { ⌜ (outcome ≤ outcomeNo) × (value < 2 ^ 32) ⌝ }
+    requires { ⌜ (outcome ≤ outcomeNo) × (value < valueRange) ⌝ }
     ensures { λ r. ⌜ r ≡ valueWord outcome value ⌝ }
 {
     outcome * OUTCOME + value

@@ -42,10 +42,11 @@ returns : tie.Need-returns
 unfolding normalizeWord normalizeBuffer
 returns c =
     let limits = c .before .before .before .before .before .before .before .before .bench in
-    let normalize = c .before .before .before .before .before .before .normalize in (
-      rw (sym (limits .ensures .0), sym (normalize .ensures .0), c .before .before .n .given .1) (c .value-word .ensures),
-      rw (sym (limits .ensures .0)) (normalize .ensures .1),
-    )
+    let normalize = c .before .before .before .before .before .before .normalize in
+    record {
+      word-is = rw (sym (limits .ensures .0), sym (normalize .ensures .0), c .before .before .n .given .1) (c .value-word .ensures);
+      buffer-is = rw (sym (limits .ensures .0)) (normalize .ensures .1);
+    }
 
 same-length-2 : tie.Need-same-length-2
 same-length-2 c = search needs
@@ -54,10 +55,11 @@ returns-2 : tie.Need-returns-2
 unfolding normalizeWord normalizeBuffer
 returns-2 c =
     let limits = c .before .before .before .before .before .before .before .before .bench in
-    let normalize = c .before .before .before .before .before .before .normalize in (
-      rw (sym (limits .ensures .0), sym (normalize .ensures .0), c .before .before .refusal .given .1) (c .refusal-word .ensures),
-      rw (sym (limits .ensures .0)) (normalize .ensures .1),
-    )
+    let normalize = c .before .before .before .before .before .before .normalize in
+    record {
+      word-is = rw (sym (limits .ensures .0), sym (normalize .ensures .0), c .before .before .refusal .given .1) (c .refusal-word .ensures);
+      buffer-is = rw (sym (limits .ensures .0)) (normalize .ensures .1);
+    }
 
 pub zuvaropy-normalize-spec : {M : Type 1} → statement M
 zuvaropy-normalize-spec =

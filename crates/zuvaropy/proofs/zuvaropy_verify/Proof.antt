@@ -36,10 +36,11 @@ returns : tie.Need-returns
 unfolding verifyWord verifySpace
 returns c =
     let limits = c .before .before .before .before .before .before .before .bench in
-    let verify = c .before .before .before .before .before .verify in (
-      rw (sym (limits .ensures .0), sym (verify .ensures .0), c .before .enum-told .given .1) (c .value-word .ensures),
-      rw (sym (limits .ensures .0)) (verify .ensures .1),
-    )
+    let verify = c .before .before .before .before .before .verify in
+    record {
+      word-is = rw (sym (limits .ensures .0), sym (verify .ensures .0), c .before .enum-told .given .1) (c .value-word .ensures);
+      buffer-is = rw (sym (limits .ensures .0)) (verify .ensures .1);
+    }
 
 same-length-2 : tie.Need-same-length-2
 same-length-2 c = search needs
@@ -48,10 +49,11 @@ returns-2 : tie.Need-returns-2
 unfolding verifyWord verifySpace
 returns-2 c =
     let limits = c .before .before .before .before .before .before .before .bench in
-    let verify = c .before .before .before .before .before .verify in (
-      rw (sym (limits .ensures .0), sym (verify .ensures .0), c .before .enum-told2 .given .1) (c .value-word2 .ensures),
-      rw (sym (limits .ensures .0)) (verify .ensures .1),
-    )
+    let verify = c .before .before .before .before .before .verify in
+    record {
+      word-is = rw (sym (limits .ensures .0), sym (verify .ensures .0), c .before .enum-told2 .given .1) (c .value-word2 .ensures);
+      buffer-is = rw (sym (limits .ensures .0)) (verify .ensures .1);
+    }
 
 same-length-3 : tie.Need-same-length-3
 same-length-3 c = search needs
@@ -60,10 +62,11 @@ returns-3 : tie.Need-returns-3
 unfolding verifyWord verifySpace
 returns-3 c =
     let limits = c .before .before .before .before .before .before .before .before .bench in
-    let verify = c .before .before .before .before .before .before .verify in (
-      rw (sym (limits .ensures .0), sym (verify .ensures .0), c .before .before .refusal .given .1) (c .refusal-word .ensures),
-      rw (sym (limits .ensures .0)) (verify .ensures .1),
-    )
+    let verify = c .before .before .before .before .before .before .verify in
+    record {
+      word-is = rw (sym (limits .ensures .0), sym (verify .ensures .0), c .before .before .refusal .given .1) (c .refusal-word .ensures);
+      buffer-is = rw (sym (limits .ensures .0)) (verify .ensures .1);
+    }
 
 pub zuvaropy-verify-spec : {M : Type 1} → statement M
 zuvaropy-verify-spec =
