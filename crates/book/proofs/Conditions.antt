@@ -6,7 +6,7 @@
 -- the paper says, and these are then what was written: proofs/WrittenBooks, `form-exactly` and `book-written`). `Covers` is 003, Definition 1, with Table 1's
 -- extensions, over finite interpretations (meaning, specs/Covering). `MostSpecific` is the definition of a nearest card, with `Covers` (specs/Selection).
 -- `AcceptableBook` says that 2 to 13, 24 and 14 are answered yes of the case, the book and every card (specs/Call); `FirstNo` which question is the first that
--- is not (proofs/Orders).
+-- is not (specs/Refusals).
 --
 --   SaysCards, SaysRefusal    a word is given; the call refuses
 --   MostSpecificCondition     what the call gives for a case and a book, when it refuses, and what it leaves in the work space
@@ -30,12 +30,12 @@ use Rattle.table.specs.declared.layout.Limits.{Limits}
 use Rattle.workspace.specs.Prepare.{workSize}
 use Rattle.book.specs.Call.{AcceptableBook, mostSpecificAnswer, mostSpecificWork}
 use Rattle.book.specs.Form.{cardCount, cardTag, mostCards}
+use Rattle.book.specs.Refusals.{FirstNo, Named}
 use Rattle.book.specs.Selection.{MostSpecific, mostSpecificCards}
 use Rattle.book.specs.declared.answer.Selected.{Selected}
 use Rattle.book.specs.declared.answer.Selected.the-variants.{Cards, Refused}
 use Rattle.book.proofs.Answers.{answered-acceptable, answered-exactly, answered-or-refused, refused-exactly, refused-work, work-clear, work-kept, work-past}
-use Rattle.book.proofs.Orders.{FirstNo}
-use Rattle.book.proofs.Refusals.{Named, book-refusal}
+use Rattle.book.proofs.Refusals.{book-refusal}
 use Rattle.book.proofs.Selections.{most-specific-exactly, past-last, word-below}
 use Rattle.book.proofs.Questions.{apart}
 

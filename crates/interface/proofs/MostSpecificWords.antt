@@ -25,8 +25,8 @@ use native.Mathlib.Omega.{arith}
 use Rattle.book.proofs.Answers.{Answered, acceptable-answer, answered-acceptable, answered-work, refused-exactly, refused-work, short-answer, work-clear, work-kept, work-past}
 use Rattle.book.proofs.Conditions.{most-specific-condition}
 use Rattle.book.proofs.Forms.{count-most}
-use Rattle.book.proofs.Orders.{FirstNo}
-use Rattle.book.proofs.Refusals.{Named, book-refusal}
+use Rattle.book.proofs.Refusals.{book-refusal}
+use Rattle.book.specs.Refusals.{FirstNo, Named}
 use Rattle.book.specs.Call.{AcceptableBook, mostSpecificAnswer, mostSpecificWork}
 use Rattle.book.specs.Form.{cardCount}
 use Rattle.book.specs.Selection.{MostSpecific, mostSpecificCards}

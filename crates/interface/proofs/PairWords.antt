@@ -18,7 +18,7 @@ use Rattle.picture.specs.declared.answer.Input.the-variants.{Buffer, First, Sec
 use Rattle.picture.specs.declared.answer.Refusal.{Refusal}
 use Rattle.picture.specs.declared.read.Reading.the-variants as reading
 use Rattle.meaning.specs.NormalTable.{mergedCount}
-use Rattle.workspace.proofs.PairRefusals.{Concerns, Known}
+use Rattle.workspace.specs.Refusals.{Concerns, Known}
 use Rattle.workspace.proofs.Preparations.{prepare-first, prepare-many-first, prepare-many-second, prepare-second}
 use Rattle.workspace.specs.Prepare.{prepareAnswer}
 use Rattle.workspace.specs.declared.prepare.Prepared.the-variants as prepared
