@@ -25,12 +25,13 @@ use Rattle.table.specs.Put.{put, zeros}
 use Rattle.table.specs.declared.layout.Limits.{Limits}
 use Rattle.workspace.specs.Prepare.{workSize}
 use Rattle.book.specs.Call.{AcceptableBook, bookAsked, mostSpecificAnswer, mostSpecificWork, onAsked, onSelected}
+use Rattle.book.specs.Refusals.{FirstNo}
 use Rattle.book.specs.Selection.{mostSpecificCards}
 use Rattle.book.specs.declared.answer.Asked.{Asked}
 use Rattle.book.specs.declared.answer.Asked.the-variants.{No, Yes}
 use Rattle.book.specs.declared.answer.Selected.{Selected}
 use Rattle.book.specs.declared.answer.Selected.the-variants.{Cards, Refused}
-use Rattle.book.proofs.Orders.{FirstNo, asked-no, asked-yes}
+use Rattle.book.proofs.Orders.{asked-no, asked-yes}
 use Rattle.book.proofs.Questions.{apart, by-asked, by-refused}
 
 -- ---- the answer

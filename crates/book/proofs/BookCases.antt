@@ -24,7 +24,7 @@ use Rattle.meaning.proofs.CasePictures.{allOf, allRow, empty, end, fourRows, im
 use Rattle.meaning.specs.NormalTable.{mergedCount, mergedTree, normalTreeOf}
 use Rattle.book.specs.Call.{askedFrom, bookAsked, mergedAsked, mostSpecificAnswer, mostSpecificWork, readAsked}
 use Rattle.book.specs.Form.{bookForm, card, cardAt, cardCount, cardsFrom, fieldPlace}
-use Rattle.book.specs.Selection.{cardWord, mostSpecific, mostSpecificCards, passedOver}
+use Rattle.book.specs.Selection.{cardWord, mostSpecific, mostSpecificCards, subsumesAnother}
 use Rattle.book.specs.declared.answer.Selected.{Selected}
 use Rattle.book.specs.declared.answer.Selected.the-variants.{Cards, Refused}
 
@@ -96,7 +96,7 @@ cases =
     ∷ told (names 104) (empty ∷ names 8 ∷ names 40 ∷ []) (Cards 4)
     ∷ told (names 104) (names 40 ∷ names 8 ∷ empty ∷ []) (Cards 1)
     ∷ told (names 104) (names 8 ∷ names 40 ∷ empty ∷ []) (Cards 2)
-    -- only cards that cover the case pass one over
+    -- only cards that cover the case make one redundant
     ∷ told (names 8) (names 8 ∷ names 40 ∷ empty ∷ []) (Cards 1)
     -- a diamond, and one without its lowest card
     ∷ told (names 104) (empty ∷ names 8 ∷ names 32 ∷ names 40 ∷ []) (Cards 8)
@@ -179,6 +179,6 @@ cases =
 pub all-pass : runAll cases ≡ cases
 unfolding be endsAt put zeros some depthIn depth tagOk lengthFor kindOk roleOk parentOk valueField rowField endField fieldAt
     scanFrom readingOf answerOf rowCount viewOf mergedTree mergedCount normalTreeOf covers
-    fieldPlace card cardAt cardsFrom cardCount bookForm passedOver mostSpecific cardWord mostSpecificCards
+    fieldPlace card cardAt cardsFrom cardCount bookForm subsumesAnother mostSpecific cardWord mostSpecificCards
     askedFrom readAsked mergedAsked bookAsked mostSpecificAnswer mostSpecificWork
 all-pass = refl

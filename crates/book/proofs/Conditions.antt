@@ -6,12 +6,12 @@
 -- the paper says, and these are then what was written: proofs/WrittenBooks, `form-exactly` and `book-written`). `Covers` is 003, Definition 1, with Table 1's
 -- extensions, over finite interpretations (meaning, specs/Covering). `MostSpecific` is the definition of a nearest card, with `Covers` (specs/Selection).
 -- `AcceptableBook` says that 2 to 13, 24 and 14 are answered yes of the case, the book and every card (specs/Call); `FirstNo` which question is the first that
--- is not (proofs/Orders).
+-- is not (specs/Refusals).
 --
---   SaysCards, SaysRefusal   a word is given; the call refuses
---   NearestCards             what the call gives for a case and a book, when it refuses, and what it leaves in the work space
---   nearest-cards            so it is, of every case and book
---   paper-limits             paper 01's limits are such that the code can hold them, and have its lengths
+--   SaysCards, SaysRefusal    a word is given; the call refuses
+--   MostSpecificCondition     what the call gives for a case and a book, when it refuses, and what it leaves in the work space
+--   most-specific-condition   so it is, of every case and book
+--   paper-limits              paper 01's limits are such that the code can hold them, and have its lengths
 use Prim.Native.Nat.{_<_, _^_, _≤_, ℕ}
 use borrow.Author.Tests.{leb-false, leb-true}
 use lib.Dec.{leb}
@@ -30,12 +30,12 @@ use Rattle.table.specs.declared.layout.Limits.{Limits}
 use Rattle.workspace.specs.Prepare.{workSize}
 use Rattle.book.specs.Call.{AcceptableBook, mostSpecificAnswer, mostSpecificWork}
 use Rattle.book.specs.Form.{cardCount, cardTag, mostCards}
+use Rattle.book.specs.Refusals.{FirstNo, Named}
 use Rattle.book.specs.Selection.{MostSpecific, mostSpecificCards}
 use Rattle.book.specs.declared.answer.Selected.{Selected}
 use Rattle.book.specs.declared.answer.Selected.the-variants.{Cards, Refused}
 use Rattle.book.proofs.Answers.{answered-acceptable, answered-exactly, answered-or-refused, refused-exactly, refused-work, work-clear, work-kept, work-past}
-use Rattle.book.proofs.Orders.{FirstNo}
-use Rattle.book.proofs.Refusals.{Named, book-refusal}
+use Rattle.book.proofs.Refusals.{book-refusal}
 use Rattle.book.proofs.Selections.{most-specific-exactly, past-last, word-below}
 use Rattle.book.proofs.Questions.{apart}
 
@@ -45,7 +45,7 @@ SaysCards answer = (word : ℕ) × (answer ≡ Cards word)
 abbrev pub SaysRefusal : Selected → Type 0
 SaysRefusal answer = (r : Refusal) × (answer ≡ Refused r)
 
-pub record NearestCards (limits : Limits) (case book : List ℕ) : Type 0 where
+pub record MostSpecificCondition (limits : Limits) (case book : List ℕ) : Type 0 where
   -- "The answer is a 32-bit word, bit n for card n": whenever a word is given, bit n is set exactly if card n is nearest: "it covers the case and covers no
   -- other card of the book that covers the case"
   pub given : (room word : ℕ) → mostSpecificAnswer limits case book room ≡ Cards word →
@@ -91,8 +91,8 @@ module _ (limits : Limits) (case book : List ℕ) (room : ℕ) where
             (λ refused. refused) (answered-or-refused limits case book room),
       )
 
-pub nearest-cards : (limits : Limits) (case book : List ℕ) → NearestCards limits case book
-nearest-cards limits case book =
+pub most-specific-condition : (limits : Limits) (case book : List ℕ) → MostSpecificCondition limits case book
+most-specific-condition limits case book =
     let by-word : (P : ℕ → Type 0) (room word : ℕ) → mostSpecificAnswer limits case book room ≡ Cards word →
     P (mostSpecificCards limits case book) → P word =
     λ P room word h p. subst P (sym (answered-acceptable limits case book room word h .word-is)) p in

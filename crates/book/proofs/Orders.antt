@@ -1,46 +1,23 @@
 -- The questions about a case and a book, in their order: all are answered yes exactly of an acceptable book, and else the first no is the refusal.
 --   asked-yes   all of them are answered yes
---   FirstNo     a question that is answered no, those before it being answered yes, and what it names
---   asked-no    the refusal is that, exactly
-use Prim.Native.Nat.{_<_, _≤_, ℕ}
-use mathlib.Core.Bool.{false, true}
+--   asked-no    else the refusal is the first no (`FirstNo`), exactly
+use Prim.Native.Nat.{_<_, ℕ}
+use mathlib.Core.Bool.{true}
 use mathlib.Core.List.{List}
 use mathlib.Core.Logic.{_↔_, _⊎_, inl, inr}
 use mathlib.Core.Path.{_≡_, refl, subst, sym}
 use native.Mathlib.Omega.{arith}
-use Rattle.meaning.specs.NormalTable.{mergedCount}
 use Rattle.normal.specs.Call.{tooMany}
-use Rattle.picture.specs.Read.{readingOf}
 use Rattle.picture.specs.View.{Readable}
 use Rattle.picture.specs.declared.answer.Input.the-variants.{Card, First}
 use Rattle.picture.specs.declared.answer.Refusal.{Refusal}
-use Rattle.picture.specs.declared.read.Reading.the-variants as reading
 use Rattle.table.specs.declared.layout.Limits.{Limits}
 use Rattle.book.specs.Call.{AcceptableBook, andThen, askedFrom, bookAsked, cardMerged, cardRead, caseMerged, formAsked, noBook, readAsked}
 use Rattle.book.specs.Form.{bookForm, card, cardCount}
+use Rattle.book.specs.Refusals.{FirstNo, card-many, card-unreadable, case-many, case-unreadable, no-form}
 use Rattle.book.specs.declared.answer.Asked.{Asked}
 use Rattle.book.specs.declared.answer.Asked.the-variants.{No, Yes}
 use Rattle.book.proofs.Questions.{and-no, and-yes, form-no, form-yes, from-no, from-yes, merged-no, merged-yes, no-and, no-from, read-no, read-yes, yes-and, yes-from}
-
--- ---- the first no, and what it names
-
-pub data FirstNo (limits : Limits) (case book : List ℕ) : Refusal → Type 0 where
-  -- 2 to 13 of the case
-  case-unreadable : (q : ℕ) → readingOf limits case ≡ reading.Failed q → FirstNo limits case book (record { number = q; input = First })
-  -- 24
-  no-form : Readable limits case → bookForm book ≡ false → FirstNo limits case book noBook
-  -- 2 to 13 of card k
-  card-unreadable : Readable limits case → bookForm book ≡ true →
-      (k q : ℕ) → k < cardCount book → ((j : ℕ) → j < k → Readable limits (card book j)) →
-      readingOf limits (card book k) ≡ reading.Failed q → FirstNo limits case book (record { number = q; input = Card k })
-  -- 14 of the case
-  case-many : Readable limits case → bookForm book ≡ true → ((j : ℕ) → j < cardCount book → Readable limits (card book j)) →
-      limits .rows < mergedCount limits case → FirstNo limits case book (tooMany First)
-  -- 14 of card k
-  card-many : Readable limits case → bookForm book ≡ true → ((j : ℕ) → j < cardCount book → Readable limits (card book j)) →
-      mergedCount limits case ≤ limits .rows →
-      (k : ℕ) → k < cardCount book → ((j : ℕ) → j < k → mergedCount limits (card book j) ≤ limits .rows) →
-      limits .rows < mergedCount limits (card book k) → FirstNo limits case book (tooMany (Card k))
 
 module _ (limits : Limits) (case book : List ℕ) where
   abbrev allRead : Asked

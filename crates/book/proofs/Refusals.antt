@@ -1,6 +1,5 @@
 -- Which refusals the sixth call gives: 1 names the buffer, 2 to 14 the case, which is the first input, or a card of the book, 24 the book; there is no other.
---   Named          a refusal is one of these
---   first-named    so is every no of the questions
+--   first-named    every no of the questions is one of these (`Named`)
 --   book-refusal   and every refusal of the call
 use Prim.Native.Nat.{_<_, _≤_, ℕ}
 use mathlib.Core.List.{List}
@@ -9,23 +8,14 @@ use mathlib.Core.Path.{_≡_, refl, sym, subst}
 use native.Mathlib.Omega.{arith}
 use Rattle.normal.specs.Call.{shortBuffer}
 use Rattle.picture.proofs.Readables.{reading-number}
-use Rattle.picture.specs.declared.answer.Input.the-variants.{Book, Buffer, Card, First}
 use Rattle.picture.specs.declared.answer.Refusal.{Refusal}
 use Rattle.table.specs.declared.layout.Limits.{Limits}
-use Rattle.workspace.proofs.PairRefusals.{Concerns}
 use Rattle.workspace.specs.Prepare.{workSize}
 use Rattle.book.specs.Call.{mostSpecificAnswer}
-use Rattle.book.specs.Form.{card, cardCount}
+use Rattle.book.specs.Form.{card}
+use Rattle.book.specs.Refusals.{FirstNo, Named, card-many, card-unreadable, case-many, case-unreadable, no-form}
 use Rattle.book.specs.declared.answer.Selected.the-variants.{Refused}
 use Rattle.book.proofs.Answers.{refused-answer}
-use Rattle.book.proofs.Orders.{FirstNo, card-many, card-unreadable, case-many, case-unreadable, no-form}
-
-abbrev pub Named : List ℕ → Refusal → Type 0
-Named book r =
-    Concerns r Buffer 1 1
-    ⊎ (Concerns r First 2 14
-    ⊎ (Concerns r Book 24 24
-    ⊎ ((k : ℕ) × (k < cardCount book) × Concerns r (Card k) 2 14)))
 
 module _ (limits : Limits) (case book : List ℕ) where
   pub first-named : (r : Refusal) → FirstNo limits case book r → Named book r

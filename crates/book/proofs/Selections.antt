@@ -1,14 +1,14 @@
 -- Which cards are selected: the bits of the answer are the most specific cards, with covering by meaning.
---   passed-over, over-passed   a card is passed over exactly if it covers another card that passes the test
---   has-selected               the bits of the answer, by the tests
---   past-last                  places past the last card are 0
---   word-below                 the answer is a 32-bit word
---   no-cards                   a book of no cards has none to select
---   most-specific-exactly      bit n is set exactly if card n is most specific
---   most-specific-not          and not set exactly if it is not
---   most-specific-decidable    so it is decidable
---   equivalents-hidden         two cards that cover the case and each other are both not
---   alone                      the only card that covers the case is most specific
+--   subsumes-another, another-subsumed   the test says that card k covers another card that passes the test
+--   has-selected                         the bits of the answer, by the tests
+--   past-last                            places past the last card are 0
+--   word-below                           the answer is a 32-bit word
+--   no-cards                             a book of no cards has none to select
+--   most-specific-exactly                bit n is set exactly if card n is most specific
+--   most-specific-not                    and not set exactly if it is not
+--   most-specific-decidable              so it is decidable
+--   equivalents-hidden                   two cards that cover the case and each other are both not
+--   alone                                the only card that covers the case is most specific
 use Prim.Native.Nat.{_<_, _^_, _≤_, ℕ}
 use borrow.Author.Tests.{eqb-false, le-ltb, lt-ltb, ltb-true, ne-eqb, not-true}
 use lib.Dec.{eqb, ltb}
@@ -28,28 +28,28 @@ use Rattle.table.specs.NameSet.{has}
 use Rattle.table.specs.declared.layout.Limits.{Limits}
 use Rattle.book.specs.Call.{AcceptableBook}
 use Rattle.book.specs.Form.{card, cardCount, mostCards}
-use Rattle.book.specs.Selection.{MostSpecific, cardCovers, caseCovered, mostSpecific, mostSpecificCards, passedOver}
+use Rattle.book.specs.Selection.{MostSpecific, cardCovers, caseCovered, mostSpecific, mostSpecificCards, subsumesAnother}
 use Rattle.book.proofs.CardWords.{cardWord-below, cardWord-zero, has-cardWord}
 use Rattle.book.proofs.Forms.{count-most}
 
 module _ (limits : Limits) (book : List ℕ) (test : ℕ → Bool) (k : ℕ) where
-  -- card j is one that makes card k be passed over
-  abbrev passes : ℕ → Bool
-  passes j = not (eqb j k) && (test j && cardCovers limits book k j)
+  -- card j is another one that card k covers
+  abbrev isAnother : ℕ → Bool
+  isAnother j = not (eqb j k) && (test j && cardCovers limits book k j)
 
-  pub passed-over : passedOver limits book test k ≡ true →
+  pub subsumes-another : subsumesAnother limits book test k ≡ true →
       (j : ℕ) × (j < cardCount book) × (j ≡ k → ⊥) × (test j ≡ true) × (cardCovers limits book k j ≡ true)
-  unfolding passedOver
-  passed-over h =
-      let (j, low, high, e) = some-at passes (cardCount book) 0 h in
+  unfolding subsumesAnother
+  subsumes-another h =
+      let (j, low, high, e) = some-at isAnother (cardCount book) 0 h in
       let (other, rest) = both (not (eqb j k)) (test j && cardCovers limits book k j) e in
       let (passed, covered) = both (test j) (cardCovers limits book k j) rest in
       (j, omega arith, eqb-false j k (not-true (eqb j k) other), passed, covered)
 
-  pub over-passed : (j : ℕ) → j < cardCount book → (j ≡ k → ⊥) → test j ≡ true → cardCovers limits book k j ≡ true →
-      passedOver limits book test k ≡ true
-  unfolding passedOver
-  over-passed j l other passed covered = at-some passes (cardCount book) 0 j (omega arith) (omega arith) (rw (ne-eqb j k other, passed, covered))
+  pub another-subsumed : (j : ℕ) → j < cardCount book → (j ≡ k → ⊥) → test j ≡ true → cardCovers limits book k j ≡ true →
+      subsumesAnother limits book test k ≡ true
+  unfolding subsumesAnother
+  another-subsumed j l other passed covered = at-some isAnother (cardCount book) 0 j (omega arith) (omega arith) (rw (ne-eqb j k other, passed, covered))
 
 module _ (limits : Limits) (case book : List ℕ) where
   pub has-selected : (n : ℕ) → has (mostSpecificCards limits case book) n ≡ (ltb n (cardCount book) && mostSpecific limits case book n)
@@ -78,31 +78,31 @@ module _ (limits : Limits) (case book : List ℕ) where
 
     -- the tests that set a bit say that the card is most specific
     tests-mean : (n : ℕ) → n < cardCount book → caseCovered limits case book n ≡ true →
-        passedOver limits book (caseCovered limits case book) n ≡ false → MostSpecific limits case book n
+        subsumesAnother limits book (caseCovered limits case book) n ≡ false → MostSpecific limits case book n
     tests-mean n l covered kept = record {
       in-book = l;
       covers-case = case-exactly n l .1 covered;
       covers-no-other = λ m k other c d.
-          false≢true (sym kept ∙ over-passed limits book (caseCovered limits case book) n m k other (case-exactly m k .0 c) (card-exactly n m l k .0 d));
+          false≢true (sym kept ∙ another-subsumed limits book (caseCovered limits case book) n m k other (case-exactly m k .0 c) (card-exactly n m l k .0 d));
     }
 
-    meant-kept : (n : ℕ) → MostSpecific limits case book n → passedOver limits book (caseCovered limits case book) n ≡ true → ⊥
+    meant-kept : (n : ℕ) → MostSpecific limits case book n → subsumesAnother limits book (caseCovered limits case book) n ≡ true → ⊥
     meant-kept n s h =
-        let (m, k, other, covered, over) = passed-over limits book (caseCovered limits case book) n h in
+        let (m, k, other, covered, over) = subsumes-another limits book (caseCovered limits case book) n h in
         s .covers-no-other m k other (case-exactly m k .1 covered) (card-exactly n m (s .in-book) k .1 over)
 
     pub most-specific-exactly : (n : ℕ) → (has (mostSpecificCards limits case book) n ≡ true) ↔ MostSpecific limits case book n
     unfolding mostSpecific
     most-specific-exactly n =
         let covered = caseCovered limits case book n in
-        let over = passedOver limits book (caseCovered limits case book) n in (
+        let another = subsumesAnother limits book (caseCovered limits case book) n in (
           λ h.
-              let (l, tests) = both (ltb n (cardCount book)) (covered && not over) (sym (has-selected n) ∙ h) in
-              let (c, kept) = both covered (not over) tests in
-              tests-mean n (ltb-true n (cardCount book) l) c (not-true over kept),
+              let (l, tests) = both (ltb n (cardCount book)) (covered && not another) (sym (has-selected n) ∙ h) in
+              let (c, kept) = both covered (not another) tests in
+              tests-mean n (ltb-true n (cardCount book) l) c (not-true another kept),
           λ s.
               has-selected n
-              ∙ rw (lt-ltb n (cardCount book) (s .in-book), case-exactly n (s .in-book) .0 (s .covers-case), refuted over (meant-kept n s)),
+              ∙ rw (lt-ltb n (cardCount book) (s .in-book), case-exactly n (s .in-book) .0 (s .covers-case), refuted another (meant-kept n s)),
         )
 
     pub most-specific-not : (n : ℕ) → (has (mostSpecificCards limits case book) n ≡ false) ↔ (MostSpecific limits case book n → ⊥)

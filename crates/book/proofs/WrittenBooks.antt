@@ -1,8 +1,5 @@
 -- A book as the paper says it is written, card after card and then the end field, is read as these cards; and every book of bytes with the form is so written.
---   bookBytes      the bytes of a book with given cards
---   Short          each card's length is a number of two bytes
 --   book-written   it has the form, with so many cards, and these
---   cardsOf        the cards of a book
 --   written-book   a book of bytes with the form has the bytes of its cards
 --   form-exactly   so 24 is answered yes exactly of what is written from at most 32 cards
 use Prim.Native.Nat.{_%_, _*_, _+_, _/_, _<_, _≤_, suc, zero, ℕ}
@@ -21,16 +18,8 @@ use Rattle.table.proofs.Rows.{ends-parts, parts-ends}
 use Rattle.table.specs.Fields.{endBytes, endsAt}
 use Rattle.table.specs.Layout.{headSize, lengthAt, numberSize}
 use Rattle.table.specs.Number.{Bytes, be, beBytes}
-use Rattle.book.specs.Form.{bookForm, card, cardAt, cardCount, cardTag, fieldPlace, lengthSaid, mostCards, nextPlace}
+use Rattle.book.specs.Form.{Short, bookBytes, bookForm, card, cardAt, cardCount, cardTag, cardsAfter, cardsOf, fieldPlace, lengthSaid, mostCards, mostLength, nextPlace}
 use Rattle.book.proofs.Forms.{BookOf, after-card, card-tag, card-whole, cards-before, count-form, count-most, form-count, length-card}
-
-abbrev pub bookBytes : List (List ℕ) → List ℕ
-bookBytes [] = endBytes
-bookBytes (c ∷ cards) = cardTag ∷ (beBytes numberSize (length c) ++ (c ++ bookBytes cards))
-
--- the largest number of two bytes
-abbrev pub mostLength : ℕ
-mostLength = 65535
 
 -- ---- one field, after the bytes p and before the bytes rest
 
@@ -85,9 +74,6 @@ end-there p =
     (be-append-right p endBytes 1 2)
 
 -- ---- the fields from field k on
-
-abbrev pub Short : List (List ℕ) → Type 0
-Short cards = (j : ℕ) → j < length cards → length (getD cards j []) ≤ mostLength
 
 shift : (k j : ℕ) → k + suc j ≡ k + 1 + j
 shift k j = omega arith
@@ -160,13 +146,6 @@ module _ (cards : List (List ℕ)) (few : length cards ≤ mostCards) (short : S
 -- ---- and back
 
 -- the cards from card k on, so many
-abbrev cardsAfter : List ℕ → ℕ → ℕ → List (List ℕ)
-cardsAfter book zero k = []
-cardsAfter book (suc more) k = card book k ∷ cardsAfter book more (k + 1)
-
-abbrev pub cardsOf : List ℕ → List (List ℕ)
-cardsOf book = cardsAfter book (cardCount book) 0
-
 number-bytes : (a b : ℕ) → a < 256 → b < 256 → beBytes numberSize (a * 256 + b) ≡ a ∷ b ∷ []
 unfolding beBytes
 number-bytes a b h l =

@@ -3,7 +3,7 @@
 --   MostSpecific      card n is nearest, with covering by meaning (meaning, specs/Covering: `Covers`)
 --   cardCovers        card k covers card j, by the test that decides it (`covers`)
 --   caseCovered       card k covers the case
---   passedOver        card k covers another card of those that pass a test
+--   subsumesAnother   card k covers another card of those that pass a test
 --   mostSpecific      card k is nearest, by these tests (proofs/Selections: `most-specific-exactly`)
 --   cardWord          the cards below n that pass a test, card k as the bit of weight 2^k
 --   mostSpecificCards the answer
@@ -29,11 +29,11 @@ cardCovers limits book k j = covers limits (card book k) (card book j)
 abbrev pub caseCovered : Limits → List ℕ → List ℕ → ℕ → Bool
 caseCovered limits case book k = covers limits (card book k) case
 
-unfoldable pub passedOver : Limits → List ℕ → (ℕ → Bool) → ℕ → Bool
-passedOver limits book test k = some (λ j. not (eqb j k) && (test j && cardCovers limits book k j)) (cardCount book) 0
+unfoldable pub subsumesAnother : Limits → List ℕ → (ℕ → Bool) → ℕ → Bool
+subsumesAnother limits book test k = some (λ j. not (eqb j k) && (test j && cardCovers limits book k j)) (cardCount book) 0
 
 unfoldable pub mostSpecific : Limits → List ℕ → List ℕ → ℕ → Bool
-mostSpecific limits case book k = caseCovered limits case book k && not (passedOver limits book (caseCovered limits case book) k)
+mostSpecific limits case book k = caseCovered limits case book k && not (subsumesAnother limits book (caseCovered limits case book) k)
 
 unfoldable pub cardWord : (ℕ → Bool) → ℕ → ℕ
 cardWord test zero = 0

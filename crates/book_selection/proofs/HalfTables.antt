@@ -1,8 +1,8 @@
 -- Laws of the two tables in the work space: card m's in the lower half, card n's in the upper one.
---   with-each                              a word with two cards, one after the other
---   lower-fits, lower-checked, lower-length, lower-made   card m's table in the lower half
---   upper-long                             the upper half has room for a table
---   upper-in, upper-kept, upper-compared   with card n's table in it both tables are there, the lower one as it was, and the search says which covers which
+--   with-each                                             a word with two cards, one after the other
+--   lower-fits, lower-checked, lower-length, lower-half   card m's table in the lower half
+--   upper-long                                            the upper half has room for a table
+--   upper-in, upper-kept, upper-compared                  with card n's table in it both tables are there, the lower one as it was, and the search says which covers which
 use Prim.Native.Nat.{_+_, _-_, _<_, _≤_, ℕ}
 use borrow.Rule.Slice.PartMut.{midOf, putMid}
 use lib.Dec.{eqb}
@@ -29,7 +29,7 @@ use Rattle.workspace.specs.declared.prepare.Pair.{Pair}
 use Rattle.book.specs.Form.{card}
 use Rattle.book.specs.Selection.{cardCovers}
 use Rattle.book_tables.specs.Tables.{CardsTaken, Tabled}
-use Rattle.book_selection.specs.Comparing.{Lower, Paired}
+use Rattle.book_selection.specs.Comparing.{LowerHalf, Paired}
 use Rattle.book_form.specs.Places.{With, WithEach}
 use Rattle.book_tables.proofs.Tablings.{tabled-checked, tabled-file, tabled-fits}
 
@@ -61,8 +61,8 @@ module _ (limits : Limits) (book places : List ℕ) (count : ℕ) (taken : Cards
     pub lower-length : length (end ++ drop half work) ≡ length work
     lower-length = length-append end (drop half work) ∙ omega (arith, lower-size, length-drop half work, long, is)
 
-    pub lower-made : (n : ℕ) → n ≡ place a endSize → (links : List ℕ) → Linked (parentOf (take n (end ++ drop half work))) a maxRows links → Lower limits book m a links (end ++ drop half work)
-    lower-made n e links linked =
+    pub lower-half : (n : ℕ) → n ≡ place a endSize → (links : List ℕ) → Linked (parentOf (take n (end ++ drop half work))) a maxRows links → LowerHalf limits book m a links (end ++ drop half work)
+    lower-half n e links linked =
         let there : LinkedTable (take n (end ++ drop half work)) a links = record { checked = lower-checked n e; linked = linked } in
         record {
           long = lower-length ∙ long;
@@ -71,7 +71,7 @@ module _ (limits : Limits) (book places : List ℕ) (count : ℕ) (taken : Cards
           linked = subst (λ k. LinkedTable (take k (end ++ drop half work)) a links) e there;
         }
 
-  module _ (m a : ℕ) (l : m < count) (links work : List ℕ) (lower : Lower limits book m a links work) (n : ℕ) (l₂ : n < count) where
+  module _ (m a : ℕ) (l : m < count) (links work : List ℕ) (lower : LowerHalf limits book m a links work) (n : ℕ) (l₂ : n < count) where
     upper-rest : midOf half (length work - half) work ≡ drop half work
     upper-rest = upper-part half work
 
@@ -112,7 +112,7 @@ module _ (limits : Limits) (book places : List ℕ) (count : ℕ) (taken : Cards
           ∙ ap (λ (w : List ℕ). take (place b endSize) (drop half w)) new-is
           ∙ ap (take (place b endSize)) (drop-at (take half work) end half low-long)
 
-      pub upper-kept : Lower limits book m a links new
+      pub upper-kept : LowerHalf limits book m a links new
       upper-kept =
           record {
             long = new-long;

@@ -1,7 +1,8 @@
 -- What the comparison of the cards that cover the case has found. Nobody has to believe these.
---   Lower                  card m's table, with its links, in the lower half of the work space
+--   LowerHalf              card m's table, with its links, in the lower half of the work space
 --   Paired                 a word with each of two cards that covers the other
---   undecided              card n covers the case, and not both m and n are passed over already
+--   undecided              card n covers the case, and not both m and n are redundant already
+--   Earlier                a pair that comes before card m with card n
 --   ComparedTo, Compared   of those that cover the case each card below m is compared with each earlier one, card m with those below n
 use Prim.Native.Nat.{_<_, _≤_, ℕ}
 use lib.ListN.{length, take}
@@ -17,10 +18,10 @@ use Rattle.meaning.specs.NormalTable.{normalFile}
 use Rattle.homomorphism_search.specs.Search.{LinkedTable}
 use Rattle.workspace.specs.Prepare.{workSize}
 use Rattle.book.specs.Form.{card}
-use Rattle.book.specs.Selection.{cardCovers, passedOver}
+use Rattle.book.specs.Selection.{cardCovers, subsumesAnother}
 use Rattle.book_form.specs.Places.{WithEach}
 
-pub record Lower (limits : Limits) (book : List ℕ) (m a : ℕ) (links work : List ℕ) : Type 0 where
+pub record LowerHalf (limits : Limits) (book : List ℕ) (m a : ℕ) (links work : List ℕ) : Type 0 where
   pub long : length work ≡ workSize limits
   pub fits : place a endSize ≤ pictureSize limits
   pub is : take (place a endSize) work ≡ normalFile limits (card book m)
@@ -30,15 +31,15 @@ abbrev pub Paired : Limits → List ℕ → ℕ → ℕ → ℕ → ℕ → Type
 Paired limits book m n word r = WithEach word m (cardCovers limits book m n) n (cardCovers limits book n m) r
 
 unfoldable pub undecided : ℕ → ℕ → ℕ → ℕ → Bool
-undecided covering passed m n = has covering n && not (has passed m && has passed n)
+undecided covering redundant m n = has covering n && not (has redundant m && has redundant n)
 
 abbrev pub Earlier : ℕ → ℕ → ℕ → ℕ → Type 0
 Earlier m n i j = (i < m) ⊎ ((i ≡ m) × (j < n))
 
-pub record ComparedTo (limits : Limits) (book : List ℕ) (covering m n passed : ℕ) : Type 0 where
-  pub sound : (i : ℕ) → has passed i ≡ true → passedOver limits book (has covering) i ≡ true
-  pub later : (i j : ℕ) → has covering i ≡ true → has covering j ≡ true → j < i → Earlier m n i j → cardCovers limits book i j ≡ true → has passed i ≡ true
-  pub sooner : (i j : ℕ) → has covering i ≡ true → has covering j ≡ true → j < i → Earlier m n i j → cardCovers limits book j i ≡ true → has passed j ≡ true
+pub record ComparedTo (limits : Limits) (book : List ℕ) (covering m n redundant : ℕ) : Type 0 where
+  pub sound : (i : ℕ) → has redundant i ≡ true → subsumesAnother limits book (has covering) i ≡ true
+  pub later : (i j : ℕ) → has covering i ≡ true → has covering j ≡ true → j < i → Earlier m n i j → cardCovers limits book i j ≡ true → has redundant i ≡ true
+  pub sooner : (i j : ℕ) → has covering i ≡ true → has covering j ≡ true → j < i → Earlier m n i j → cardCovers limits book j i ≡ true → has redundant j ≡ true
 
 abbrev pub Compared : Limits → List ℕ → ℕ → ℕ → ℕ → Type 0
-Compared limits book covering m passed = ComparedTo limits book covering m 0 passed
+Compared limits book covering m redundant = ComparedTo limits book covering m 0 redundant

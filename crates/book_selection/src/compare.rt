@@ -1,13 +1,13 @@
 // Which of the covering cards cover another of them. Two tables stand in the work space at a time: card m's in the lower half, while those of the earlier cards
-// come into the upper one, and the two are compared both ways. A pair of which both are passed over already says nothing new and is left out. Tables that are
-// kept are copied, others made again; those of the first cards are kept, so card m's, which is made once for all earlier ones, is the later one of a pair.
+// come into the upper one, and the two are compared both ways. A pair of which both are redundant already says nothing new and is left out. Tables that are
+// cached are copied, others made again; those of the first cards are cached, so card m's, which is made once for all earlier ones, is the later one of a pair.
 use book_form::form::PLACES;
 use book_form::word::has_card;
 use book_form::word::with_card;
 use book_form::word::without;
+use book_tables::cache::SPANS;
+use book_tables::cache::load;
 use book_tables::covering::table_covers;
-use book_tables::kept::SPANS;
-use book_tables::kept::fetch;
 use prepare::prepare::half_size;
 use row_sets::rows::LINKS;
 use row_sets::rows::fill_links;
@@ -27,14 +27,14 @@ ghost use Rattle.homomorphism_search.specs.Search.{LinkedTable, rowMaps};
 ghost use Rattle.workspace.specs.Prepare.{workSize};
 ghost use Rattle.prepare.specs.Tables.{TablesIn, firstIn, secondIn};
 ghost use Rattle.book.specs.Form.{mostCards};
-ghost use Rattle.book.specs.Selection.{passedOver};
-ghost use Rattle.book_tables.specs.Keeping.{Stocked};
-ghost use Rattle.book_selection.specs.Comparing.{Compared, ComparedTo, Lower, Paired, undecided};
+ghost use Rattle.book.specs.Selection.{subsumesAnother};
+ghost use Rattle.book_tables.specs.Cache.{CardsCached};
+ghost use Rattle.book_selection.specs.Comparing.{Compared, ComparedTo, LowerHalf, Paired, undecided};
 ghost use Rattle.book_form.specs.Places.{With, WithEach};
 
 // The word with card k if the second table, which is card k's, covers the first.
-fn pass_over(
-    passed: u32,
+fn mark_redundant(
+    redundant: u32,
     k: usize,
     first: &[u8],
     n: usize,
@@ -45,15 +45,15 @@ fn pass_over(
     depth: usize,
 ) -> u32
     requires { ⌜ (LinkedTable (now first) n (now links)) × ((LinkedTable (now second) m (now others)) × (k < mostCards)) ⌝ }
-    ensures { λ r. ⌜ With passed k (rowMaps (now (first .entry)) (now (second .entry)) depth 0 0) r ⌝ }
+    ensures { λ r. ⌜ With redundant k (rowMaps (now (first .entry)) (now (second .entry)) depth 0 0) r ⌝ }
 {
-    if has_card(passed, k) {
-        return passed;
+    if has_card(redundant, k) {
+        return redundant;
     }
     if table_covers(first, n, links, second, m, others, depth) {
-        return with_card(passed, k);
+        return with_card(redundant, k);
     }
-    passed
+    redundant
 }
 
 // Card m, whose table stands in the lower half, and card n, whose table stands in the upper one, each with the other.
@@ -64,10 +64,10 @@ fn compare_halves(
     limits: Limits,
     m: usize,
     n: usize,
-    passed: u32,
+    redundant: u32,
 ) -> u32
     requires { ⌜ (Bounded limits) × ((TablesIn limits (now work) pair) × ((LinkedTable (firstIn pair (now work)) (pair .first) (now links)) × ((m < mostCards) × (n < mostCards)))) ⌝ }
-    ensures { λ r. ⌜ WithEach passed m (rowMaps (secondIn limits pair (now (work .entry))) (firstIn pair (now (work .entry))) (limits .depth) 0 0) n (rowMaps (firstIn pair (now (work .entry))) (secondIn limits pair (now (work .entry))) (limits .depth) 0 0) r ⌝ }
+    ensures { λ r. ⌜ WithEach redundant m (rowMaps (secondIn limits pair (now (work .entry))) (firstIn pair (now (work .entry))) (limits .depth) 0 0) n (rowMaps (firstIn pair (now (work .entry))) (secondIn limits pair (now (work .entry))) (limits .depth) 0 0) r ⌝ }
 {
     let half = half_size(limits);
     let a = pair.first;
@@ -76,8 +76,8 @@ fn compare_halves(
     let high = &work[half..half + place(b, END_SIZE)];
     let mut others = [0u8; LINKS];
     fill_links(high, b, &mut others);
-    let more = pass_over(passed, m, high, b, &others, low, a, links, limits.depth);
-    pass_over(more, n, low, a, links, high, b, &others, limits.depth)
+    let more = mark_redundant(redundant, m, high, b, &others, low, a, links, limits.depth);
+    mark_redundant(more, n, low, a, links, high, b, &others, limits.depth)
 }
 
 // Card m, whose table of a rows stands in the lower half, and card n, each with the other.
@@ -86,26 +86,26 @@ fn compare_with(
     places: &[usize; PLACES],
     count: usize,
     limits: Limits,
-    kept: &[u8],
+    cache: &[u8],
     spans: &[usize; SPANS],
     m: usize,
     a: usize,
     links: &[u8; LINKS],
     n: usize,
-    passed: u32,
+    redundant: u32,
     work: &mut [u8],
 ) -> u32
-    requires { ⌜ (Bounded limits) × ((Stocked limits (now book) (now places) count (now kept) (now spans)) × (((m < count) × (n < count)) × (Lower limits (now book) m a (now links) (now work)))) ⌝ }
-    ensures { λ r. ⌜ (Paired limits (now (book .entry)) m n passed r) × (Lower limits (now (book .entry)) m a (now (links .entry)) (now (work .exit))) ⌝ }
+    requires { ⌜ (Bounded limits) × ((CardsCached limits (now book) (now places) count (now cache) (now spans)) × (((m < count) × (n < count)) × (LowerHalf limits (now book) m a (now links) (now work)))) ⌝ }
+    ensures { λ r. ⌜ (Paired limits (now (book .entry)) m n redundant r) × (LowerHalf limits (now (book .entry)) m a (now (links .entry)) (now (work .exit))) ⌝ }
 {
     let half = half_size(limits);
-    let b = fetch(
+    let b = load(
         book,
         places,
         count,
         n,
         limits,
-        kept,
+        cache,
         spans,
         &mut work[half..],
     );
@@ -113,31 +113,31 @@ fn compare_with(
         first: a,
         second: b,
     };
-    compare_halves(work, pair, links, limits, m, n, passed)
+    compare_halves(work, pair, links, limits, m, n, redundant)
 }
 
-// Whether card n is to be compared with card m: it covers the case, and not both are passed over already.
-fn is_undecided(covering: u32, passed: u32, m: usize, n: usize) -> bool
+// Whether card n is to be compared with card m: it covers the case, and not both are redundant already.
+fn is_undecided(covering: u32, redundant: u32, m: usize, n: usize) -> bool
     requires { ⌜ (m < mostCards) × (n < mostCards) ⌝ }
-    ensures { λ r. ⌜ r ≡ undecided covering passed m n ⌝ }
+    ensures { λ r. ⌜ r ≡ undecided covering redundant m n ⌝ }
 {
     if !has_card(covering, n) {
         return false;
     }
-    if !has_card(passed, m) {
+    if !has_card(redundant, m) {
         return true;
     }
-    !has_card(passed, n)
+    !has_card(redundant, n)
 }
 
 // The first such card from one on; `end` if there is none before it.
-fn next_undecided(covering: u32, passed: u32, m: usize, from: usize, end: usize) -> usize
+fn next_undecided(covering: u32, redundant: u32, m: usize, from: usize, end: usize) -> usize
     requires { ⌜ (m < mostCards) × ((from ≤ end) × (end ≤ mostCards)) ⌝ }
-    ensures { λ r. ⌜ ((from ≤ r) × (r ≤ end)) × (((k : ℕ) → from ≤ k → k < r → undecided covering passed m k ≡ false) × (r < end → undecided covering passed m r ≡ true)) ⌝ }
+    ensures { λ r. ⌜ ((from ≤ r) × (r ≤ end)) × (((k : ℕ) → from ≤ k → k < r → undecided covering redundant m k ≡ false) × (r < end → undecided covering redundant m r ≡ true)) ⌝ }
 {
     let mut n = from;
     while n < end {
-        if is_undecided(covering, passed, m, n) {
+        if is_undecided(covering, redundant, m, n) {
             return n;
         }
         n += 1;
@@ -151,20 +151,20 @@ fn compare_rest(
     places: &[usize; PLACES],
     count: usize,
     limits: Limits,
-    kept: &[u8],
+    cache: &[u8],
     spans: &[usize; SPANS],
     covering: u32,
     m: usize,
     a: usize,
     links: &[u8; LINKS],
     from: usize,
-    passed: u32,
+    redundant: u32,
     work: &mut [u8],
 ) -> u32
-    requires { ⌜ (Bounded limits) × ((Stocked limits (now book) (now places) count (now kept) (now spans)) × (((m < count) × (from < m)) × (((has covering m ≡ true) × (undecided covering passed m from ≡ true)) × ((ComparedTo limits (now book) covering m from passed) × (Lower limits (now book) m a (now links) (now work)))))) ⌝ }
+    requires { ⌜ (Bounded limits) × ((CardsCached limits (now book) (now places) count (now cache) (now spans)) × (((m < count) × (from < m)) × (((has covering m ≡ true) × (undecided covering redundant m from ≡ true)) × ((ComparedTo limits (now book) covering m from redundant) × (LowerHalf limits (now book) m a (now links) (now work)))))) ⌝ }
     ensures { λ r. ⌜ (Compared limits (now (book .entry)) covering (m + 1) r) × (length (now (work .exit)) ≡ length (now (work .entry))) ⌝ }
 {
-    let mut word = passed;
+    let mut word = redundant;
     let mut n = from;
     while n < m {
         word = compare_with(
@@ -172,7 +172,7 @@ fn compare_rest(
             places,
             count,
             limits,
-            kept,
+            cache,
             spans,
             m,
             a,
@@ -192,31 +192,31 @@ fn compare_card(
     places: &[usize; PLACES],
     count: usize,
     limits: Limits,
-    kept: &[u8],
+    cache: &[u8],
     spans: &[usize; SPANS],
     covering: u32,
     m: usize,
-    passed: u32,
+    redundant: u32,
     work: &mut [u8],
 ) -> u32
-    requires { ⌜ (Bounded limits) × ((Stocked limits (now book) (now places) count (now kept) (now spans)) × ((m < count) × ((Compared limits (now book) covering m passed) × (length (now work) ≡ workSize limits)))) ⌝ }
+    requires { ⌜ (Bounded limits) × ((CardsCached limits (now book) (now places) count (now cache) (now spans)) × ((m < count) × ((Compared limits (now book) covering m redundant) × (length (now work) ≡ workSize limits)))) ⌝ }
     ensures { λ r. ⌜ (Compared limits (now (book .entry)) covering (m + 1) r) × (length (now (work .exit)) ≡ length (now (work .entry))) ⌝ }
 {
     if !has_card(covering, m) {
-        return passed;
+        return redundant;
     }
-    let from = next_undecided(covering, passed, m, 0, m);
+    let from = next_undecided(covering, redundant, m, 0, m);
     if from == m {
-        return passed;
+        return redundant;
     }
     let half = half_size(limits);
-    let a = fetch(
+    let a = load(
         book,
         places,
         count,
         m,
         limits,
-        kept,
+        cache,
         spans,
         &mut work[..half],
     );
@@ -227,14 +227,14 @@ fn compare_card(
         places,
         count,
         limits,
-        kept,
+        cache,
         spans,
         covering,
         m,
         a,
         &links,
         from,
-        passed,
+        redundant,
         work,
     )
 }
@@ -245,32 +245,32 @@ fn compare_cards(
     places: &[usize; PLACES],
     count: usize,
     limits: Limits,
-    kept: &[u8],
+    cache: &[u8],
     spans: &[usize; SPANS],
     covering: u32,
     work: &mut [u8],
 ) -> u32
-    requires { ⌜ (Bounded limits) × ((Stocked limits (now book) (now places) count (now kept) (now spans)) × (length (now work) ≡ workSize limits)) ⌝ }
+    requires { ⌜ (Bounded limits) × ((CardsCached limits (now book) (now places) count (now cache) (now spans)) × (length (now work) ≡ workSize limits)) ⌝ }
     ensures { λ r. ⌜ (Compared limits (now (book .entry)) covering count r) × (length (now (work .exit)) ≡ length (now (work .entry))) ⌝ }
 {
-    let mut passed: u32 = 0;
+    let mut redundant: u32 = 0;
     let mut m = 0;
     while m < count {
-        passed = compare_card(
+        redundant = compare_card(
             book,
             places,
             count,
             limits,
-            kept,
+            cache,
             spans,
             covering,
             m,
-            passed,
+            redundant,
             work,
         );
         m += 1;
     }
-    passed
+    redundant
 }
 
 // Those that cover no other; the work space is cleared.
@@ -279,15 +279,15 @@ pub fn select_cards(
     places: &[usize; PLACES],
     count: usize,
     limits: Limits,
-    kept: &[u8],
+    cache: &[u8],
     spans: &[usize; SPANS],
     covering: u32,
     work: &mut [u8],
 ) -> u32
-    requires { ⌜ (Bounded limits) × ((Stocked limits (now book) (now places) count (now kept) (now spans)) × (((k : ℕ) → has covering k ≡ true → k < count) × (length (now work) ≡ workSize limits))) ⌝ }
-    ensures { λ r. ⌜ ((k : ℕ) → has r k ≡ (has covering k && not (passedOver limits (now (book .entry)) (has covering) k))) × (now (work .exit) ≡ zeros (workSize limits)) ⌝ }
+    requires { ⌜ (Bounded limits) × ((CardsCached limits (now book) (now places) count (now cache) (now spans)) × (((k : ℕ) → has covering k ≡ true → k < count) × (length (now work) ≡ workSize limits))) ⌝ }
+    ensures { λ r. ⌜ ((k : ℕ) → has r k ≡ (has covering k && not (subsumesAnother limits (now (book .entry)) (has covering) k))) × (now (work .exit) ≡ zeros (workSize limits)) ⌝ }
 {
-    let passed = compare_cards(book, places, count, limits, kept, spans, covering, work);
+    let redundant = compare_cards(book, places, count, limits, cache, spans, covering, work);
     clear(work, 0, work.len());
-    without(covering, passed)
+    without(covering, redundant)
 }

@@ -1,4 +1,4 @@
 -- The laws of the tables of the cards.
 pub mod Tablings
-pub mod Keepings
-pub mod Weighings
+pub mod Caches
+pub mod CardTests

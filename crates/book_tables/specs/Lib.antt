@@ -1,3 +1,3 @@
--- The tables of the cards, and those that are kept.
+-- The tables of the cards, and their cache.
 pub mod Tables
-pub mod Keeping
+pub mod Cache

@@ -1,4 +1,4 @@
-// The tables of the cards: 14, which cards cover the case, and the tables that are kept.
+// The tables of the cards: 14, which cards cover the case, and the cache of their tables.
+pub mod cache;
 pub mod covering;
-pub mod kept;
-pub mod weigh;
+pub mod subsumers;

@@ -1,5 +1,5 @@
 -- Which refusals the fifth call gives: 1 names the buffer, 2 to 14 one of the two pictures, 16 to 23 the evidence; there is no other.
---   Named            1 to 14 as in every call on two pictures (workspace, proofs/PairRefusals), or 16 to 23 and the evidence
+--   Named            1 to 14 as in every call on two pictures (workspace, specs/Refusals: `Known`), or 16 to 23 and the evidence
 --   verify-refusal   so is every refusal of the call
 use Prim.Native.Nat.{ℕ, zero, suc, _+_, _≤_}
 use native.Mathlib.Omega.{arith}
@@ -24,7 +24,8 @@ use Rattle.normal.specs.Call.{shortBuffer}
 use Rattle.countermodel.specs.Individual.{individualOk}
 use Rattle.countermodel.specs.Layout.{individualCount}
 use Rattle.countermodel.specs.Model.{modelTree}
-use Rattle.workspace.proofs.PairRefusals.{Concerns, Known, Prepares, prepare-known, short-known}
+use Rattle.workspace.specs.Refusals.{Concerns, Known}
+use Rattle.workspace.proofs.PairRefusals.{Prepares, prepare-known, short-known}
 use Rattle.workspace.specs.Prepare.{prepareAnswer, workSize}
 use Rattle.workspace.specs.declared.prepare.Prepared.{Prepared}
 use Rattle.workspace.specs.declared.prepare.Prepared.the-variants as prepared

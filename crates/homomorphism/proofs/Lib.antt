@@ -1,2 +1,4 @@
 -- The laws of map files.
 pub mod MapFiles
+-- the paper's bytes
+pub mod Sizes

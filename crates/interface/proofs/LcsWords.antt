@@ -36,7 +36,8 @@ use Rattle.picture.specs.declared.answer.Refusal.{Refusal}
 use Rattle.table.specs.Bounds.{benchLimits, maxRows, pictureSize}
 use Rattle.table.specs.Put.{put}
 use Rattle.table.specs.declared.layout.Limits.{Limits}
-use Rattle.workspace.proofs.Lendings.{TooShort, acceptable-work, refused-work, short-work, work-kept, work-past}
+use Rattle.workspace.proofs.Lendings.{acceptable-work, refused-work, short-work, work-kept, work-past}
+use Rattle.workspace.specs.Refusals.{TooShort}
 use Rattle.workspace.proofs.Preparations.{halves-same}
 use Rattle.workspace.specs.Prepare.{Acceptable, halvesPut, workSize}
 use Rattle.interface.specs.Calls.{lcsBuffer, LcsGives, lcsSpace, lcsWord, verifySpace}

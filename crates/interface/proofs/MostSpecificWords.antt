@@ -23,10 +23,10 @@ use mathlib.Core.Logic.{_↔_, _⊎_, inl, inr, ⊎-elim}
 use mathlib.Core.Path.{_∙_, _≡_, ap, refl, sym}
 use native.Mathlib.Omega.{arith}
 use Rattle.book.proofs.Answers.{Answered, acceptable-answer, answered-acceptable, answered-work, refused-exactly, refused-work, short-answer, work-clear, work-kept, work-past}
-use Rattle.book.proofs.Conditions.{nearest-cards}
+use Rattle.book.proofs.Conditions.{most-specific-condition}
 use Rattle.book.proofs.Forms.{count-most}
-use Rattle.book.proofs.Orders.{FirstNo}
-use Rattle.book.proofs.Refusals.{Named, book-refusal}
+use Rattle.book.proofs.Refusals.{book-refusal}
+use Rattle.book.specs.Refusals.{FirstNo, Named}
 use Rattle.book.specs.Call.{AcceptableBook, mostSpecificAnswer, mostSpecificWork}
 use Rattle.book.specs.Form.{cardCount}
 use Rattle.book.specs.Selection.{MostSpecific, mostSpecificCards}
@@ -100,7 +100,7 @@ module _ (case book : List ℕ) (room : ℕ) where
   refusal-fits r e = named-fits r (book-refusal benchLimits case book room r e)
 
   word-small : (n : ℕ) → mostSpecificAnswer benchLimits case book room ≡ Cards n → n < valueRange
-  word-small n e = nearest-cards benchLimits case book .fits room n e
+  word-small n e = most-specific-condition benchLimits case book .fits room n e
 
   abbrev pub ShowsCards : ℕ → Type 0
   ShowsCards w = (outcome w ≡ outcomeYes) × (mostSpecificAnswer benchLimits case book room ≡ Cards (value w))
@@ -149,11 +149,11 @@ module _ (case book : List ℕ) (room : ℕ) where
 
   pub most-specific-cards : outcome (mostSpecificWord case book room) ≡ outcomeYes →
       (n : ℕ) → (has (value (mostSpecificWord case book room)) n ≡ true) ↔ MostSpecific benchLimits case book n
-  most-specific-cards h = nearest-cards benchLimits case book .given room (value (mostSpecificWord case book room)) (yes-cards h)
+  most-specific-cards h = most-specific-condition benchLimits case book .given room (value (mostSpecificWord case book room)) (yes-cards h)
 
   pub most-specific-none : outcome (mostSpecificWord case book room) ≡ outcomeYes →
       (n : ℕ) → cardCount book ≤ n → has (value (mostSpecificWord case book room)) n ≡ false
-  most-specific-none h = nearest-cards benchLimits case book .past room (value (mostSpecificWord case book room)) (yes-cards h)
+  most-specific-none h = most-specific-condition benchLimits case book .past room (value (mostSpecificWord case book room)) (yes-cards h)
 
 -- ---- the work space, by the word
 

@@ -12,7 +12,7 @@ use Rattle.table.specs.Bounds.{Bounded, benchLimits}
 use Rattle.picture.specs.declared.answer.Input.{Input}
 use Rattle.picture.specs.declared.answer.Input.the-variants.{Buffer, First, Second}
 use Rattle.picture.specs.declared.answer.Refusal.{Refusal}
-use Rattle.workspace.proofs.PairRefusals.{Concerns, Known}
+use Rattle.workspace.specs.Refusals.{Concerns, Known}
 use Rattle.workspace.proofs.Preparations.{prepare-first, prepare-many-first, prepare-many-second, prepare-second}
 use Rattle.workspace.specs.Prepare.{prepareAnswer}
 use Rattle.workspace.specs.declared.prepare.Prepared.the-variants as prepared

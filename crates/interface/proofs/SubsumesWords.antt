@@ -32,7 +32,8 @@ use Rattle.picture.specs.declared.answer.Input.the-variants.{Buffer}
 use Rattle.picture.specs.declared.answer.Refusal.{Refusal}
 use Rattle.meaning.specs.NormalTable.{normalFile}
 use Rattle.normal.specs.Half.{halfOf}
-use Rattle.workspace.proofs.Lendings.{TooShort, acceptable-work, refused-work, short-work, work-kept, work-past}
+use Rattle.workspace.proofs.Lendings.{acceptable-work, refused-work, short-work, work-kept, work-past}
+use Rattle.workspace.specs.Refusals.{TooShort}
 use Rattle.workspace.proofs.Preparations.{halves-same}
 use Rattle.workspace.specs.Prepare.{Acceptable, halvesPut, workSize}
 use Rattle.evidence.proofs.Verifications.{pair-work}

@@ -28,7 +28,8 @@ use Rattle.table.specs.Pick.{pick}
 use Rattle.table.specs.Put.{put}
 use Rattle.table.specs.declared.layout.Limits.{Limits}
 use Rattle.workspace.proofs.Halves.{put-start}
-use Rattle.workspace.proofs.Lendings.{TooShort, room-both, room-given, room-no, room-yes}
+use Rattle.workspace.proofs.Lendings.{room-both, room-given, room-no, room-yes}
+use Rattle.workspace.specs.Refusals.{TooShort}
 use Rattle.workspace.proofs.Preparations.{acceptable-tables, tablesOf}
 use Rattle.workspace.specs.Lent.{roomy}
 use Rattle.workspace.specs.Prepare.{Acceptable, prepareAnswer, workSize}

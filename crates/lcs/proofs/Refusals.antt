@@ -1,5 +1,5 @@
 -- Which refusals the fourth call gives: 1 names the buffer, 2 to 14 one of the two pictures, 15 the second; there is no other.
---   Named         1 to 14 as in every call on two pictures (workspace, proofs/PairRefusals), or 15 and the second
+--   Named         1 to 14 as in every call on two pictures (workspace, specs/Refusals: `Known`), or 15 and the second
 --   lcs-refusal   so is every refusal of the call
 use Prim.Native.Nat.{ℕ}
 use lib.Dec.{leb}
@@ -15,7 +15,8 @@ use Rattle.picture.specs.declared.answer.Refusal.{Refusal}
 use Rattle.table.specs.Bounds.{pictureSize}
 use Rattle.table.specs.Pick.{pick}
 use Rattle.table.specs.declared.layout.Limits.{Limits}
-use Rattle.workspace.proofs.PairRefusals.{Concerns, Known, Prepares, prepare-known, short-known}
+use Rattle.workspace.specs.Refusals.{Concerns, Known}
+use Rattle.workspace.proofs.PairRefusals.{Prepares, prepare-known, short-known}
 use Rattle.workspace.specs.Lent.{roomy}
 use Rattle.workspace.specs.Prepare.{prepareAnswer}
 use Rattle.workspace.specs.declared.prepare.Prepared.{Prepared}

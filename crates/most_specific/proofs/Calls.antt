@@ -1,9 +1,9 @@
 -- Laws of the call as the code makes it, by its tests.
 --   ReadTo, read-start, read-next, read-refused, read-all   2 to 13 of the cards in turn: those below k have passed
---   selected-word                                           the covering cards without those that are passed over are the most specific
+--   selected-word                                           the covering cards without those that subsume another are the most specific
 --   covering-inside                                         a covering card is a card of the book
 --   cleared-part                                            the work space, cleared
---   weighed-refused, weighed-taken, weighed-is, weighed-answer   14 of the case and of the cards
+--   found-refused, found-taken, found-is, found-answer           14 of the case and of the cards
 --   form-refused, cards-refused, cards-readable, cards-passed    24, and 2 to 13 of the cards
 --   short-call, case-refused, case-readable, case-passed         1, and 2 to 13 of the case
 use Prim.Native.Nat.{_+_, _-_, _<_, _≤_, ℕ}
@@ -32,7 +32,7 @@ use Rattle.workspace.proofs.Halves.{put-start}
 use Rattle.workspace.specs.Prepare.{workSize}
 use Rattle.book.specs.Call.{andThen, askedFrom, bookAsked, cardMerged, cardRead, caseMerged, mostSpecificAnswer, mostSpecificWork, noBook, onAsked, onSelected, readAsked, readingAsked}
 use Rattle.book.specs.Form.{bookForm, card, cardCount}
-use Rattle.book.specs.Selection.{cardCovers, cardWord, caseCovered, mostSpecific, mostSpecificCards, passedOver}
+use Rattle.book.specs.Selection.{cardCovers, cardWord, caseCovered, mostSpecific, mostSpecificCards, subsumesAnother}
 use Rattle.book_tables.specs.Tables.{CardsRead, CardsTaken}
 use Rattle.most_specific.specs.Asking.{afterCards, afterCase}
 use Rattle.book_form.specs.Places.{Placed}
@@ -84,21 +84,21 @@ module _ (limits : Limits) (case book : List ℕ) (count covering : ℕ) (counte
   pub covering-inside : (k : ℕ) → has covering k ≡ true → k < count
   covering-inside k h = ltb-true k count (both (ltb k count) (caseCovered limits case book k) (sym (covering-has k) ∙ h) .0)
 
-  same-over : (k : ℕ) → passedOver limits book (has covering) k ≡ passedOver limits book (caseCovered limits case book) k
-  unfolding passedOver
-  same-over k =
+  same-another : (k : ℕ) → subsumesAnother limits book (has covering) k ≡ subsumesAnother limits book (caseCovered limits case book) k
+  unfolding subsumesAnother
+  same-another k =
       some-same (λ j. not (eqb j k) && (has covering j && cardCovers limits book k j)) (λ j. not (eqb j k) && (caseCovered limits case book j && cardCovers limits book k j)) (cardCount book) 0
       (λ j a b. ap (λ (t : Bool). not (eqb j k) && (t && cardCovers limits book k j)) (covering-has j ∙ ap (λ (t : Bool). t && caseCovered limits case book j) (lt-ltb j count (omega (arith, counted)))))
 
-  pub selected-word : (r : ℕ) → ((k : ℕ) → has r k ≡ (has covering k && not (passedOver limits book (has covering) k))) → r ≡ mostSpecificCards limits case book
+  pub selected-word : (r : ℕ) → ((k : ℕ) → has r k ≡ (has covering k && not (subsumesAnother limits book (has covering) k))) → r ≡ mostSpecificCards limits case book
   unfolding mostSpecificCards mostSpecific
   selected-word r bits =
       word-is (mostSpecific limits case book) r (cardCount book)
       (λ k.
       bits k
-      ∙ ap (λ (t : Bool). has covering k && not t) (same-over k)
-      ∙ ap (λ (t : Bool). t && not (passedOver limits book (caseCovered limits case book) k)) (covering-has k)
-      ∙ and-assoc (ltb k count) (caseCovered limits case book k) (not (passedOver limits book (caseCovered limits case book) k))
+      ∙ ap (λ (t : Bool). has covering k && not t) (same-another k)
+      ∙ ap (λ (t : Bool). t && not (subsumesAnother limits book (caseCovered limits case book) k)) (covering-has k)
+      ∙ and-assoc (ltb k count) (caseCovered limits case book k) (not (subsumesAnother limits book (caseCovered limits case book) k))
       ∙ ap (λ (n : ℕ). ltb k n && mostSpecific limits case book k) counted)
 
 -- ---- after 2 to 13 of the cards
@@ -111,8 +111,8 @@ module _ (limits : Limits) (case book : List ℕ) (count : ℕ) (counted : count
   asked-is = ap (λ (n : ℕ). andThen (caseMerged limits case) (askedFrom (cardMerged limits book) n 0)) counted
 
   module _ (answer : Selected) (is : answer ≡ onAsked asked (cardWord (caseCovered limits case book) count)) where
-    pub weighed-refused : (r : Refusal) → answer ≡ Refused r → Refused r ≡ onAsked (afterCards limits case book) (mostSpecificCards limits case book)
-    weighed-refused r e =
+    pub found-refused : (r : Refusal) → answer ≡ Refused r → Refused r ≡ onAsked (afterCards limits case book) (mostSpecificCards limits case book)
+    found-refused r e =
         let stopped = by-refused asked (cardWord (caseCovered limits case book) count) r (sym e ∙ is) in
         sym (ap (λ a. onAsked a (mostSpecificCards limits case book)) (sym asked-is ∙ stopped))
 
@@ -120,11 +120,11 @@ module _ (limits : Limits) (case book : List ℕ) (count : ℕ) (counted : count
       parts : (asked ≡ Yes) × (covering ≡ cardWord (caseCovered limits case book) count)
       parts = by-asked asked (cardWord (caseCovered limits case book) count) covering (sym e ∙ is)
 
-      pub weighed-is : covering ≡ cardWord (caseCovered limits case book) count
-      weighed-is = parts .1
+      pub found-is : covering ≡ cardWord (caseCovered limits case book) count
+      found-is = parts .1
 
-      pub weighed-taken : (places : List ℕ) → CardsRead limits book places count → CardsTaken limits book places count
-      weighed-taken places cards =
+      pub found-taken : (places : List ℕ) → CardsRead limits book places count → CardsTaken limits book places count
+      found-taken places cards =
           record {
             cards-read = cards;
             few = λ k l.
@@ -132,8 +132,8 @@ module _ (limits : Limits) (case book : List ℕ) (count : ℕ) (counted : count
                 merged-yes limits (Card k) (card book k) .0 (from-yes (cardMerged limits book) count 0 cards-asked k (omega arith) (omega arith));
           }
 
-      pub weighed-answer : (r : ℕ) → r ≡ mostSpecificCards limits case book → Cards r ≡ onAsked (afterCards limits case book) (mostSpecificCards limits case book)
-      weighed-answer r w = ap Cards w ∙ sym (ap (λ a. onAsked a (mostSpecificCards limits case book)) (sym asked-is ∙ parts .0))
+      pub found-answer : (r : ℕ) → r ≡ mostSpecificCards limits case book → Cards r ≡ onAsked (afterCards limits case book) (mostSpecificCards limits case book)
+      found-answer r w = ap Cards w ∙ sym (ap (λ a. onAsked a (mostSpecificCards limits case book)) (sym asked-is ∙ parts .0))
 
 -- ---- the call by its tests; `word` is what is answered where all is answered yes
 

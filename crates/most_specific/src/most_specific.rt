@@ -5,9 +5,9 @@ use book_form::form::PLACES;
 use book_form::form::find_cards;
 use book_form::form::has_form;
 use book_selection::compare::select_cards;
-use book_tables::kept::SPANS;
-use book_tables::kept::TABLE;
-use book_tables::weigh::weigh_book;
+use book_tables::cache::SPANS;
+use book_tables::cache::TABLE;
+use book_tables::subsumers::find_subsumers;
 use picture::answer::Answer;
 use picture::answer::Input;
 use picture::answer::Refusal;
@@ -77,9 +77,9 @@ fn select(
     requires { ⌜ (Bounded limits) × ((Readable limits (now case)) × ((CardsRead limits (now book) (now places) count) × (workSize limits ≤ length (now work)))) ⌝ }
     ensures { λ r. ⌜ (r ≡ onAsked (afterCards limits (now (case .entry)) (now (book .entry))) (mostSpecificCards limits (now (case .entry)) (now (book .entry)))) × (now (work .exit) ≡ onSelected r (put (now (work .entry)) 0 (zeros (workSize limits))) (now (work .entry))) ⌝ }
 {
-    let mut kept = [0u8; TABLE];
+    let mut cache = [0u8; TABLE];
     let mut spans = [0usize; SPANS];
-    match weigh_book(case, book, places, count, limits, &mut kept, &mut spans) {
+    match find_subsumers(case, book, places, count, limits, &mut cache, &mut spans) {
         Selected::Cards(covering) => {
             let half = half_size(limits);
             let size = half + half;
@@ -88,7 +88,7 @@ fn select(
                 places,
                 count,
                 limits,
-                &kept,
+                &cache,
                 &spans,
                 covering,
                 &mut work[..size],

@@ -1,5 +1,5 @@
 -- Which refusals the third call gives: 1 names the buffer, 2 to 14 one of the two pictures; there is no other.
---   subsumes-refusal   every refusal of the call is such a one (workspace, proofs/PairRefusals: `Known`)
+--   subsumes-refusal   every refusal of the call is such a one (workspace, specs/Refusals: `Known`)
 use Prim.Native.Nat.{ℕ}
 use lib.ListN.{length}
 use mathlib.Core.Bool.{Bool, false, true}
@@ -12,7 +12,8 @@ use Rattle.normal.specs.Call.{shortBuffer}
 use Rattle.workspace.specs.Prepare.{prepareAnswer}
 use Rattle.workspace.specs.declared.prepare.Prepared.{Prepared}
 use Rattle.workspace.specs.declared.prepare.Prepared.the-variants as prepared
-use Rattle.workspace.proofs.PairRefusals.{Known, Prepares, prepare-known, short-known}
+use Rattle.workspace.specs.Refusals.{Known}
+use Rattle.workspace.proofs.PairRefusals.{Prepares, prepare-known, short-known}
 use Rattle.workspace.specs.Lent.{roomy}
 use Rattle.subsumption.specs.Call.{onVerdict, subsumesAnswer, verdictAnswer}
 use Rattle.subsumption.specs.Verdict.{evidenceOf, evidenceSize, verdictOf}

@@ -1,18 +1,18 @@
 -- Laws of the buffers that the calls on two pictures are lent, at any limits and any length named of the result buffer.
---   TooShort, room-no, room-yes,
+--   room-no, room-yes,
 --   room-both, room-long            1: one of the two buffers is too short, or both are long enough, or one is and the other decides
 --   on-pair, on-room                a property of a buffer as it was and as it is once it is written is one of it at exit
 --   room-given                      an answer that is no refusal is given only with room, for an acceptable pair
 --   short-work, refused-work,
 --   acceptable-work                 the work space: 1 is answered no, the reading or 14 refuses, all are answered yes
 --   work-past, work-kept            bytes past the two halves keep their contents, whatever the answer; so does the work space's length
-use Prim.Native.Nat.{ℕ, _<_, _≤_}
+use Prim.Native.Nat.{ℕ, _≤_}
 use borrow.Author.Tests.{le-leb, leb-true, lt-leb}
 use lib.Dec.{leb}
 use lib.ListN.{getD, length}
 use mathlib.Core.Bool.{Bool, and-false, false, true}
 use mathlib.Core.List.{List}
-use mathlib.Core.Logic.{_⊎_, inl, inr}
+use mathlib.Core.Logic.{inl, inr}
 use mathlib.Core.Path.{_≡_, refl}
 use Rattle.table.proofs.Bools.{both}
 use Rattle.table.specs.Pick.{pick}
@@ -20,15 +20,13 @@ use Rattle.table.specs.declared.layout.Limits.{Limits}
 use Rattle.picture.specs.declared.answer.Refusal.{Refusal}
 use Rattle.workspace.specs.Lent.{pairWork, roomy}
 use Rattle.workspace.specs.Prepare.{Acceptable, halvesPut, onPrepared, prepareAnswer, workSize}
+use Rattle.workspace.specs.Refusals.{TooShort}
 use Rattle.workspace.specs.declared.prepare.Pair.{Pair}
 use Rattle.workspace.specs.declared.prepare.Prepared.{Prepared}
 use Rattle.workspace.specs.declared.prepare.Prepared.the-variants.{Refused, Tables}
 use Rattle.workspace.proofs.Preparations.{acceptable-tables, halves-past, length-halves, tables-acceptable}
 
 -- ---- 1
-
-abbrev pub TooShort : Limits → ℕ → ℕ → ℕ → Type 0
-TooShort limits size work result = (work < workSize limits) ⊎ (result < size)
 
 module _ (limits : Limits) (size work result : ℕ) where
   pub room-no : TooShort limits size work result → roomy limits size work result ≡ false

@@ -1,36 +1,28 @@
 -- Which refusals every call on two pictures has in common: 1 names the buffer, 2 to 14 one of the two pictures.
---   Concerns                  a refusal names an input, by a number in a range
---   Known                     1 the buffer, 2 to 14 the first or the second
---   Prepares, prepare-known   so is every refusal by the readings and 14
+--   Prepares, prepare-known   every refusal by the readings and 14 is one of these (`Known`)
 --   short-known               and that of a short buffer
 use Prim.Native.Nat.{ℕ, _≤_}
 use native.Mathlib.Omega.{arith}
 use lib.Dec.{leb}
 use mathlib.Core.Bool.{Bool, false, true}
 use mathlib.Core.List.{List}
-use mathlib.Core.Logic.{_⊎_, inl, inr}
+use mathlib.Core.Logic.{inl, inr}
 use mathlib.Core.Path.{_≡_, refl}
 use Rattle.table.specs.Pick.{pick}
 use Rattle.table.specs.declared.layout.Limits.{Limits}
 use Rattle.picture.proofs.Readables.{reading-number}
 use Rattle.picture.specs.Read.{answerOf, answered, readingOf}
 use Rattle.picture.specs.declared.answer.Input.{Input}
-use Rattle.picture.specs.declared.answer.Input.the-variants.{Buffer, First, Second}
-use Rattle.picture.specs.declared.answer.Refusal.{Refusal}
+use Rattle.picture.specs.declared.answer.Input.the-variants.{First, Second}
 use Rattle.picture.specs.declared.read.Reading.{Reading}
 use Rattle.picture.specs.declared.read.Reading.the-variants as reading
 use Rattle.meaning.specs.NormalTable.{mergedCount}
 use Rattle.normal.specs.Call.{shortBuffer, tooMany}
 use Rattle.workspace.specs.Prepare.{afterReading, mergedAsked, prepareAnswer}
+use Rattle.workspace.specs.Refusals.{Known}
 use Rattle.workspace.specs.declared.prepare.Prepared.{Prepared}
 use Rattle.workspace.specs.declared.prepare.Prepared.the-variants.{Refused, Tables}
 use Rattle.workspace.proofs.Preparations.{tablesOf}
-
-abbrev pub Concerns : Refusal → Input → ℕ → ℕ → Type 0
-Concerns r input least most = (r .input ≡ input) × (least ≤ r .number) × (r .number ≤ most)
-
-abbrev pub Known : Refusal → Type 0
-Known r = Concerns r Buffer 1 1 ⊎ (Concerns r First 2 14 ⊎ Concerns r Second 2 14)
 
 abbrev pub Prepares : Prepared → Type 0
 Prepares (Tables p) = Unit

@@ -1,3 +1,4 @@
 -- The work space of the calls on two pictures.
 pub mod Prepare
 pub mod Lent
+pub mod Refusals

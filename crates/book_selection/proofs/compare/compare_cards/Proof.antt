@@ -11,10 +11,10 @@ use Rattle.book_selection.proofs.compare.compare_cards.Statement.{state
 use Rattle.book_selection.proofs.compare.compare_cards.Tie as tie
 
 abbrev Inv-loop : tie.InvT-loop
-Inv-loop book places count limits kept spans covering work₀ hidden₀ m₀ work passed m = (m ≤ count) × ((length work ≡ workSize limits) × Compared limits book covering m passed)
+Inv-loop book places count limits cache spans covering work₀ hidden₀ m₀ work redundant m = (m ≤ count) × ((length work ≡ workSize limits) × Compared limits book covering m redundant)
 
 abbrev μ-loop : tie.MeasureT-loop
-μ-loop book places count limits kept spans covering work₀ hidden₀ m₀ work passed m = count - m
+μ-loop book places count limits cache spans covering work₀ hidden₀ m₀ work redundant m = count - m
 
 loop-holds : tie.Need-loop-holds Inv-loop μ-loop
 loop-holds c = (omega arith, (c .before .before .before .pre .1 .1, none-compared (c .before .before .before .args .limits) (now (c .before .before .before .args .book)) (c .before .before .before .args .covering)))
@@ -37,7 +37,7 @@ same-length c = c .before .loop .inv .1 .0 ∙ sym (c .before .before .before .b
 returns : tie.Need-returns Inv-loop μ-loop
 returns c =
     let end : c .before .loop .m ≡ c .before .before .before .before .before .args .count = omega (arith, c .before .loop .inv .0, c .loop-test .left) in
-    (subst (λ k. Compared (c .before .before .before .before .before .args .limits) (now (c .before .before .before .before .before .args .book)) (c .before .before .before .before .before .args .covering) k (c .before .loop .passed)) end (c .before .loop .inv .1 .1), c .before .loop .inv .1 .0 ∙ sym (c .before .before .before .before .before .pre .1 .1))
+    (subst (λ k. Compared (c .before .before .before .before .before .args .limits) (now (c .before .before .before .before .before .args .book)) (c .before .before .before .before .before .args .covering) k (c .before .loop .redundant)) end (c .before .loop .inv .1 .1), c .before .loop .inv .1 .0 ∙ sym (c .before .before .before .before .before .pre .1 .1))
 
 pub compare-cards-spec : {M : Type 1} → statement M
 compare-cards-spec =

@@ -1,4 +1,4 @@
--- The two parts that are lent are the tables; each card is passed over if its table covers the other's.
+-- The two parts that are lent are the tables; each card is redundant if its table covers the other's.
 use Prim.Native.Nat.{_+_, _-_}
 use native.Mathlib.Omega.{arith}
 use denote.Ref.{now}
@@ -43,19 +43,19 @@ part-high-end c = search needs
 fill-links-requires : tie.Need-fill-links-requires
 fill-links-requires c κs = ((subst (λ t. Checked t (c .before .before .before .before .before .before .before .args .pair .second)) (sym (second-part (c .before .before .before .before .before .before .before .args .limits) (c .before .before .before .before .before .before .before .args .pair) (now (c .before .before .before .before .before .before .before .args .work)) (c .before .before .before .before .before .half-size .result) (c .before .before .place2 .result) (c .before .before .before .before .before .half-size .ensures) (c .before .before .place2 .ensures))) (c .before .before .before .before .before .before .before .pre .1 .0 .second-checked)), blank 512 512 refl)
 
-pass-over-requires : tie.Need-pass-over-requires
-pass-over-requires c κs = (record { checked = (subst (λ t. Checked t (c .before .before .before .before .before .before .before .before .before .args .pair .second)) (sym (second-part (c .before .before .before .before .before .before .before .before .before .args .limits) (c .before .before .before .before .before .before .before .before .before .args .pair) (now (c .before .before .before .before .before .before .before .before .before .args .work)) (c .before .before .before .before .before .before .before .half-size .result) (c .before .before .before .before .place2 .result) (c .before .before .before .before .before .before .before .half-size .ensures) (c .before .before .before .before .place2 .ensures))) (c .before .before .before .before .before .before .before .before .before .pre .1 .0 .second-checked)); linked = c .before .fill-links .ensures }, ((subst (λ t. LinkedTable t (c .before .before .before .before .before .before .before .before .before .args .pair .first) (now (c .before .before .before .before .before .before .before .before .before .args .links))) (sym (first-part (c .before .before .before .before .before .before .before .before .before .args .limits) (c .before .before .before .before .before .before .before .before .before .args .pair) (now (c .before .before .before .before .before .before .before .before .before .args .work)) (c .before .before .before .before .before .before .place .result) (c .before .before .before .before .before .before .place .ensures))) (c .before .before .before .before .before .before .before .before .before .pre .1 .1 .0)), c .before .before .before .before .before .before .before .before .before .pre .1 .1 .1 .0))
+mark-redundant-requires : tie.Need-mark-redundant-requires
+mark-redundant-requires c κs = (record { checked = (subst (λ t. Checked t (c .before .before .before .before .before .before .before .before .before .args .pair .second)) (sym (second-part (c .before .before .before .before .before .before .before .before .before .args .limits) (c .before .before .before .before .before .before .before .before .before .args .pair) (now (c .before .before .before .before .before .before .before .before .before .args .work)) (c .before .before .before .before .before .before .before .half-size .result) (c .before .before .before .before .place2 .result) (c .before .before .before .before .before .before .before .half-size .ensures) (c .before .before .before .before .place2 .ensures))) (c .before .before .before .before .before .before .before .before .before .pre .1 .0 .second-checked)); linked = c .before .fill-links .ensures }, ((subst (λ t. LinkedTable t (c .before .before .before .before .before .before .before .before .before .args .pair .first) (now (c .before .before .before .before .before .before .before .before .before .args .links))) (sym (first-part (c .before .before .before .before .before .before .before .before .before .args .limits) (c .before .before .before .before .before .before .before .before .before .args .pair) (now (c .before .before .before .before .before .before .before .before .before .args .work)) (c .before .before .before .before .before .before .place .result) (c .before .before .before .before .before .before .place .ensures))) (c .before .before .before .before .before .before .before .before .before .pre .1 .1 .0)), c .before .before .before .before .before .before .before .before .before .pre .1 .1 .1 .0))
 
-pass-over-requires-2 : tie.Need-pass-over-requires-2
-pass-over-requires-2 c κs = ((subst (λ t. LinkedTable t (c .before .before .before .before .before .before .before .before .before .before .before .args .pair .first) (now (c .before .before .before .before .before .before .before .before .before .before .before .args .links))) (sym (first-part (c .before .before .before .before .before .before .before .before .before .before .before .args .limits) (c .before .before .before .before .before .before .before .before .before .before .before .args .pair) (now (c .before .before .before .before .before .before .before .before .before .before .before .args .work)) (c .before .before .before .before .before .before .before .before .place .result) (c .before .before .before .before .before .before .before .before .place .ensures))) (c .before .before .before .before .before .before .before .before .before .before .before .pre .1 .1 .0)), (record { checked = (subst (λ t. Checked t (c .before .before .before .before .before .before .before .before .before .before .before .args .pair .second)) (sym (second-part (c .before .before .before .before .before .before .before .before .before .before .before .args .limits) (c .before .before .before .before .before .before .before .before .before .before .before .args .pair) (now (c .before .before .before .before .before .before .before .before .before .before .before .args .work)) (c .before .before .before .before .before .before .before .before .before .half-size .result) (c .before .before .before .before .before .before .place2 .result) (c .before .before .before .before .before .before .before .before .before .half-size .ensures) (c .before .before .before .before .before .before .place2 .ensures))) (c .before .before .before .before .before .before .before .before .before .before .before .pre .1 .0 .second-checked)); linked = c .before .before .before .fill-links .ensures }, c .before .before .before .before .before .before .before .before .before .before .before .pre .1 .1 .1 .1))
+mark-redundant-requires-2 : tie.Need-mark-redundant-requires-2
+mark-redundant-requires-2 c κs = ((subst (λ t. LinkedTable t (c .before .before .before .before .before .before .before .before .before .before .before .args .pair .first) (now (c .before .before .before .before .before .before .before .before .before .before .before .args .links))) (sym (first-part (c .before .before .before .before .before .before .before .before .before .before .before .args .limits) (c .before .before .before .before .before .before .before .before .before .before .before .args .pair) (now (c .before .before .before .before .before .before .before .before .before .before .before .args .work)) (c .before .before .before .before .before .before .before .before .place .result) (c .before .before .before .before .before .before .before .before .place .ensures))) (c .before .before .before .before .before .before .before .before .before .before .before .pre .1 .1 .0)), (record { checked = (subst (λ t. Checked t (c .before .before .before .before .before .before .before .before .before .before .before .args .pair .second)) (sym (second-part (c .before .before .before .before .before .before .before .before .before .before .before .args .limits) (c .before .before .before .before .before .before .before .before .before .before .before .args .pair) (now (c .before .before .before .before .before .before .before .before .before .before .before .args .work)) (c .before .before .before .before .before .before .before .before .before .half-size .result) (c .before .before .before .before .before .before .place2 .result) (c .before .before .before .before .before .before .before .before .before .half-size .ensures) (c .before .before .before .before .before .before .place2 .ensures))) (c .before .before .before .before .before .before .before .before .before .before .before .pre .1 .0 .second-checked)); linked = c .before .before .before .fill-links .ensures }, c .before .before .before .before .before .before .before .before .before .before .before .pre .1 .1 .1 .1))
 
 returns : tie.Need-returns
 returns c =
     of-parts
-    (λ s t. WithEach (c .before .before .before .before .before .before .before .before .before .before .before .before .args .passed) (c .before .before .before .before .before .before .before .before .before .before .before .before .args .m) (rowMaps t s (c .before .before .before .before .before .before .before .before .before .before .before .before .args .limits .depth) 0 0) (c .before .before .before .before .before .before .before .before .before .before .before .before .args .n) (rowMaps s t (c .before .before .before .before .before .before .before .before .before .before .before .before .args .limits .depth) 0 0) (c .pass-over2 .result))
+    (λ s t. WithEach (c .before .before .before .before .before .before .before .before .before .before .before .before .args .redundant) (c .before .before .before .before .before .before .before .before .before .before .before .before .args .m) (rowMaps t s (c .before .before .before .before .before .before .before .before .before .before .before .before .args .limits .depth) 0 0) (c .before .before .before .before .before .before .before .before .before .before .before .before .args .n) (rowMaps s t (c .before .before .before .before .before .before .before .before .before .before .before .before .args .limits .depth) 0 0) (c .mark-redundant2 .result))
     (firstIn (c .before .before .before .before .before .before .before .before .before .before .before .before .args .pair) (now (c .before .before .before .before .before .before .before .before .before .before .before .before .args .work))) (take (c .before .before .before .before .before .before .before .before .before .place .result) (now (c .before .before .before .before .before .before .before .before .before .before .before .before .args .work))) (secondIn (c .before .before .before .before .before .before .before .before .before .before .before .before .args .limits) (c .before .before .before .before .before .before .before .before .before .before .before .before .args .pair) (now (c .before .before .before .before .before .before .before .before .before .before .before .before .args .work))) (take (c .before .before .before .before .before .before .before .before .before .before .half-size .result + c .before .before .before .before .before .before .before .place2 .result - c .before .before .before .before .before .before .before .before .before .before .half-size .result) (drop (c .before .before .before .before .before .before .before .before .before .before .half-size .result) (now (c .before .before .before .before .before .before .before .before .before .before .before .before .args .work)))) (sym (first-part (c .before .before .before .before .before .before .before .before .before .before .before .before .args .limits) (c .before .before .before .before .before .before .before .before .before .before .before .before .args .pair) (now (c .before .before .before .before .before .before .before .before .before .before .before .before .args .work)) (c .before .before .before .before .before .before .before .before .before .place .result) (c .before .before .before .before .before .before .before .before .before .place .ensures))) (sym (second-part (c .before .before .before .before .before .before .before .before .before .before .before .before .args .limits) (c .before .before .before .before .before .before .before .before .before .before .before .before .args .pair) (now (c .before .before .before .before .before .before .before .before .before .before .before .before .args .work)) (c .before .before .before .before .before .before .before .before .before .before .half-size .result) (c .before .before .before .before .before .before .before .place2 .result) (c .before .before .before .before .before .before .before .before .before .before .half-size .ensures) (c .before .before .before .before .before .before .before .place2 .ensures)))
-    (with-each (c .before .before .before .before .before .before .before .before .before .before .before .before .args .passed) (c .before .before .before .before .before .before .before .before .before .before .before .before .args .m) (rowMaps (take (c .before .before .before .before .before .before .before .before .before .before .half-size .result + c .before .before .before .before .before .before .before .place2 .result - c .before .before .before .before .before .before .before .before .before .before .half-size .result) (drop (c .before .before .before .before .before .before .before .before .before .before .half-size .result) (now (c .before .before .before .before .before .before .before .before .before .before .before .before .args .work)))) (take (c .before .before .before .before .before .before .before .before .before .place .result) (now (c .before .before .before .before .before .before .before .before .before .before .before .before .args .work))) (c .before .before .before .before .before .before .before .before .before .before .before .before .args .limits .depth) 0 0) (c .before .before .pass-over .result) (c .before .before .before .before .before .before .before .before .before .before .before .before .args .n) (rowMaps (take (c .before .before .before .before .before .before .before .before .before .place .result) (now (c .before .before .before .before .before .before .before .before .before .before .before .before .args .work))) (take (c .before .before .before .before .before .before .before .before .before .before .half-size .result + c .before .before .before .before .before .before .before .place2 .result - c .before .before .before .before .before .before .before .before .before .before .half-size .result) (drop (c .before .before .before .before .before .before .before .before .before .before .half-size .result) (now (c .before .before .before .before .before .before .before .before .before .before .before .before .args .work)))) (c .before .before .before .before .before .before .before .before .before .before .before .before .args .limits .depth) 0 0) (c .pass-over2 .result)
-    (c .before .before .pass-over .ensures) (c .pass-over2 .ensures))
+    (with-each (c .before .before .before .before .before .before .before .before .before .before .before .before .args .redundant) (c .before .before .before .before .before .before .before .before .before .before .before .before .args .m) (rowMaps (take (c .before .before .before .before .before .before .before .before .before .before .half-size .result + c .before .before .before .before .before .before .before .place2 .result - c .before .before .before .before .before .before .before .before .before .before .half-size .result) (drop (c .before .before .before .before .before .before .before .before .before .before .half-size .result) (now (c .before .before .before .before .before .before .before .before .before .before .before .before .args .work)))) (take (c .before .before .before .before .before .before .before .before .before .place .result) (now (c .before .before .before .before .before .before .before .before .before .before .before .before .args .work))) (c .before .before .before .before .before .before .before .before .before .before .before .before .args .limits .depth) 0 0) (c .before .before .mark-redundant .result) (c .before .before .before .before .before .before .before .before .before .before .before .before .args .n) (rowMaps (take (c .before .before .before .before .before .before .before .before .before .place .result) (now (c .before .before .before .before .before .before .before .before .before .before .before .before .args .work))) (take (c .before .before .before .before .before .before .before .before .before .before .half-size .result + c .before .before .before .before .before .before .before .place2 .result - c .before .before .before .before .before .before .before .before .before .before .half-size .result) (drop (c .before .before .before .before .before .before .before .before .before .before .half-size .result) (now (c .before .before .before .before .before .before .before .before .before .before .before .before .args .work)))) (c .before .before .before .before .before .before .before .before .before .before .before .before .args .limits .depth) 0 0) (c .mark-redundant2 .result)
+    (c .before .before .mark-redundant .ensures) (c .mark-redundant2 .ensures))
 
 pub compare-halves-spec : {M : Type 1} → statement M
 compare-halves-spec =
@@ -70,6 +70,6 @@ compare-halves-spec =
     part-high-start
     part-high-end
     fill-links-requires
-    pass-over-requires
-    pass-over-requires-2
+    mark-redundant-requires
+    mark-redundant-requires-2
     returns)

@@ -4,17 +4,17 @@ use native.Mathlib.Omega.{arith}
 use denote.Ref.{now}
 use mathlib.Core.Bool.{true}
 use mathlib.Core.Path.{_∙_, _≡_, subst, sym}
-use Rattle.book_selection.specs.Comparing.{ComparedTo, Lower, undecided}
+use Rattle.book_selection.specs.Comparing.{ComparedTo, LowerHalf, undecided}
 use Rattle.book_selection.proofs.Comparisons.{pair-compared, row-ended, row-skipped}
 use Rattle.book_selection.proofs.compare.compare_rest.Statement.{statement}
 use Rattle.book_selection.proofs.compare.compare_rest.Tie as tie
 
 abbrev Inv-loop : tie.InvT-loop
-Inv-loop book places count limits kept spans covering m a links from passed work₀ word₀ n₀ work word n =
-    (n ≤ m) × ((n < m → undecided covering word m n ≡ true) × (ComparedTo limits book covering m n word × Lower limits book m a links work))
+Inv-loop book places count limits cache spans covering m a links from redundant work₀ word₀ n₀ work word n =
+    (n ≤ m) × ((n < m → undecided covering word m n ≡ true) × (ComparedTo limits book covering m n word × LowerHalf limits book m a links work))
 
 abbrev μ-loop : tie.MeasureT-loop
-μ-loop book places count limits kept spans covering m a links from passed work₀ word₀ n₀ work word n =
+μ-loop book places count limits cache spans covering m a links from redundant work₀ word₀ n₀ work word n =
     m - n
 
 loop-holds : tie.Need-loop-holds Inv-loop μ-loop

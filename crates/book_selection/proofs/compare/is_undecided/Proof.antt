@@ -30,8 +30,8 @@ returns-3 : tie.Need-returns-3
 unfolding undecided
 returns-3 c =
     let covers = sym (c .before .before .before .before .has-card .ensures) ∙ not-false _ (c .before .before .before .if1 .left) in
-    let over = sym (c .before .before .has-card2 .ensures) ∙ not-false _ (c .before .if2 .left) in
-    rw (covers, over, c .has-card3 .ensures)
+    let redundant = sym (c .before .before .has-card2 .ensures) ∙ not-false _ (c .before .if2 .left) in
+    rw (covers, redundant, c .has-card3 .ensures)
 
 pub is-undecided-spec : {M : Type 1} → statement M
 is-undecided-spec =

@@ -9,10 +9,10 @@ use Rattle.book_selection.proofs.compare.next_undecided.Statement.{stat
 use Rattle.book_selection.proofs.compare.next_undecided.Tie as tie
 
 abbrev Inv-loop : tie.InvT-loop
-Inv-loop covering passed m from end n₀ n = ((from ≤ n) × (n ≤ end)) × ((k : ℕ) → from ≤ k → k < n → undecided covering passed m k ≡ false)
+Inv-loop covering redundant m from end n₀ n = ((from ≤ n) × (n ≤ end)) × ((k : ℕ) → from ≤ k → k < n → undecided covering redundant m k ≡ false)
 
 abbrev μ-loop : tie.MeasureT-loop
-μ-loop covering passed m from end n₀ n = end - n
+μ-loop covering redundant m from end n₀ n = end - n
 
 loop-holds : tie.Need-loop-holds Inv-loop μ-loop
 loop-holds c = ((omega arith, c .pre .1 .0), λ k a b. absurd (omega arith))
@@ -38,7 +38,7 @@ loop-again c =
     let none = sym (c .before .is-undecided .ensures) ∙ c .if1 .left in (
       (omega (arith, l .inv .0 .0), omega (arith, c .before .before .loop-test .taken)),
       λ k b e. elim (ℕ-discrete k (l .n)) [
-        | yes s ↦ ap (undecided (a .covering) (a .passed) (a .m)) s ∙ none
+        | yes s ↦ ap (undecided (a .covering) (a .redundant) (a .m)) s ∙ none
         | no u ↦ l .inv .1 k b (omega (arith, u))
       ],
     )

@@ -1,4 +1,4 @@
--- Where 14 is answered yes for all, the cards that were weighed cover the case, and those that are left are the answer.
+-- Where 14 is answered yes for all, the cards that were found subsume the case, and those that are left are the answer.
 use Prim.Native.Nat.{_+_}
 use denote.Ref.{now}
 use native.Mathlib.Omega.{arith}
@@ -8,17 +8,17 @@ use mathlib.Core.List.{_++_}
 use mathlib.Core.Path.{_∙_, ap, refl, subst, sym}
 use Rattle.table.proofs.Stores.{blank}
 use Rattle.workspace.specs.Prepare.{workSize}
-use Rattle.book_tables.specs.Keeping.{KeptWhere}
-use Rattle.most_specific.proofs.Calls.{cleared-part, covering-inside, selected-word, weighed-answer, weighed-is, weighed-refused, weighed-taken}
+use Rattle.book_tables.specs.Cache.{CachedAfter}
+use Rattle.most_specific.proofs.Calls.{cleared-part, covering-inside, selected-word, found-answer, found-is, found-refused, found-taken}
 use borrow.Author.Needs.{needs}
 use Rattle.most_specific.proofs.most_specific.select.Statement.{statement}
 use Rattle.most_specific.proofs.most_specific.select.Tie as tie
 
-slice-aggregate-weigh-book : tie.Need-slice-aggregate-weigh-book
-slice-aggregate-weigh-book c = search needs
+slice-aggregate-find-subsumers : tie.Need-slice-aggregate-find-subsumers
+slice-aggregate-find-subsumers c = search needs
 
-weigh-book-requires : tie.Need-weigh-book-requires
-weigh-book-requires c κs = (c .before .before .before .before .before .pre .0, (c .before .before .before .before .before .pre .1 .0, (c .before .before .before .before .before .pre .1 .1 .0, blank 64 64 refl)))
+find-subsumers-requires : tie.Need-find-subsumers-requires
+find-subsumers-requires c κs = (c .before .before .before .before .before .pre .0, (c .before .before .before .before .before .pre .1 .0, (c .before .before .before .before .before .pre .1 .1 .0, blank 64 64 refl)))
 
 enum-known-covering : tie.Need-enum-known-covering
 enum-known-covering c = search needs
@@ -41,11 +41,11 @@ slice-aggregate-select-cards-2 c = sym (length-take-le (c .before .before .befor
 select-cards-requires : tie.Need-select-cards-requires
 select-cards-requires c κs =
     let lent = length-take-le (c .before .before .before .half-size .result + c .before .before .before .half-size .result) (now (c .before .before .before .before .before .before .before .before .before .before .before .before .before .before .args .work)) (omega (arith, c .before .before .before .half-size .ensures, c .before .before .before .before .before .before .before .before .before .before .before .before .before .before .pre .1 .1 .1)) in
-    let kept = subst (λ r. KeptWhere r (c .before .before .before .before .before .before .before .before .before .before .before .before .before .before .args .limits) (now (c .before .before .before .before .before .before .before .before .before .before .before .before .before .before .args .book)) (c .before .before .before .before .before .before .before .before .weigh-book .last .1 .1 .1 .1 .1 .0) (c .before .before .before .before .before .before .before .before .weigh-book .last .1 .1 .1 .1 .1 .1 .0)) (c .before .before .before .before .before .covering .given .1) (c .before .before .before .before .before .before .before .before .weigh-book .ensures .1) in (
+    let cache = subst (λ r. CachedAfter r (c .before .before .before .before .before .before .before .before .before .before .before .before .before .before .args .limits) (now (c .before .before .before .before .before .before .before .before .before .before .before .before .before .before .args .book)) (c .before .before .before .before .before .before .before .before .find-subsumers .last .1 .1 .1 .1 .1 .0) (c .before .before .before .before .before .before .before .before .find-subsumers .last .1 .1 .1 .1 .1 .1 .0)) (c .before .before .before .before .before .covering .given .1) (c .before .before .before .before .before .before .before .before .find-subsumers .ensures .1) in (
       c .before .before .before .before .before .before .before .before .before .before .before .before .before .before .pre .0,
       (
-        record { taken = weighed-taken (c .before .before .before .before .before .before .before .before .before .before .before .before .before .before .args .limits) (now (c .before .before .before .before .before .before .before .before .before .before .before .before .before .before .args .case)) (now (c .before .before .before .before .before .before .before .before .before .before .before .before .before .before .args .book)) (c .before .before .before .before .before .before .before .before .before .before .before .before .before .before .args .count) (c .before .before .before .before .before .before .before .before .before .before .before .before .before .before .pre .1 .1 .0 .counted) (c .before .before .before .before .before .before .before .before .weigh-book .result) (c .before .before .before .before .before .before .before .before .weigh-book .ensures .0) (c .before .before .before .before .before .covering .given .0 .0) (c .before .before .before .before .before .covering .given .1) (now (c .before .before .before .before .before .before .before .before .before .before .before .before .before .before .args .places)) (c .before .before .before .before .before .before .before .before .before .before .before .before .before .before .pre .1 .1 .0); at = kept .0; kept-are = kept .1 },
-        (covering-inside (c .before .before .before .before .before .before .before .before .before .before .before .before .before .before .args .limits) (now (c .before .before .before .before .before .before .before .before .before .before .before .before .before .before .args .case)) (now (c .before .before .before .before .before .before .before .before .before .before .before .before .before .before .args .book)) (c .before .before .before .before .before .before .before .before .before .before .before .before .before .before .args .count) (c .before .before .before .before .before .covering .given .0 .0) (c .before .before .before .before .before .before .before .before .before .before .before .before .before .before .pre .1 .1 .0 .counted) (weighed-is (c .before .before .before .before .before .before .before .before .before .before .before .before .before .before .args .limits) (now (c .before .before .before .before .before .before .before .before .before .before .before .before .before .before .args .case)) (now (c .before .before .before .before .before .before .before .before .before .before .before .before .before .before .args .book)) (c .before .before .before .before .before .before .before .before .before .before .before .before .before .before .args .count) (c .before .before .before .before .before .before .before .before .before .before .before .before .before .before .pre .1 .1 .0 .counted) (c .before .before .before .before .before .before .before .before .weigh-book .result) (c .before .before .before .before .before .before .before .before .weigh-book .ensures .0) (c .before .before .before .before .before .covering .given .0 .0) (c .before .before .before .before .before .covering .given .1)), lent ∙ omega (arith, c .before .before .before .half-size .ensures)),
+        record { taken = found-taken (c .before .before .before .before .before .before .before .before .before .before .before .before .before .before .args .limits) (now (c .before .before .before .before .before .before .before .before .before .before .before .before .before .before .args .case)) (now (c .before .before .before .before .before .before .before .before .before .before .before .before .before .before .args .book)) (c .before .before .before .before .before .before .before .before .before .before .before .before .before .before .args .count) (c .before .before .before .before .before .before .before .before .before .before .before .before .before .before .pre .1 .1 .0 .counted) (c .before .before .before .before .before .before .before .before .find-subsumers .result) (c .before .before .before .before .before .before .before .before .find-subsumers .ensures .0) (c .before .before .before .before .before .covering .given .0 .0) (c .before .before .before .before .before .covering .given .1) (now (c .before .before .before .before .before .before .before .before .before .before .before .before .before .before .args .places)) (c .before .before .before .before .before .before .before .before .before .before .before .before .before .before .pre .1 .1 .0); at = cache .0; cache-is = cache .1 },
+        (covering-inside (c .before .before .before .before .before .before .before .before .before .before .before .before .before .before .args .limits) (now (c .before .before .before .before .before .before .before .before .before .before .before .before .before .before .args .case)) (now (c .before .before .before .before .before .before .before .before .before .before .before .before .before .before .args .book)) (c .before .before .before .before .before .before .before .before .before .before .before .before .before .before .args .count) (c .before .before .before .before .before .covering .given .0 .0) (c .before .before .before .before .before .before .before .before .before .before .before .before .before .before .pre .1 .1 .0 .counted) (found-is (c .before .before .before .before .before .before .before .before .before .before .before .before .before .before .args .limits) (now (c .before .before .before .before .before .before .before .before .before .before .before .before .before .before .args .case)) (now (c .before .before .before .before .before .before .before .before .before .before .before .before .before .before .args .book)) (c .before .before .before .before .before .before .before .before .before .before .before .before .before .before .args .count) (c .before .before .before .before .before .before .before .before .before .before .before .before .before .before .pre .1 .1 .0 .counted) (c .before .before .before .before .before .before .before .before .find-subsumers .result) (c .before .before .before .before .before .before .before .before .find-subsumers .ensures .0) (c .before .before .before .before .before .covering .given .0 .0) (c .before .before .before .before .before .covering .given .1)), lent ∙ omega (arith, c .before .before .before .half-size .ensures)),
       ),
     )
 
@@ -57,19 +57,19 @@ same-length c = search needs
 
 returns : tie.Need-returns
 returns c = (
-  weighed-answer (c .before .before .before .before .before .before .before .before .before .before .before .before .before .before .before .before .before .args .limits) (now (c .before .before .before .before .before .before .before .before .before .before .before .before .before .before .before .before .before .args .case)) (now (c .before .before .before .before .before .before .before .before .before .before .before .before .before .before .before .before .before .args .book)) (c .before .before .before .before .before .before .before .before .before .before .before .before .before .before .before .before .before .args .count) (c .before .before .before .before .before .before .before .before .before .before .before .before .before .before .before .before .before .pre .1 .1 .0 .counted) (c .before .before .before .before .before .before .before .before .before .before .before .weigh-book .result) (c .before .before .before .before .before .before .before .before .before .before .before .weigh-book .ensures .0) (c .before .before .before .before .before .before .before .before .covering .given .0 .0) (c .before .before .before .before .before .before .before .before .covering .given .1) (c .before .before .select-cards .result) (selected-word (c .before .before .before .before .before .before .before .before .before .before .before .before .before .before .before .before .before .args .limits) (now (c .before .before .before .before .before .before .before .before .before .before .before .before .before .before .before .before .before .args .case)) (now (c .before .before .before .before .before .before .before .before .before .before .before .before .before .before .before .before .before .args .book)) (c .before .before .before .before .before .before .before .before .before .before .before .before .before .before .before .before .before .args .count) (c .before .before .before .before .before .before .before .before .covering .given .0 .0) (c .before .before .before .before .before .before .before .before .before .before .before .before .before .before .before .before .before .pre .1 .1 .0 .counted) (weighed-is (c .before .before .before .before .before .before .before .before .before .before .before .before .before .before .before .before .before .args .limits) (now (c .before .before .before .before .before .before .before .before .before .before .before .before .before .before .before .before .before .args .case)) (now (c .before .before .before .before .before .before .before .before .before .before .before .before .before .before .before .before .before .args .book)) (c .before .before .before .before .before .before .before .before .before .before .before .before .before .before .before .before .before .args .count) (c .before .before .before .before .before .before .before .before .before .before .before .before .before .before .before .before .before .pre .1 .1 .0 .counted) (c .before .before .before .before .before .before .before .before .before .before .before .weigh-book .result) (c .before .before .before .before .before .before .before .before .before .before .before .weigh-book .ensures .0) (c .before .before .before .before .before .before .before .before .covering .given .0 .0) (c .before .before .before .before .before .before .before .before .covering .given .1)) (c .before .before .select-cards .result) (c .before .before .select-cards .ensures .0)),
+  found-answer (c .before .before .before .before .before .before .before .before .before .before .before .before .before .before .before .before .before .args .limits) (now (c .before .before .before .before .before .before .before .before .before .before .before .before .before .before .before .before .before .args .case)) (now (c .before .before .before .before .before .before .before .before .before .before .before .before .before .before .before .before .before .args .book)) (c .before .before .before .before .before .before .before .before .before .before .before .before .before .before .before .before .before .args .count) (c .before .before .before .before .before .before .before .before .before .before .before .before .before .before .before .before .before .pre .1 .1 .0 .counted) (c .before .before .before .before .before .before .before .before .before .before .before .find-subsumers .result) (c .before .before .before .before .before .before .before .before .before .before .before .find-subsumers .ensures .0) (c .before .before .before .before .before .before .before .before .covering .given .0 .0) (c .before .before .before .before .before .before .before .before .covering .given .1) (c .before .before .select-cards .result) (selected-word (c .before .before .before .before .before .before .before .before .before .before .before .before .before .before .before .before .before .args .limits) (now (c .before .before .before .before .before .before .before .before .before .before .before .before .before .before .before .before .before .args .case)) (now (c .before .before .before .before .before .before .before .before .before .before .before .before .before .before .before .before .before .args .book)) (c .before .before .before .before .before .before .before .before .before .before .before .before .before .before .before .before .before .args .count) (c .before .before .before .before .before .before .before .before .covering .given .0 .0) (c .before .before .before .before .before .before .before .before .before .before .before .before .before .before .before .before .before .pre .1 .1 .0 .counted) (found-is (c .before .before .before .before .before .before .before .before .before .before .before .before .before .before .before .before .before .args .limits) (now (c .before .before .before .before .before .before .before .before .before .before .before .before .before .before .before .before .before .args .case)) (now (c .before .before .before .before .before .before .before .before .before .before .before .before .before .before .before .before .before .args .book)) (c .before .before .before .before .before .before .before .before .before .before .before .before .before .before .before .before .before .args .count) (c .before .before .before .before .before .before .before .before .before .before .before .before .before .before .before .before .before .pre .1 .1 .0 .counted) (c .before .before .before .before .before .before .before .before .before .before .before .find-subsumers .result) (c .before .before .before .before .before .before .before .before .before .before .before .find-subsumers .ensures .0) (c .before .before .before .before .before .before .before .before .covering .given .0 .0) (c .before .before .before .before .before .before .before .before .covering .given .1)) (c .before .before .select-cards .result) (c .before .before .select-cards .ensures .0)),
   ap (λ l. l ++ drop (c .before .before .before .before .before .before .half-size .result + c .before .before .before .before .before .before .half-size .result) (now (c .before .before .before .before .before .before .before .before .before .before .before .before .before .before .before .before .before .args .work))) (c .before .before .select-cards .ensures .1) ∙ cleared-part (now (c .before .before .before .before .before .before .before .before .before .before .before .before .before .before .before .before .before .args .work)) (workSize (c .before .before .before .before .before .before .before .before .before .before .before .before .before .before .before .before .before .args .limits)) (c .before .before .before .before .before .before .half-size .result + c .before .before .before .before .before .before .half-size .result) (omega (arith, c .before .before .before .before .before .before .half-size .ensures)),
 )
 
 returns-2 : tie.Need-returns-2
-returns-2 c = (weighed-refused (c .before .before .before .before .before .before .before .before .before .before .args .limits) (now (c .before .before .before .before .before .before .before .before .before .before .args .case)) (now (c .before .before .before .before .before .before .before .before .before .before .args .book)) (c .before .before .before .before .before .before .before .before .before .before .args .count) (c .before .before .before .before .before .before .before .before .before .before .pre .1 .1 .0 .counted) (c .before .before .before .before .weigh-book .result) (c .before .before .before .before .weigh-book .ensures .0) (c .before .refusal .given .0 .0) (c .before .refusal .given .1), refl)
+returns-2 c = (found-refused (c .before .before .before .before .before .before .before .before .before .before .args .limits) (now (c .before .before .before .before .before .before .before .before .before .before .args .case)) (now (c .before .before .before .before .before .before .before .before .before .before .args .book)) (c .before .before .before .before .before .before .before .before .before .before .args .count) (c .before .before .before .before .before .before .before .before .before .before .pre .1 .1 .0 .counted) (c .before .before .before .before .find-subsumers .result) (c .before .before .before .before .find-subsumers .ensures .0) (c .before .refusal .given .0 .0) (c .before .refusal .given .1), refl)
 
 pub select-spec : {M : Type 1} → statement M
 select-spec =
     tie.close
     (tie.spec
-    slice-aggregate-weigh-book
-    weigh-book-requires
+    slice-aggregate-find-subsumers
+    find-subsumers-requires
     enum-known-covering
     half-size-requires
     add-size

@@ -1,9 +1,9 @@
--- Laws of weighing the cards: 14 of each, and whether it covers the case, over the case's table t.
---   weigh-start, weigh-all                      none is weighed; all are
---   weigh-many, weigh-not, weigh-covers         one card more: 14 is answered no; it does not cover the case; it does
---   weigh-fits                                  the word has room for it
---   weigh-no                                    then 14 decides
---   case-many, case-weighed                     14 of the case is answered no; else the table is the case's
+-- Laws of testing the cards: 14 of each, and whether it covers the case, over the case's table t.
+--   test-start, test-all                none is tested; all are
+--   test-many, test-not, test-covers    one card more: 14 is answered no; it does not cover the case; it does
+--   test-fits                           the word has room for it
+--   test-no                             then 14 decides
+--   case-many, case-tested              14 of the case is answered no; else the table is the case's
 use Prim.Native.Nat.{_+_, _<_, _^_, _≤_, ℕ}
 use lib.Dec.{leb}
 use lib.Pow.{pow-mono}
@@ -25,15 +25,15 @@ use Rattle.table.specs.declared.layout.Limits.{Limits}
 use Rattle.book.specs.Call.{andThen, askedFrom, cardMerged, caseMerged, mergedAsked, onAsked}
 use Rattle.book.specs.Form.{card, mostCards}
 use Rattle.book.specs.Selection.{cardWord, caseCovered}
-use Rattle.book_tables.specs.Keeping.{Kept, Shelved}
+use Rattle.book_tables.specs.Cache.{Cached, SubsumersBelow}
 use Rattle.book_tables.specs.Tables.{coversTable}
 use Rattle.book.specs.declared.answer.Asked.{Asked}
 use Rattle.book.specs.declared.answer.Asked.the-variants.{No, Yes}
 use Rattle.book.specs.declared.answer.Selected.{Selected}
 use Rattle.book.specs.declared.answer.Selected.the-variants.{Cards, Refused}
-use Rattle.book_tables.specs.declared.weigh.Shelf.{Shelf}
+use Rattle.book_tables.specs.declared.subsumers.Subsumers.{Subsumers}
 use Rattle.book.proofs.CardWords.{cardWord-below, cardWord-same, cardWord-suc, cardWord-zero}
-use Rattle.book_tables.proofs.Keepings.{none-kept}
+use Rattle.book_tables.proofs.Caches.{none-cached}
 use Rattle.book.proofs.Questions.{from-yes, merged-yes, no-from, yes-from}
 
 -- ---- the cards in turn
@@ -42,20 +42,20 @@ module _ (limits : Limits) (t book : List ℕ) (count : ℕ) where
   abbrev Answer : Selected
   Answer = onAsked (askedFrom (cardMerged limits book) count 0) (cardWord (coversTable limits t book) count)
 
-  pub weigh-start : (kept spans : List ℕ) → Zeros (mostCards + mostCards) spans → Shelved limits t book count kept spans (record { word = 0; at = 0 }) 0
-  weigh-start kept spans blank =
+  pub test-start : (cache spans : List ℕ) → Zeros (mostCards + mostCards) spans → SubsumersBelow limits t book count cache spans (record { word = 0; at = 0 }) 0
+  test-start cache spans blank =
       record {
         most = omega arith;
         few = λ j l. absurd (omega arith);
         word-is = sym (cardWord-zero (coversTable limits t book));
-        kept-are = none-kept limits book kept spans blank;
+        cache-is = none-cached limits book cache spans blank;
       }
 
-  pub weigh-many : (k : ℕ) → leb (mergedCount limits (card book k)) (limits .rows) ≡ false → cardMerged limits book k ≡ No (tooMany (Card k))
+  pub test-many : (k : ℕ) → leb (mergedCount limits (card book k)) (limits .rows) ≡ false → cardMerged limits book k ≡ No (tooMany (Card k))
   unfolding mergedAsked
-  weigh-many k many = rw many
+  test-many k many = rw many
 
-  module _ (kept spans : List ℕ) (shelf : Shelf) (k : ℕ) (so : Shelved limits t book count kept spans shelf k) (l : k < count) where
+  module _ (cache spans : List ℕ) (subsumers : Subsumers) (k : ℕ) (so : SubsumersBelow limits t book count cache spans subsumers k) (l : k < count) where
     module _ (few : mergedCount limits (card book k) ≤ limits .rows) (says : Bool) (u : List ℕ) (is : says ≡ rowMaps t u (limits .depth) 0 0) (table : u ≡ normalFile limits (card book k)) where
       answer : says ≡ coversTable limits t book k
       answer = is ∙ ap (λ (v : List ℕ). rowMaps t v (limits .depth) 0 0) table
@@ -67,37 +67,37 @@ module _ (limits : Limits) (t book : List ℕ) (count : ℕ) where
       ]
 
       -- the word with what the card adds
-      added : (one : ℕ) → one ≡ pick (coversTable limits t book k) (2 ^ k) 0 → shelf .word + one ≡ cardWord (coversTable limits t book) (k + 1)
+      added : (one : ℕ) → one ≡ pick (coversTable limits t book k) (2 ^ k) 0 → subsumers .word + one ≡ cardWord (coversTable limits t book) (k + 1)
       added one e = ap (λ (n : ℕ). n + one) (so .word-is) ∙ ap (λ (n : ℕ). cardWord (coversTable limits t book) k + n) e ∙ sym (cardWord-suc (coversTable limits t book) k)
 
-      pub weigh-not : says ≡ false → Shelved limits t book count kept spans shelf (k + 1)
-      weigh-not said =
+      pub test-not : says ≡ false → SubsumersBelow limits t book count cache spans subsumers (k + 1)
+      test-not said =
           let none : 0 ≡ pick (coversTable limits t book k) (2 ^ k) 0 = sym (ap (λ (b : Bool). pick b (2 ^ k) 0) (sym answer ∙ said)) in
           record {
             most = omega arith;
             few = all-few;
             word-is = omega (arith, added 0 none);
-            kept-are = so .kept-are;
+            cache-is = so .cache-is;
           }
 
       module _ (said : says ≡ true) (one : ℕ) (bit : one ≡ 2 ^ k) where
-        more : shelf .word + one ≡ cardWord (coversTable limits t book) (k + 1)
+        more : subsumers .word + one ≡ cardWord (coversTable limits t book) (k + 1)
         more = added one (bit ∙ sym (ap (λ (b : Bool). pick b (2 ^ k) 0) (sym answer ∙ said)))
 
-        pub weigh-fits : count ≤ mostCards → shelf .word + one < 2 ^ mostCards
-        weigh-fits most =
+        pub test-fits : count ≤ mostCards → subsumers .word + one < 2 ^ mostCards
+        test-fits most =
             let wide : 2 ^ (k + 1) ≤ 2 ^ mostCards = pow-mono {j = mostCards} (omega arith) in
             omega (arith, more, cardWord-below (coversTable limits t book) (k + 1), wide)
 
-        pub weigh-covers : (kept₂ spans₂ : List ℕ) (at : ℕ) → Kept limits book kept₂ spans₂ at →
-            Shelved limits t book count kept₂ spans₂ (record { word = shelf .word + one; at = at }) (k + 1)
-        weigh-covers kept₂ spans₂ at there = record { most = omega arith; few = all-few; word-is = more; kept-are = there }
+        pub test-covers : (cache₂ spans₂ : List ℕ) (at : ℕ) → Cached limits book cache₂ spans₂ at →
+            SubsumersBelow limits t book count cache₂ spans₂ (record { word = subsumers .word + one; at = at }) (k + 1)
+        test-covers cache₂ spans₂ at there = record { most = omega arith; few = all-few; word-is = more; cache-is = there }
 
-    pub weigh-no : (r : Refusal) → cardMerged limits book k ≡ No r → Refused r ≡ Answer
-    weigh-no r stopped = sym (rw (no-from (cardMerged limits book) count 0 r k (omega arith) (omega arith) stopped (λ i a b. so .few i b)))
+    pub test-no : (r : Refusal) → cardMerged limits book k ≡ No r → Refused r ≡ Answer
+    test-no r stopped = sym (rw (no-from (cardMerged limits book) count 0 r k (omega arith) (omega arith) stopped (λ i a b. so .few i b)))
 
-  pub weigh-all : (kept spans : List ℕ) (shelf : Shelf) (k : ℕ) → Shelved limits t book count kept spans shelf k → count ≤ k → Cards (shelf .word) ≡ Answer
-  weigh-all kept spans shelf k so done =
+  pub test-all : (cache spans : List ℕ) (subsumers : Subsumers) (k : ℕ) → SubsumersBelow limits t book count cache spans subsumers k → count ≤ k → Cards (subsumers .word) ≡ Answer
+  test-all cache spans subsumers k so done =
       let end : k ≡ count = omega (arith, so .most) in
       let all = yes-from (cardMerged limits book) count 0 (λ j a b. so .few j (omega arith)) in
       ap Cards (so .word-is ∙ ap (cardWord (coversTable limits t book)) end) ∙ sym (rw all)
@@ -121,9 +121,9 @@ module _ (limits : Limits) (case book : List ℕ) (count : ℕ) where
       (merged-yes limits (Card k) (card book k) .0 (from-yes (cardMerged limits book) count 0 e k (omega arith) (omega arith)))))
   by-cards bounded few (No r) e = refl
 
-  pub case-weighed : Bounded limits → mergedCount limits case ≤ limits .rows → (t : List ℕ) → t ≡ normalFile limits case → (r : Selected) →
+  pub case-tested : Bounded limits → mergedCount limits case ≤ limits .rows → (t : List ℕ) → t ≡ normalFile limits case → (r : Selected) →
       r ≡ onAsked (askedFrom (cardMerged limits book) count 0) (cardWord (coversTable limits t book) count) → r ≡ Both
-  case-weighed bounded few t table r is =
+  case-tested bounded few t table r is =
       is
       ∙ ap (λ (u : List ℕ). onAsked (askedFrom (cardMerged limits book) count 0) (cardWord (coversTable limits u book) count)) table
       ∙ by-cards bounded few (askedFrom (cardMerged limits book) count 0) refl

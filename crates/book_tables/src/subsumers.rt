@@ -1,11 +1,11 @@
 // Which cards cover the case. 14 is asked of the case and of each card in turn; nothing that the caller lent is written before all are answered yes, so the
-// tables stand in arrays of the call's own. Those of covering cards are kept there as long as they fit, so that they need not be made again.
+// tables stand in arrays of the call's own. Those of covering cards are cached there as long as they fit, so that they need not be made again.
+use crate::cache::SPANS;
+use crate::cache::TABLE;
+use crate::cache::store;
 use crate::covering::table_covers;
 use crate::covering::tabulate;
 use crate::covering::tabulate_card;
-use crate::kept::SPANS;
-use crate::kept::TABLE;
-use crate::kept::keep;
 use book::answer::Selected;
 use book_form::form::PLACES;
 use book_form::word::bit;
@@ -29,16 +29,16 @@ ghost use Rattle.book.specs.Call.{andThen, askedFrom, cardMerged, caseMerged, o
 ghost use Rattle.book.specs.Form.{mostCards};
 ghost use Rattle.book.specs.Selection.{cardWord, caseCovered};
 ghost use Rattle.book_tables.specs.Tables.{CardsRead, coversTable};
-ghost use Rattle.book_tables.specs.Keeping.{KeptWhere, Shelved, WeighedTo};
+ghost use Rattle.book_tables.specs.Cache.{CachedAfter, SubsumersBelow, TestedTo};
 
-// The cards weighed so far that cover the case, and where the tables kept of them end.
-pub struct Shelf {
+// Of the cards tested so far those that subsume the case, and where the tables cached of them end.
+pub struct Subsumers {
     pub word: u32,
     pub at: usize,
 }
 
-pub enum Weighed {
-    Shelf(Shelf),
+pub enum Tested {
+    Passed(Subsumers),
     Refused(Refusal),
 }
 
@@ -60,8 +60,8 @@ fn covers_case(
     table_covers(table, n, links, other, m, &others, limits.depth)
 }
 
-// 14 of card k, and whether it covers the case; its table is kept then, if it fits.
-fn weigh(
+// 14 of card k, and whether it covers the case; its table is cached then, if it fits.
+fn test_card(
     book: &[u8],
     places: &[usize; PLACES],
     count: usize,
@@ -70,34 +70,34 @@ fn weigh(
     table: &[u8],
     n: usize,
     links: &[u8; LINKS],
-    shelf: Shelf,
+    subsumers: Subsumers,
     scratch: &mut [u8],
-    kept: &mut [u8],
+    cache: &mut [u8],
     spans: &mut [usize; SPANS],
-) -> Weighed
-    requires { ⌜ (Bounded limits) × ((CardsRead limits (now book) (now places) count) × ((k < count) × ((LinkedTable (now table) n (now links)) × ((pictureSize limits ≤ length (now scratch)) × (Shelved limits (now table) (now book) count (now kept) (now spans) shelf k))))) ⌝ }
-    ensures { λ r. ⌜ (WeighedTo limits (now (table .entry)) (now (book .entry)) count (now (kept .exit)) (now (spans .exit)) k r) × ((length (now (scratch .exit)) ≡ length (now (scratch .entry))) × (length (now (kept .exit)) ≡ length (now (kept .entry)))) ⌝ }
+) -> Tested
+    requires { ⌜ (Bounded limits) × ((CardsRead limits (now book) (now places) count) × ((k < count) × ((LinkedTable (now table) n (now links)) × ((pictureSize limits ≤ length (now scratch)) × (SubsumersBelow limits (now table) (now book) count (now cache) (now spans) subsumers k))))) ⌝ }
+    ensures { λ r. ⌜ (TestedTo limits (now (table .entry)) (now (book .entry)) count (now (cache .exit)) (now (spans .exit)) k r) × ((length (now (scratch .exit)) ≡ length (now (scratch .entry))) × (length (now (cache .exit)) ≡ length (now (cache .entry)))) ⌝ }
 {
     let m = tabulate_card(book, places, count, k, limits, scratch);
     if m == 0 {
-        return Weighed::Refused(Refusal {
+        return Tested::Refused(Refusal {
             number: 14,
             input: Input::Card(k as u8),
         });
     }
     if !covers_case(scratch, m, limits, table, n, links) {
-        return Weighed::Shelf(shelf);
+        return Tested::Passed(subsumers);
     }
-    let at = shelf.at;
-    let end = keep(scratch, m, k, at, kept, spans);
-    Weighed::Shelf(Shelf {
-        word: shelf.word + bit(k),
+    let at = subsumers.at;
+    let end = store(scratch, m, k, at, cache, spans);
+    Tested::Passed(Subsumers {
+        word: subsumers.word + bit(k),
         at: end,
     })
 }
 
 // Every card in turn.
-fn weigh_cards(
+fn test_cards(
     book: &[u8],
     places: &[usize; PLACES],
     count: usize,
@@ -105,17 +105,17 @@ fn weigh_cards(
     table: &[u8],
     n: usize,
     links: &[u8; LINKS],
-    kept: &mut [u8],
+    cache: &mut [u8],
     spans: &mut [usize; SPANS],
 ) -> Selected
     requires { ⌜ (Bounded limits) × ((CardsRead limits (now book) (now places) count) × ((LinkedTable (now table) n (now links)) × (Zeros (mostCards + mostCards) (now spans)))) ⌝ }
-    ensures { λ r. ⌜ (r ≡ onAsked (askedFrom (cardMerged limits (now (book .entry))) count 0) (cardWord (coversTable limits (now (table .entry)) (now (book .entry))) count)) × (KeptWhere r limits (now (book .entry)) (now (kept .exit)) (now (spans .exit))) ⌝ }
+    ensures { λ r. ⌜ (r ≡ onAsked (askedFrom (cardMerged limits (now (book .entry))) count 0) (cardWord (coversTable limits (now (table .entry)) (now (book .entry))) count)) × (CachedAfter r limits (now (book .entry)) (now (cache .exit)) (now (spans .exit))) ⌝ }
 {
     let mut scratch = [0u8; TABLE];
-    let mut shelf = Shelf { word: 0, at: 0 };
+    let mut subsumers = Subsumers { word: 0, at: 0 };
     let mut k = 0;
     while k < count {
-        match weigh(
+        match test_card(
             book,
             places,
             count,
@@ -124,35 +124,35 @@ fn weigh_cards(
             table,
             n,
             links,
-            shelf,
+            subsumers,
             &mut scratch,
-            kept,
+            cache,
             spans,
         ) {
-            Weighed::Shelf(next) => {
-                shelf = next;
+            Tested::Passed(next) => {
+                subsumers = next;
                 k += 1;
             }
-            Weighed::Refused(refusal) => {
+            Tested::Refused(refusal) => {
                 return Selected::Refused(refusal);
             }
         }
     }
-    Selected::Cards(shelf.word)
+    Selected::Cards(subsumers.word)
 }
 
-// 14 of the case, then of each card; the cards that cover the case, and what is kept of their tables.
-pub fn weigh_book(
+// 14 of the case, then of each card; the cards that cover the case, and their tables, as many as fit.
+pub fn find_subsumers(
     case: &[u8],
     book: &[u8],
     places: &[usize; PLACES],
     count: usize,
     limits: Limits,
-    kept: &mut [u8],
+    cache: &mut [u8],
     spans: &mut [usize; SPANS],
 ) -> Selected
     requires { ⌜ (Bounded limits) × ((Readable limits (now case)) × ((CardsRead limits (now book) (now places) count) × (Zeros (mostCards + mostCards) (now spans)))) ⌝ }
-    ensures { λ r. ⌜ (r ≡ onAsked (andThen (caseMerged limits (now (case .entry))) (askedFrom (cardMerged limits (now (book .entry))) count 0)) (cardWord (caseCovered limits (now (case .entry)) (now (book .entry))) count)) × (KeptWhere r limits (now (book .entry)) (now (kept .exit)) (now (spans .exit))) ⌝ }
+    ensures { λ r. ⌜ (r ≡ onAsked (andThen (caseMerged limits (now (case .entry))) (askedFrom (cardMerged limits (now (book .entry))) count 0)) (cardWord (caseCovered limits (now (case .entry)) (now (book .entry))) count)) × (CachedAfter r limits (now (book .entry)) (now (cache .exit)) (now (spans .exit))) ⌝ }
 {
     let mut scratch = [0u8; TABLE];
     let n = tabulate(case, limits, &mut scratch);
@@ -165,5 +165,5 @@ pub fn weigh_book(
     let table = &scratch[..place(n, END_SIZE)];
     let mut links = [0u8; LINKS];
     fill_links(table, n, &mut links);
-    weigh_cards(book, places, count, limits, table, n, &links, kept, spans)
+    test_cards(book, places, count, limits, table, n, &links, cache, spans)
 }

@@ -9,8 +9,8 @@ use Rattle.table.proofs.Stores.{blank}
 use Rattle.row_sets.specs.Rows.{Checked}
 use Rattle.homomorphism_search.specs.Search.{rowMaps}
 use borrow.Author.Needs.{needs}
-use Rattle.book_tables.proofs.weigh.covers_case.Statement.{statement}
-use Rattle.book_tables.proofs.weigh.covers_case.Tie as tie
+use Rattle.book_tables.proofs.subsumers.covers_case.Statement.{statement}
+use Rattle.book_tables.proofs.subsumers.covers_case.Tie as tie
 
 place-requires : tie.Need-place-requires
 place-requires c κs = search needs

@@ -1,4 +1,4 @@
--- The table is copied after those that are kept; if it does not fit, nothing changes.
+-- The table is copied after those that are cached; if it does not fit, nothing changes.
 use native.Mathlib.Omega.{arith}
 use denote.Ref.{now}
 use lib.ListN.{take}
@@ -6,10 +6,10 @@ use lib.Seq.{length-take-le}
 use mathlib.Core.Path.{_∙_, ap, refl, sym}
 use lib.ListN.{length}
 use Rattle.table.proofs.Puts.{length-put}
-use Rattle.book_tables.proofs.Keepings.{keep-more}
+use Rattle.book_tables.proofs.Caches.{cached-more}
 use borrow.Author.Needs.{needs}
-use Rattle.book_tables.proofs.kept.keep.Statement.{statement}
-use Rattle.book_tables.proofs.kept.keep.Tie as tie
+use Rattle.book_tables.proofs.cache.store.Statement.{statement}
+use Rattle.book_tables.proofs.cache.store.Tie as tie
 
 place-requires : tie.Need-place-requires
 place-requires c κs = search needs
@@ -18,7 +18,7 @@ sub-if1 : tie.Need-sub-if1
 sub-if1 c = search needs
 
 returns : tie.Need-returns
-returns c = ((λ limits book so made. so), refl)
+returns c = ((λ limits book so table. so), refl)
 
 slice-aggregate-copy-in : tie.Need-slice-aggregate-copy-in
 slice-aggregate-copy-in c = sym (length-take-le (c .before .before .before .place .result) (now (c .before .before .before .before .before .before .args .scratch)) (omega (arith, c .before .before .before .place .ensures, c .before .before .before .before .before .before .pre .1 .0)))
@@ -51,14 +51,14 @@ returns-2 : tie.Need-returns-2
 returns-2 c =
     let long = (length-take-le (c .before .before .before .before .before .before .place .result) (now (c .before .before .before .before .before .before .before .before .before .args .scratch)) (omega (arith, c .before .before .before .before .before .before .place .ensures, c .before .before .before .before .before .before .before .before .before .pre .1 .0))) in
     let put-there = c .before .before .copy-in .ensures in (
-      (λ limits book so made.
-          keep-more limits book (now (c .before .before .before .before .before .before .before .before .before .args .kept)) (now (c .before .before .before .before .before .before .before .before .before .args .spans)) (c .before .before .before .before .before .before .before .before .before .args .at) so (now (c .before .before .before .before .before .before .before .before .before .args .scratch)) (c .before .before .before .before .before .before .before .before .before .args .m) (c .before .before .before .before .before .before .before .before .before .args .k) (c .before .before .before .before .before .before .place .result) (c .before .before .copy-in .last .0) (c .before .before .before .before .before .before .before .before .before .pre .1 .1 .0) made (c .before .before .before .before .before .before .place .ensures)
+      (λ limits book so table.
+          cached-more limits book (now (c .before .before .before .before .before .before .before .before .before .args .cache)) (now (c .before .before .before .before .before .before .before .before .before .args .spans)) (c .before .before .before .before .before .before .before .before .before .args .at) so (now (c .before .before .before .before .before .before .before .before .before .args .scratch)) (c .before .before .before .before .before .before .before .before .before .args .m) (c .before .before .before .before .before .before .before .before .before .args .k) (c .before .before .before .before .before .before .place .result) (c .before .before .copy-in .last .0) (c .before .before .before .before .before .before .before .before .before .pre .1 .1 .0) table (c .before .before .before .before .before .before .place .ensures)
           (omega (arith, c .before .before .before .before .before .before .place .ensures, c .before .before .before .before .before .before .before .before .before .pre .1 .0)) (omega (arith, c .before .before .before .before .before .if1 .left, c .before .before .before .before .before .before .before .before .before .pre .1 .1 .1 .0)) put-there),
-      ap length put-there ∙ length-put (now (c .before .before .before .before .before .before .before .before .before .args .kept)) (c .before .before .before .before .before .before .before .before .before .args .at) (take (c .before .before .before .before .before .before .place .result) (now (c .before .before .before .before .before .before .before .before .before .args .scratch))) (omega (arith, long, c .before .before .before .before .before .if1 .left, c .before .before .before .before .before .before .before .before .before .pre .1 .1 .1 .0)),
+      ap length put-there ∙ length-put (now (c .before .before .before .before .before .before .before .before .before .args .cache)) (c .before .before .before .before .before .before .before .before .before .args .at) (take (c .before .before .before .before .before .before .place .result) (now (c .before .before .before .before .before .before .before .before .before .args .scratch))) (omega (arith, long, c .before .before .before .before .before .if1 .left, c .before .before .before .before .before .before .before .before .before .pre .1 .1 .1 .0)),
     )
 
-pub keep-spec : {M : Type 1} → statement M
-keep-spec =
+pub store-spec : {M : Type 1} → statement M
+store-spec =
     tie.close
     (tie.spec
     place-requires

@@ -1,0 +1,74 @@
+-- At the loop's head the cards below k are tested.
+use Prim.Native.Nat.{_-_}
+use native.Mathlib.Omega.{arith}
+use borrow.Author.Needs.{needs}
+use denote.Ref.{now}
+use lib.ListN.{length}
+use mathlib.Core.Path.{_∙_, _≡_, refl, subst, sym}
+use Rattle.book_tables.specs.Cache.{SubsumersBelow, TestedTo}
+use Rattle.book_tables.proofs.CardTests.{test-all, test-no, test-start}
+use Rattle.book_tables.proofs.subsumers.test_cards.Statement.{statement}
+use Rattle.book_tables.proofs.subsumers.test_cards.Tie as tie
+
+abbrev Inv-loop : tie.InvT-loop
+Inv-loop book places count limits table n links cache₀ spans₀ scratch₀ subsumers₀ k₀ cache spans scratch subsumers k =
+    (length scratch ≡ 6147) × ((length cache ≡ length cache₀) × SubsumersBelow limits table book count cache spans subsumers k)
+
+abbrev μ-loop : tie.MeasureT-loop
+μ-loop book places count limits table n links cache₀ spans₀ scratch₀ subsumers₀ k₀ cache spans scratch subsumers k =
+    count - k
+
+loop-holds : tie.Need-loop-holds Inv-loop μ-loop
+loop-holds c = (refl, (refl, test-start (c .before .before .before .args .limits) (now (c .before .before .before .args .table)) (now (c .before .before .before .args .book)) (c .before .before .before .args .count) (now (c .before .before .before .args .cache)) (now (c .before .before .before .args .spans)) (c .before .before .before .pre .1 .1 .1)))
+
+slice-aggregate-test-card : tie.Need-slice-aggregate-test-card Inv-loop μ-loop
+slice-aggregate-test-card c = sym (c .before .before .loop .inv .0)
+
+test-card-requires : tie.Need-test-card-requires Inv-loop μ-loop
+test-card-requires c κs = (c .before .before .before .before .before .before .before .before .pre .0, (c .before .before .before .before .before .before .before .before .pre .1 .0, (c .before .before .before .loop-test .taken, (c .before .before .before .before .before .before .before .before .pre .1 .1 .0, (omega (arith, c .before .before .before .before .before .before .before .before .pre .0 .0, c .before .before .before .before .loop .inv .0), c .before .before .before .before .loop .inv .1 .1)))))
+
+enum-known-next : tie.Need-enum-known-next Inv-loop μ-loop
+enum-known-next c = search needs
+
+add-k : tie.Need-add-k Inv-loop μ-loop
+add-k c = omega (arith, c .before .before .before .before .before .before .before .before .before .before .loop-test .taken, c .before .before .before .before .before .before .before .before .before .before .before .before .before .before .before .pre .1 .0 .places-are .most)
+
+loop-less : tie.Need-loop-less Inv-loop μ-loop
+loop-less c = omega (arith, c .before .before .before .before .before .before .before .before .before .before .loop-test .taken)
+
+loop-again : tie.Need-loop-again Inv-loop μ-loop
+loop-again c = (c .before .before .before .before .before .before .test-card .ensures .1 .0 ∙ c .before .before .before .before .before .before .before .before .before .before .before .loop .inv .0, (c .before .before .before .before .before .before .test-card .ensures .1 .1 ∙ c .before .before .before .before .before .before .before .before .before .before .before .loop .inv .1 .0, subst (λ r. TestedTo (c .before .before .before .before .before .before .before .before .before .before .before .before .before .before .before .args .limits) (now (c .before .before .before .before .before .before .before .before .before .before .before .before .before .before .before .args .table)) (now (c .before .before .before .before .before .before .before .before .before .before .before .before .before .before .before .args .book)) (c .before .before .before .before .before .before .before .before .before .before .before .before .before .before .before .args .count) (c .before .before .before .before .before .before .test-card .last .1 .1 .1 .1 .1 .1 .1 .1 .1 .1 .0) (c .before .before .before .before .before .before .test-card .last .1 .1 .1 .1 .1 .1 .1 .1 .1 .1 .1 .0) (c .before .before .before .before .before .before .before .before .before .before .before .loop .k) r) (c .before .next .given .1) (c .before .before .before .before .before .before .test-card .ensures .0)))
+
+enum-known-refusal : tie.Need-enum-known-refusal Inv-loop μ-loop
+enum-known-refusal c = search needs
+
+same-length : tie.Need-same-length Inv-loop μ-loop
+same-length c = c .before .before .before .before .before .before .test-card .ensures .1 .1 ∙ c .before .before .before .before .before .before .before .before .before .before .before .loop .inv .1 .0
+
+returns : tie.Need-returns Inv-loop μ-loop
+returns c = (test-no (c .before .before .before .before .before .before .before .before .before .before .before .before .before .before .before .args .limits) (now (c .before .before .before .before .before .before .before .before .before .before .before .before .before .before .before .args .table)) (now (c .before .before .before .before .before .before .before .before .before .before .before .before .before .before .before .args .book)) (c .before .before .before .before .before .before .before .before .before .before .before .before .before .before .before .args .count) (c .before .before .before .before .before .before .before .before .before .before .before .loop .cache) (c .before .before .before .before .before .before .before .before .before .before .before .loop .spans) (c .before .before .before .before .before .before .before .before .before .before .before .loop .subsumers) (c .before .before .before .before .before .before .before .before .before .before .before .loop .k) (c .before .before .before .before .before .before .before .before .before .before .before .loop .inv .1 .1) (c .before .before .before .before .before .before .before .before .before .before .loop-test .taken) (c .before .refusal .given .0 .0) (subst (λ r. TestedTo (c .before .before .before .before .before .before .before .before .before .before .before .before .before .before .before .args .limits) (now (c .before .before .before .before .before .before .before .before .before .before .before .before .before .before .before .args .table)) (now (c .before .before .before .before .before .before .before .before .before .before .before .before .before .before .before .args .book)) (c .before .before .before .before .before .before .before .before .before .before .before .before .before .before .before .args .count) (c .before .before .before .before .before .before .test-card .last .1 .1 .1 .1 .1 .1 .1 .1 .1 .1 .0) (c .before .before .before .before .before .before .test-card .last .1 .1 .1 .1 .1 .1 .1 .1 .1 .1 .1 .0) (c .before .before .before .before .before .before .before .before .before .before .before .loop .k) r) (c .before .refusal .given .1) (c .before .before .before .before .before .before .test-card .ensures .0)), tt)
+
+same-length-2 : tie.Need-same-length-2 Inv-loop μ-loop
+same-length-2 c = c .before .loop .inv .1 .0
+
+returns-2 : tie.Need-returns-2 Inv-loop μ-loop
+returns-2 c = (test-all (c .before .before .before .before .before .args .limits) (now (c .before .before .before .before .before .args .table)) (now (c .before .before .before .before .before .args .book)) (c .before .before .before .before .before .args .count) (c .before .loop .cache) (c .before .loop .spans) (c .before .loop .subsumers) (c .before .loop .k) (c .before .loop .inv .1 .1) (c .loop-test .left), (c .before .loop .subsumers .at, c .before .loop .inv .1 .1 .cache-is))
+
+pub test-cards-spec : {M : Type 1} → statement M
+test-cards-spec =
+    tie.close
+    (tie.spec
+    Inv-loop
+    μ-loop
+    loop-holds
+    slice-aggregate-test-card
+    test-card-requires
+    enum-known-next
+    add-k
+    loop-less
+    loop-again
+    enum-known-refusal
+    same-length
+    returns
+    same-length-2
+    returns-2)

@@ -1,0 +1,70 @@
+// A cache of the tables of covering cards, one after the other in an array of the call's own, so that they are copied and not made again.
+use crate::covering::tabulate_card;
+use book_form::form::MAX_CARDS;
+use book_form::form::PLACES;
+use normalize::normalize::SCRATCH;
+use table::layout::END_SIZE;
+use table::layout::Limits;
+use table::layout::place;
+use table::number::copy_in;
+ghost use mathlib.Core.List.{List};
+ghost use mathlib.Core.Path.{_≡_};
+ghost use Prim.Native.Nat.{ℕ, _+_, _≤_, _<_};
+ghost use lib.ListN.{length};
+ghost use Rattle.table.specs.Bounds.{Bounded, maxRows, pictureSize};
+ghost use Rattle.table.specs.Layout.{endSize, «place»};
+ghost use Rattle.table.specs.declared.layout.Limits.{Limits};
+ghost use Rattle.book.specs.Form.{card, mostCards};
+ghost use Rattle.book_tables.specs.Cache.{Cached, TableAt, CardsCached};
+ghost use Rattle.book_tables.specs.Tables.{Tabled};
+
+// As many bytes as the longest table takes; the cache has as many.
+pub const TABLE: usize = SCRATCH + END_SIZE;
+
+// For each card where its table begins, and then for each card its rows; 0 if it is not cached.
+pub const SPANS: usize = 2 * MAX_CARDS;
+
+// Stores the table of card k, of m rows, if it fits after those that end at a place; the place where all end then.
+pub fn store(
+    scratch: &[u8],
+    m: usize,
+    k: usize,
+    at: usize,
+    cache: &mut [u8],
+    spans: &mut [usize; SPANS],
+) -> usize
+    requires { ⌜ (m ≤ maxRows) × ((«place» m endSize ≤ length (now scratch)) × ((k < mostCards) × ((at ≤ length (now cache)) × (length (now spans) ≡ mostCards + mostCards)))) ⌝ }
+    ensures { λ r. ⌜ ((limits : Limits) (book : List ℕ) → Cached limits book (now (cache .entry)) (now (spans .entry)) at → TableAt limits (card book k) (now (scratch .entry)) m → Cached limits book (now (cache .exit)) (now (spans .exit)) r) × (length (now (cache .exit)) ≡ length (now (cache .entry))) ⌝ }
+{
+    let size = place(m, END_SIZE);
+    if cache.len() - at < size {
+        return at;
+    }
+    copy_in(cache, at, &scratch[..size]);
+    spans[k] = at;
+    spans[MAX_CARDS + k] = m;
+    at + size
+}
+
+// The table of card k, copied if it is cached and else made, at the start of a lent part; its rows.
+pub fn load(
+    book: &[u8],
+    places: &[usize; PLACES],
+    count: usize,
+    k: usize,
+    limits: Limits,
+    cache: &[u8],
+    spans: &[usize; SPANS],
+    out: &mut [u8],
+) -> usize
+    requires { ⌜ (Bounded limits) × ((CardsCached limits (now book) (now places) count (now cache) (now spans)) × ((k < count) × (pictureSize limits ≤ length (now out)))) ⌝ }
+    ensures { λ r. ⌜ Tabled limits (card (now (book .entry)) k) (now (out .entry)) r (now (out .exit)) ⌝ }
+{
+    let m = spans[MAX_CARDS + k];
+    if m == 0 {
+        return tabulate_card(book, places, count, k, limits, out);
+    }
+    let start = spans[k];
+    copy_in(out, 0, &cache[start..start + place(m, END_SIZE)]);
+    m
+}
