@@ -1,4 +1,4 @@
-// Pictures, good or not. Each function gives the place after what it wrote; those that go byte by byte write nothing where
+// Pictures, as bytes. Each function gives the place after what it wrote; those that go byte by byte write nothing where
 // there is no room.
 use table::layout::END_SIZE;
 use table::layout::END_TAG;
@@ -8,19 +8,9 @@ use table::layout::KIND_ROOT;
 use table::layout::ROW_LENGTH;
 use table::layout::ROW_SIZE;
 use table::layout::ROW_TAG;
-use table::names::Names;
 use table::number::copy_in;
-use table::row::Row;
-use table_rows::builder::Builder;
 ghost use Prim.Native.Nat.{_≤_};
 ghost use lib.ListN.{length};
-ghost use Rattle.table.specs.Layout.{«place», endSize};
-
-pub fn set(out: &mut [u8], at: usize, value: u8) {
-    if at < out.len() {
-        out[at] = value;
-    }
-}
 
 // A row whose wanted names are among names 0 to 7.
 pub fn row(out: &mut [u8], at: usize, parent: usize, kind: u8, role: u8, wanted: u8) -> usize
@@ -133,25 +123,3 @@ pub fn nested(out: &mut [u8], depth: u8) -> usize
     at
 }
 
-fn plain(parent: usize, kind: u8, role: u8) -> Row {
-    Row {
-        parent,
-        kind,
-        role,
-        impossible: 0,
-        wanted: Names::none(),
-        excluded: Names::none(),
-    }
-}
-
-// Three rows: a root, a some-successor, and an all-successor of that.
-pub fn small(out: &mut [u8]) -> usize
-    requires { ⌜ «place» 3 endSize ≤ length (now out) ⌝ }
-    ensures { λ r. ⌜ r ≤ length (now (out .exit)) ⌝ }
-{
-    let none = Builder::new();
-    let one = none.push(out, plain(0, KIND_ROOT, 0));
-    let two = one.push(out, plain(0, KIND_EXISTS, 8));
-    let three = two.push(out, plain(1, KIND_FOR_ALL, 9));
-    three.finish(out)
-}

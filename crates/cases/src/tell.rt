@@ -82,12 +82,6 @@ pub fn tell(label: &[u8], s: &[u8], n: usize) {
     tell_first(s, n);
 }
 
-pub fn tell_cut(s: &[u8], n: usize) {
-    io::write_all(STDOUT_FILENO, b"cut at ");
-    io::print_decimal(STDOUT_FILENO, n as u64);
-    tell_first(s, n);
-}
-
 fn tell_normalized(s: &[u8], out: &mut [u8]) {
     match normalize(s, Limits::bench(), out) {
         Normalized::Length(n) => {
@@ -117,14 +111,6 @@ pub fn tell_nested(depth: u8, s: &[u8], n: usize) {
     let mut out = [0u8; RESULT];
     io::write_all(STDOUT_FILENO, b"normal table of 003, Example 26, depth ");
     io::print_decimal(STDOUT_FILENO, depth as u64);
-    tell_first_normal(s, n, &mut out);
-}
-
-// With a result buffer that is a byte too short.
-pub fn tell_short(label: &[u8], s: &[u8], n: usize) {
-    let mut out = [0u8; RESULT - 1];
-    io::write_all(STDOUT_FILENO, b"normal table, into 6146 bytes, of ");
-    io::write_all(STDOUT_FILENO, label);
     tell_first_normal(s, n, &mut out);
 }
 

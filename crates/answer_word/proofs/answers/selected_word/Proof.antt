@@ -1,0 +1,39 @@
+-- The arm that was taken says which answer it is.
+use mathlib.Core.Path.{_∙_, ap, sym}
+use Rattle.interface.specs.Word.{selectedWord}
+use borrow.Author.Needs.{needs}
+use Rattle.answer_word.proofs.answers.selected_word.Statement.{statement}
+use Rattle.answer_word.proofs.answers.selected_word.Tie as tie
+
+enum-known-answer : tie.Need-enum-known-answer
+enum-known-answer c = search needs
+
+cast-value-word : tie.Need-cast-value-word
+cast-value-word c = search needs
+
+value-word-requires : tie.Need-value-word-requires
+value-word-requires c κs = search needs
+
+enum-known-answer-2 : tie.Need-enum-known-answer-2
+enum-known-answer-2 c = search needs
+
+refusal-word-requires : tie.Need-refusal-word-requires
+refusal-word-requires c κs = search needs
+
+returns : tie.Need-returns
+returns c = c .value-word .ensures ∙ ap selectedWord (sym (c .before .before .answer .given .1))
+
+returns-2 : tie.Need-returns-2
+returns-2 c = c .refusal-word .ensures ∙ ap selectedWord (sym (c .before .before .answer2 .given .1))
+
+pub selected-word-spec : {M : Type 1} → statement M
+selected-word-spec =
+    tie.close
+    (tie.spec
+    enum-known-answer
+    cast-value-word
+    value-word-requires
+    enum-known-answer-2
+    refusal-word-requires
+    returns
+    returns-2)
