@@ -3,7 +3,6 @@
 --   has-selected                         the bits of the answer, by the tests
 --   past-last                            places past the last card are 0
 --   word-below                           the answer is a 32-bit word
---   no-cards                             a book of no cards has none to select
 --   most-specific-exactly                bit n is set exactly if card n is most specific
 --   most-specific-not                    and not set exactly if it is not
 --   most-specific-decidable              so it is decidable
@@ -29,7 +28,7 @@ use Rattle.table.specs.declared.layout.Limits.{Limits}
 use Rattle.book.specs.Call.{AcceptableBook}
 use Rattle.book.specs.Form.{card, cardCount, mostCards}
 use Rattle.book.specs.Selection.{MostSpecific, cardCovers, caseCovered, mostSpecific, mostSpecificCards, subsumesAnother}
-use Rattle.book.proofs.CardWords.{cardWord-below, cardWord-zero, has-cardWord}
+use Rattle.book.proofs.CardWords.{cardWord-below, has-cardWord}
 use Rattle.book.proofs.Forms.{count-most}
 
 module _ (limits : Limits) (book : List ℕ) (test : ℕ → Bool) (k : ℕ) where
@@ -62,10 +61,6 @@ module _ (limits : Limits) (case book : List ℕ) where
   pub word-below : mostSpecificCards limits case book < 2 ^ mostCards
   unfolding mostSpecificCards
   word-below = lt-of-lt-of-le (cardWord-below (mostSpecific limits case book) (cardCount book)) (pow-mono (count-most book))
-
-  pub no-cards : cardCount book ≡ 0 → mostSpecificCards limits case book ≡ 0
-  unfolding mostSpecificCards
-  no-cards e = rw e (cardWord-zero (mostSpecific limits case book))
 
   -- ---- by meaning
 

@@ -6,7 +6,6 @@
 --   refutation-taken    "refutation taken" exactly when it is a refutation and 21 to 23 are
 --   map-sound           a map is taken only if the second covers the first
 --   refutation-sound    and a refutation only if it does not
---   one-kind            so not both kinds can be taken
 use Prim.Native.Nat.{ℕ, _*_}
 use native.Mathlib.Omega.{arith}
 use borrow.Author.Tests.{eqb-true}
@@ -185,9 +184,3 @@ module _ (limits : Limits) (first second e : List ℕ) (bounded : Bounded limits
   refutation-sound h covered =
       let r = refutation-taken .0 h in
       r .fails (covered (individuals e (r .some)) 0 (r .some) (r .fits))
-
--- whatever the two files are, a map and a refutation are not both taken
-pub one-kind : (limits : Limits) (first second d e : List ℕ) → Bounded limits → Acceptable limits first second →
-    evidenceAnswer limits first second d ≡ MapTaken → evidenceAnswer limits first second e ≡ RefutationTaken → ⊥
-one-kind limits first second d e bounded pair h k =
-    refutation-sound limits first second e bounded pair k (map-sound limits first second d bounded pair h)

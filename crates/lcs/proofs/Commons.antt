@@ -1,8 +1,7 @@
 -- The common picture as a picture file: within the limit it is readable, means the product of the two normal trees, and so is the least common subsumer
 -- (003, Definition 2 and Theorem 43). That its roles are known and its nodes not too deep is true of any product; how many rows it has is what 15 asks.
 --   lcs-height, lcs-roles              it is no deeper than the limit, and has known roles
---   lcs-in-order, lcs-bare             its successors stand by role, all before some, and an impossible node has no names and no successors,
---   lcs-reduced                        and no all-successor of it is empty
+--   lcs-reduced                        no all-successor of it is empty
 --   lcs-length, lcs-size               the length of the file, and that a picture within the limits may be so long
 --   lcs-bytes                          it is bytes
 --   lcs-reads, lcs-readable            the file is readable, with a row for each node
@@ -19,13 +18,11 @@ use Rattle.ale.proofs.CommonSubsumers as trees
 use Rattle.ale.proofs.Concepts.{subsumed-concepts}
 use Rattle.ale.proofs.Confined.{Confined, confined-height, confined-rolesKnown, lcs-confined}
 use Rattle.ale.proofs.Encodings.{encodeTree-length}
-use Rattle.ale.proofs.NormalBottoms.{lcs-canonical}
-use Rattle.ale.proofs.ProductOrderings.{lcs-ordered}
 use Rattle.ale.proofs.ProductReductions as reductions
 use Rattle.ale.proofs.RoleLaws.{treeOf-rolesKnown}
 use Rattle.ale.specs.Encoding.{encode}
 use Rattle.ale.specs.Interpretation.{Subsumed}
-use Rattle.ale.specs.NormalForm.{CanonicalBottom, Ordered, Reduced}
+use Rattle.ale.specs.NormalForm.{Reduced}
 use Rattle.ale.specs.PictureSignature.{pictureSignature}
 use Rattle.ale.specs.Tree.{RolesKnown, Tree, exists, height}
 use Rattle.meaning.proofs.ByteLists.{encoded-bytes}
@@ -57,14 +54,6 @@ module _ (limits : Limits) (first second : List ℕ) where
 
   pub lcs-roles : RolesKnown pictureSignature (lcsTree limits first second)
   lcs-roles = confined-rolesKnown pictureSignature (lcsTree limits first second) (limits .depth) lcs-within
-
-  pub lcs-in-order : Ordered pictureSignature (lcsTree limits first second)
-  unfolding lcsTree normalTreeOf
-  lcs-in-order = lcs-ordered pictureSignature (pictureTable first) (pictureTable second) (limits .depth) (limits .depth)
-
-  pub lcs-bare : CanonicalBottom pictureSignature (lcsTree limits first second)
-  unfolding lcsTree normalTreeOf
-  lcs-bare = lcs-canonical pictureSignature (pictureTable first) (pictureTable second) (limits .depth) (limits .depth)
 
   pub lcs-reduced : Reduced pictureSignature (lcsTree limits first second)
   unfolding lcsTree normalTreeOf

@@ -5,7 +5,6 @@
 --   picture-whole     so its tree is the same at any greater depth
 --   merged-whole      and its merged tree
 --   count-whole       and so the number of its merged rows
---   normal-whole      and its normal tree
 use Prim.Native.Nat.{_+_, ℕ}
 use mathlib.Core.List.{List, [], _∷_}
 use mathlib.Core.Path.{_≡_, ap}
@@ -13,7 +12,6 @@ use native.Mathlib.Omega.{arith}
 use Rattle.ale.proofs.Depths.{Ranked, ranked-by-depth, treeOf-deeper}
 use Rattle.ale.proofs.MergedDepths.{merged-deeper}
 use Rattle.ale.specs.Merged.{merged}
-use Rattle.ale.specs.Normal.{normalTree, tidy}
 use Rattle.ale.specs.PictureSignature.{pictureSignature}
 use Rattle.ale.specs.Table.{KnownRoles, ParentsFirst, tree}
 use Rattle.ale.specs.Tree.{size}
@@ -23,7 +21,7 @@ use Rattle.picture.specs.View.{Readable, viewOf}
 use Rattle.table.specs.Fields.{parentOf}
 use Rattle.table.specs.declared.layout.Limits.{Limits}
 use Rattle.meaning.specs.Meaning.{pictureTable, pictureTree}
-use Rattle.meaning.specs.NormalTable.{mergedCount, mergedTree, normalTreeOf}
+use Rattle.meaning.specs.NormalTable.{mergedCount, mergedTree}
 
 module _ (limits : Limits) (s : List ℕ) (readable : Readable limits s) where
   pub picture-known : KnownRoles pictureSignature (pictureTable s)
@@ -52,7 +50,3 @@ module _ (limits : Limits) (s : List ℕ) (readable : Readable limits s) where
   pub count-whole : (k : ℕ) → mergedCount limits s ≡ size pictureSignature (merged pictureSignature (pictureTable s) (k + limits .depth) (0 ∷ []))
   unfolding mergedCount
   count-whole k = ap (size pictureSignature) (merged-whole k)
-
-  pub normal-whole : (k : ℕ) → normalTreeOf limits s ≡ normalTree pictureSignature (pictureTable s) (k + limits .depth)
-  unfolding normalTreeOf mergedTree
-  normal-whole k = ap (tidy pictureSignature) (merged-whole k)

@@ -3,7 +3,7 @@
 --   merged-node                              the tree of a set: its label, and the successors of what hangs from it
 --   successors-leaf, successors-roles        none at depth 0; role by role
 --   roles-none, roles-next, roles-skip, roles-more   role after role; roles without successors are skipped
---   unused-roles                             no row hangs by a role that the code does not have
+--   Unused, unused-roles                     a set has no row by a role from one to another; by a role that the code does not have
 --   value-none, value-one, code-later        the one for A
 --   role-parts                               those of one role: for A, and for each some-successor with A
 --   exists-next, exists-skip, exists-more    row after row
@@ -15,7 +15,7 @@ use mathlib.Core.Logic.{_⊎_, inl, inr}
 use mathlib.Core.Path.{_≡_, ap, refl, sym, _∙_}
 use native.Mathlib.Numerals.{add-one}
 use native.Mathlib.Omega.{arith}
-use borrow.Author.Tests.{eq-eqb, eqb-false, eqb-true, le-ltb, lt-ltb, ltb-false, ltb-true, ne-eqb}
+use borrow.Author.Tests.{eqb-false, eqb-true, le-ltb, lt-ltb, ltb-false, ltb-true, ne-eqb}
 use Rattle.table.specs.Fields.{kindOf, parentOf, roleOf}
 use Rattle.table.specs.Layout.{kindExists, kindForAll, roles}
 use Rattle.table.specs.NameSet.{has}
@@ -27,14 +27,14 @@ use Rattle.ale.specs.PictureSignature.{pictureSignature}
 use Rattle.ale.specs.Rows.{filterBelow, filterFrom, member, withRow}
 use Rattle.ale.specs.Tree.{Forest, Kind, Tree, cons, exists, forAll, nil, node, sameKind, sizes}
 use Rattle.ale.proofs.Appends.{byRole-more, byRole-same, sizes-append}
-use Rattle.ale.proofs.RowLists.{filterBelow-in, filterBelow-out, filterFrom-none, filterFrom-same, filterFrom-split}
+use Rattle.ale.proofs.RowLists.{filterBelow-in, filterFrom-none, filterFrom-split}
 use Rattle.picture.specs.View.{rowCount, viewOf}
 use Rattle.meaning.specs.File.{codeAt, kindCode}
 use Rattle.meaning.specs.Meaning.{kindAt, pictureTable}
 use Rattle.normal_writer.specs.Parts.{existsPartAt, mergedAt, partsAt, rolesAt, successorsAt, valuePartAt}
-use Rattle.row_sets.specs.Rows.{Checked, Found, Known, Unused, also, hangs, holds, ofKind, ofRole}
+use Rattle.row_sets.specs.Rows.{Checked, Found, Known, also, hangs, holds, ofKind, ofRole}
 use Rattle.row_sets.specs.declared.rows.Successors.{Successors}
-use Rattle.normal_writer.proofs.RowFilters.{filter-none, filter-same, filter-no, filter-yes, member-filter}
+use Rattle.normal_writer.proofs.RowFilters.{filter-none, filter-same, filter-yes, member-filter}
 use Rattle.table.proofs.Tests.{and-comm, and-none, and-none-two, and-swap, eqb-same, refuted}
 
 -- ---- the tests of an edge
@@ -178,6 +178,10 @@ module _ (s : List ℕ) (rows : ℕ) (p : ℕ → Bool) where
   pub roles-more : (depth m n : ℕ) → m ≤ n → sizes pictureSignature (rolesAt s rows depth p m) ≤ sizes pictureSignature (rolesAt s rows depth p n)
   unfolding rolesAt
   roles-more depth m n l = byRole-more pictureSignature (λ r. partsAt s rows depth r (ofRole s r p)) m n l
+
+-- a set has no row by a role from one to another
+pub record Unused (s : List ℕ) (rows : ℕ) (p : ℕ → Bool) (least to : ℕ) : Type 0 where
+  pub none : (j : ℕ) → j < rows → least ≤ roleOf s j → roleOf s j < to → p j ≡ false
 
 -- a role by which nothing hangs has no part
 module _ (s : List ℕ) (rows : ℕ) (p : ℕ → Bool) (least to : ℕ) (unused : Unused s rows p least to) where

@@ -4,7 +4,7 @@
 --   parent-root, parent-below   11
 --   depth-most                  12
 --   impossible-most             13
---   ok-kind .. ok-impossible    when the answer is yes; ok-root: in row 0
+--   ok-kind .. ok-depth         when the answer is yes; ok-root: in row 0
 use mathlib.Core.Logic.{_⊎_, inl, inr, ⊎-map}
 use mathlib.Core.Path.{_≡_, refl}
 use mathlib.Core.Bool.{Bool, true, false}
@@ -70,9 +70,6 @@ ok-parent n parent later h = simp (ne-eqb n 0 later, lt-ltb parent n h)
 
 pub ok-depth : (limits : Limits) (depth : ℕ) → depth ≤ limits .depth → depthOk limits depth ≡ true
 ok-depth limits depth h = le-leb depth (limits .depth) h
-
-pub ok-impossible : (impossible : ℕ) → impossible ≤ 1 → impossibleOk impossible ≡ true
-ok-impossible impossible h = le-leb impossible 1 h
 
 -- row 0 is the root
 pub ok-root : (kindOk 0 kindRoot ≡ true) × (roleOk 0 0 ≡ true) × (parentOk 0 0 ≡ true)

@@ -14,7 +14,6 @@
 --   readable-parent, readable-root-parent  11
 --   readable-depth, readable-depth-under   12
 --   readable-impossible                13
---   readable-view                      the view of a readable picture is proper
 use mathlib.Core.Logic.{_⊎_, ⊎-elim}
 use mathlib.Core.Path.{_≡_, refl, ap, sym, subst}
 use mathlib.Core.List.{List}
@@ -35,9 +34,7 @@ use Rattle.picture.specs.declared.read.Reading.the-variants as reading
 use Rattle.picture.specs.Depth.{depth}
 use Rattle.picture.specs.Questions.{fieldAt}
 use Rattle.picture.specs.Read.{onField, scanFrom, readingOf, answered, answerOf}
-use Rattle.picture.specs.View.{Readable, Proper, viewOf, rowCount}
-use Rattle.table.specs.Number.{Bytes}
-use Rattle.table.proofs.Rows.{wanted-fits, excluded-fits}
+use Rattle.picture.specs.View.{Readable, rowCount}
 use Rattle.picture.proofs.Depths.{depth-under}
 use Rattle.picture.proofs.Scans.{rest-same}
 use Rattle.picture.proofs.Questions.{kind-root, kind-later, role-root, role-below, parent-root, parent-below, depth-most, impossible-most}
@@ -192,23 +189,3 @@ module _ (limits : Limits) (s : List ℕ) (readable : Readable limits s) where
 
   pub readable-impossible : (k : ℕ) → k < rowCount s → impossibleOf s k ≤ 1
   readable-impossible k h = impossible-most (impossibleOf s k) (readable-row k h .impossible)
-
--- ---- and as a view
-
-pub readable-view : (limits : Limits) (s : List ℕ) → Bytes s → Readable limits s → Proper limits (viewOf s)
-unfolding viewOf
-readable-view limits s bytes readable =
-    record {
-      some = readable-some limits s readable;
-      most = readable-most limits s readable;
-      root-kind = readable-root limits s readable;
-      root-role = readable-root-role limits s readable;
-      root-parent = readable-root-parent limits s readable;
-      kinds = readable-kind limits s readable;
-      roles-below = readable-role limits s readable;
-      parents-below = readable-parent limits s readable;
-      shallow = readable-depth limits s readable;
-      impossible-most = readable-impossible limits s readable;
-      wanted-fits = λ k h. wanted-fits s bytes k;
-      excluded-fits = λ k h. excluded-fits s bytes k;
-    }

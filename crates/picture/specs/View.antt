@@ -2,17 +2,14 @@
 --   Readable   questions 2 to 13 are answered yes
 --   View       a table by row number; viewOf: that of a file
 --   rowCount   the rows of a file
---   Proper     what the questions leave of a view
 use mathlib.Core.List.{List}
-use mathlib.Core.Logic.{_⊎_}
 use mathlib.Core.Path.{_≡_}
-use Prim.Native.Nat.{ℕ, _/_, _^_, _≤_, _<_}
+use Prim.Native.Nat.{ℕ, _/_}
 use lib.ListN.{length}
-use Rattle.table.specs.Layout.{rowSize, nameCount, kindRoot, kindExists, kindForAll, roles}
+use Rattle.table.specs.Layout.{rowSize}
 use Rattle.table.specs.Fields.{parentOf, kindOf, roleOf, impossibleOf, wantedOf, excludedOf}
 use Rattle.table.specs.declared.layout.Limits.{Limits}
 use Rattle.picture.specs.declared.read.Reading.the-variants.{Rows}
-use Rattle.picture.specs.Depth.{depth}
 use Rattle.picture.specs.Read.{readingOf}
 
 -- 01: a picture is readable when 2 to 13 are answered yes
@@ -45,18 +42,3 @@ viewOf s =
       wanted = wantedOf s;
       excluded = excludedOf s;
     }
-
--- what questions 5 to 13 and the width of a set leave of a table by row number; every table that stands for a picture is so
-pub record Proper (limits : Limits) (v : View) : Type 0 where
-  pub some : 0 < v .rows
-  pub most : v .rows ≤ limits .rows
-  pub root-kind : v .kind 0 ≡ kindRoot
-  pub root-role : v .role 0 ≡ 0
-  pub root-parent : v .parent 0 ≡ 0
-  pub kinds : (k : ℕ) → (k ≡ 0 → ⊥) → k < v .rows → (v .kind k ≡ kindExists) ⊎ (v .kind k ≡ kindForAll)
-  pub roles-below : (k : ℕ) → k < v .rows → v .role k < roles
-  pub parents-below : (k : ℕ) → (k ≡ 0 → ⊥) → k < v .rows → v .parent k < k
-  pub shallow : (k : ℕ) → k < v .rows → depth (v .parent) k ≤ limits .depth
-  pub impossible-most : (k : ℕ) → k < v .rows → v .impossible k ≤ 1
-  pub wanted-fits : (k : ℕ) → k < v .rows → v .wanted k < 2 ^ nameCount
-  pub excluded-fits : (k : ℕ) → k < v .rows → v .excluded k < 2 ^ nameCount

@@ -8,7 +8,6 @@
 --   Masked, Surveyed       the table of the rows of each role and kind; the picture with these tables
 --   Hung                   what hangs from a set with row c, and its roles
 --   Known                  row 0 hangs from none, and the code has the roles of those that hang
---   Unused                 a set has no row by a role from one to another
 --   Found                  a row that passes a test, or the number of rows if there is none
 use Prim.Native.Nat.{_*_, _+_, _/_, _%_, _<_, _≤_, ℕ}
 use lib.Dec.{eqb}
@@ -76,9 +75,6 @@ pub record Hung (s : List ℕ) (rows c : ℕ) (successors r : Successors) : Type
 pub record Known (s : List ℕ) (rows : ℕ) (successors : Successors) : Type 0 where
   pub rootless : holds (successors .set) 0 ≡ false
   pub known : (j : ℕ) → j < rows → holds (successors .set) j ≡ true → has (successors .roles) (roleOf s j) ≡ true
-
-pub record Unused (s : List ℕ) (rows : ℕ) (p : ℕ → Bool) (least to : ℕ) : Type 0 where
-  pub none : (j : ℕ) → j < rows → least ≤ roleOf s j → roleOf s j < to → p j ≡ false
 
 pub record Found (passes : ℕ → Bool) (rows first : ℕ) : Type 0 where
   pub found : first < rows → passes first ≡ true

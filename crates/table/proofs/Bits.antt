@@ -5,16 +5,15 @@
 --   bit-below           a number below 2 ^ k has no bit from k on
 --   bit-complement      the bits of 2 ^ k - 1 less a number are the others
 --   bits-differ         numbers below 2 ^ k that are not equal differ in a bit below k
---   bit-found           a number below 2 ^ k that is not 0 has a bit below k
 --   pow-above           a power of 2 is above its exponent: every number has a width
 --   bits-eq             numbers with the same bits are equal
 use mathlib.Core.Path.{_≡_, sym, _∙_}
 use Prim.Native.Nat.{ℕ, zero, suc, _-_, _/_, _%_, _^_, _≤_, _<_, min, max}
-use native.Mathlib.Nat.{pow-succ', div-one, zero-div, div-eq-of-lt, div-div-eq-div-mul, lt-of-lt-of-le}
+use native.Mathlib.Nat.{pow-succ', div-one, div-eq-of-lt, div-div-eq-div-mul, lt-of-lt-of-le}
 use native.Mathlib.Decide.{ℕ-discrete}
 use native.Mathlib.Omega.{arith}
 use lib.Bits.{bitAnd, bitOr, and-shr, or-shr, and-step, or-step}
-use lib.Pow.{pow-mono, pow-pos}
+use lib.Pow.{pow-mono}
 use Rattle.table.specs.NameSet.{bit}
 
 pub bit-zero : (a : ℕ) → bit a 0 ≡ a % 2
@@ -51,11 +50,6 @@ bits-differ (suc k) a b ha hb d =
           let (n, l, u) = bits-differ k (a / 2) (b / 2) (omega arith) (omega arith) c in
           (suc n, omega arith, λ q. u (sym (bit-suc a n) ∙ q ∙ bit-suc b n))
     ]
-
-pub bit-found : (k a : ℕ) → a < 2 ^ k → (a ≡ 0 → ⊥) → (n : ℕ) × (n < k) × (bit a n ≡ 1)
-bit-found k a h d =
-    let (n, l, u) = bits-differ k a 0 h (pow-pos k) d in
-    (n, l, omega (arith, zero-div (2 ^ n)))
 
 pub pow-above : (k : ℕ) → k < 2 ^ k
 pow-above zero = omega arith

@@ -4,9 +4,7 @@
 --   has-below                                               a set of the format has only names below nameCount
 --   set-ext                                                 sets with the same names are equal
 --   subset-has, has-subset                                  a set is within another exactly when the other has its names
---   subset-not                                              a set that is not within another has a name that the other lacks
 --   subset-none                                             only the set of no name is within it
---   overlap-has, has-overlap                                sets overlap exactly when some name is in both
 --   has-power                                               the set of one name
 use mathlib.Core.Path.{_∙_, _≡_, ap, refl, sym}
 use mathlib.Core.Bool.{Bool, _&&_, _||_, false, false≢true, not, true, true≢false}
@@ -17,11 +15,11 @@ use native.Mathlib.Omega.{arith}
 use lib.Dec.{eqb, ltb}
 use lib.Bits.{and-le-l, and-zero-r, bitAnd, or-lt}
 use lib.Pow.{ones-sub-lt}
-use borrow.Author.Tests.{eq-eqb, eqb-false, eqb-true, le-ltb, lt-ltb, ne-eqb, not-true}
+use borrow.Author.Tests.{eq-eqb, eqb-false, eqb-true, le-ltb, lt-ltb, ne-eqb}
 use Rattle.table.specs.Layout.{nameCount}
-use Rattle.table.specs.NameSet.{bit, complement, has, intersection, none, overlap, subset, union}
+use Rattle.table.specs.NameSet.{bit, complement, has, intersection, none, subset, union}
 use Rattle.table.proofs.Bools.{by-test}
-use Rattle.table.proofs.Bits.{bit-and, bit-below, bit-bound, bit-complement, bit-found, bit-or, bit-suc, bit-zero, bits-differ, bits-eq, pow-above}
+use Rattle.table.proofs.Bits.{bit-and, bit-below, bit-bound, bit-complement, bit-or, bit-suc, bit-zero, bits-eq}
 
 pub union-below : (a b : ℕ) → a < 2 ^ nameCount → b < 2 ^ nameCount → union a b < 2 ^ nameCount
 union-below = or-lt nameCount
@@ -82,26 +80,6 @@ has-subset a b h = eq-eqb (bitAnd a b) a (set-ext (bitAnd a b) a (λ n. has-inte
     within : (x y : Bool) → (x ≡ true → y ≡ true) → (x && y) ≡ x
     within true y h = h refl
     within false y h = refl
-
-width : (a b : ℕ) → bitAnd a b < 2 ^ a
-width a b = lt-of-le-of-lt (and-le-l a b) (pow-above a)
-
-pub subset-not : (a b : ℕ) → subset a b ≡ false → (n : ℕ) × (has a n ≡ true) × (has b n ≡ false)
-unfolding has
-subset-not a b s =
-    let (n, l, u) = bits-differ a (bitAnd a b) a (width a b) (pow-above a) (eqb-false (bitAnd a b) a s) in
-    let m = bit-and a b n in
-    (n, eq-eqb (bit a n) 1 (omega arith), ne-eqb (bit b n) 1 (omega arith))
-
-pub overlap-has : (a b : ℕ) → overlap a b ≡ true → (n : ℕ) × (has a n ≡ true) × (has b n ≡ true)
-unfolding has
-overlap-has a b s =
-    let (n, l, e) = bit-found a (bitAnd a b) (width a b) (eqb-false (bitAnd a b) 0 (not-true (eqb (bitAnd a b) 0) s)) in
-    let m = bit-and a b n in
-    (n, eq-eqb (bit a n) 1 (omega arith), eq-eqb (bit b n) 1 (omega arith))
-
-pub has-overlap : (a b n : ℕ) → has a n ≡ true → has b n ≡ true → overlap a b ≡ true
-has-overlap a b n p q = ap not (ne-eqb (bitAnd a b) 0 (λ z. false≢true (sym (has-none n) ∙ ap (λ (x : ℕ). has x n) (sym z) ∙ has-intersection a b n ∙ rw (p, q))))
 
 pub subset-none : (a : ℕ) → subset a none ≡ eqb a 0
 subset-none a =

@@ -1,10 +1,9 @@
--- Laws of the fields of a table: what was put reads back, and the other rows keep theirs.
+-- Laws of the fields of a table: what was put reads back.
 --   Same                                  the first k bytes of field m of s are those of field n of t
 --   number-same, tag-same, length-same,
 --   parent-same, kind-same, role-same,
 --   impossible-same, wanted-same,
 --   excluded-same                         fields with the same bytes have the same parts
---   same-take                             the first bytes of a list hold its first rows
 --   same-first, same-after                a list begins with its first part, and the rows of its last part come after those before
 --   length-rowOf, length-rowBytes,
 --   length-endBytes                       the sizes of a row and of the end field
@@ -17,29 +16,25 @@
 --   row-impossible, row-wanted,
 --   row-excluded                          what the row that was put reads back as
 --   end-put, end-tag, end-length          what the end field that was put reads back as
---   row-other, end-other                  the other rows are as they were
---   parent-fits, wanted-fits,
---   excluded-fits                         of a list of bytes the fields fit their widths
 use mathlib.Core.Path.{_≡_, refl, ap, sym, _∙_}
 use mathlib.Core.Bool.{_&&_, true}
 use mathlib.Core.List.{List, [], _++_}
-use Prim.Native.Nat.{ℕ, _+_, _*_, _-_, _^_, _≤_, _<_}
+use Prim.Native.Nat.{ℕ, _+_, _*_, _^_, _≤_, _<_}
 use native.Mathlib.Nat.{add-assoc, zero-add}
-use native.Mathlib.Decide.{decLt}
 use native.Mathlib.Omega.{arith}
 use borrow.Author.Tests.{eq-eqb, eqb-true}
 use lib.Dec.{eqb}
 use lib.ListN.{length, take, getD, List·getD-append}
-use lib.Seq.{getD-take, getD-append-add}
+use lib.Seq.{getD-append-add}
 use Rattle.table.specs.Layout.{numberSize, lengthAt, «place», rowTag, endTag, endLength, endSize, headSize, nameBytes, nameCount, parentAt, kindAt, roleAt, impossibleAt, wantedAt, excludedAt, rowLength, rowSize}
-use Rattle.table.specs.Number.{Bytes, be, beBytes}
+use Rattle.table.specs.Number.{be, beBytes}
 use Rattle.table.specs.NameSet.{setOf}
 use Rattle.table.specs.Put.{put}
 use Rattle.table.specs.Fields.{tagOf, lengthOf, parentOf, kindOf, roleOf, impossibleOf, wantedOf, excludedOf, rowOf, rowBytes, endBytes, endsAt}
 use Rattle.table.specs.declared.row.Row.{Row}
 use Rattle.table.proofs.Bools.{both}
-use Rattle.table.proofs.Puts.{put-before, put-in, put-after}
-use Rattle.table.proofs.Numbers.{be-same, be-bound, be-inside}
+use Rattle.table.proofs.Puts.{put-in}
+use Rattle.table.proofs.Numbers.{be-same, be-inside}
 
 -- fields with the same bytes
 
@@ -75,10 +70,6 @@ module _ {s : List ℕ} {m : ℕ} {t : List ℕ} {n : ℕ} (e : Same rowSize s m
   pub excluded-same : excludedOf s m ≡ excludedOf t n
   excluded-same = number-same e excludedAt nameBytes (omega arith)
 
--- a table that is the first bytes of a longer list
-pub same-take : (s : List ℕ) (m n : ℕ) → place n rowSize ≤ m → Same rowSize (take m s) n s n
-same-take s m n h = record { byte = λ i l. getD-take m s (place n i) 0 (omega arith) }
-
 -- a list of two parts
 pub same-first : (k : ℕ) (s t : List ℕ) → k ≤ length s → Same k (s ++ t) 0 s 0
 same-first k s t h = record { byte = λ i l. List·getD-append s t 0 (place 0 i) (omega arith) }
@@ -98,19 +89,6 @@ field-put : (d s : List ℕ) (n i : ℕ) → place n (length s) ≤ length d →
 field-put d s n i h l =
     let e : place n i ≡ place n 0 + i = omega arith in
     ap (λ (j : ℕ). getD (put d (place n 0) s) j 0) e ∙ put-in d (place n 0) s i (omega arith) l
-
-field-other : (d s : List ℕ) (n m : ℕ) → place n (length s) ≤ length d → length s ≤ rowSize → (m ≡ n → ⊥) → Same rowSize (put d (place n 0) s) m d m
-field-other d s n m h w u = record { byte = keeps }
-  where
-    keeps : (i : ℕ) → i < rowSize → getD (put d (place n 0) s) (place m i) 0 ≡ getD d (place m i) 0
-    keeps i l =
-        elim (decLt m n) [
-          | yes b ↦ put-before d (place n 0) s (place m i) (omega arith) (omega arith)
-          | no b ↦
-              let j : ℕ = place m i - (place n 0 + length s) in
-              let e : place m i ≡ place n 0 + length s + j = omega arith in
-              rw e (put-after d (place n 0) s j (omega arith))
-        ]
 
 -- a row
 
@@ -192,9 +170,6 @@ module _ (d : List ℕ) (n : ℕ) (r : Row) (h : place n rowSize ≤ length d) w
   pub row-excluded : setOf (r .excluded) < 2 ^ nameCount → excludedOf (pushed d n r) n ≡ setOf (r .excluded)
   row-excluded = held-excluded row-held
 
-  pub row-other : (m : ℕ) → (m ≡ n → ⊥) → Same rowSize (pushed d n r) m d m
-  row-other m u = let w = length-rowBytes r in field-other d (rowBytes r) n m (omega arith) (omega arith) u
-
 -- the end field
 
 module _ (s : List ℕ) (at : ℕ) where
@@ -240,18 +215,3 @@ module _ (d : List ℕ) (n : ℕ) (h : place n endSize ≤ length d) where
 
   pub end-length : lengthOf (ended d n) n ≡ endLength
   end-length = held-end-length end-same
-
-  pub end-other : (m : ℕ) → (m ≡ n → ⊥) → Same rowSize (ended d n) m d m
-  end-other m u = let w = length-endBytes in field-other d endBytes n m (omega arith) (omega arith) u
-
--- the fields of a list of bytes fit their widths
-
-module _ (s : List ℕ) (bytes : Bytes s) (n : ℕ) where
-  pub parent-fits : parentOf s n < 256 ^ numberSize
-  parent-fits = be-bound s (place n parentAt) numberSize (λ i h. bytes (place n parentAt + i))
-
-  pub wanted-fits : wantedOf s n < 2 ^ nameCount
-  wanted-fits = be-bound s (place n wantedAt) nameBytes (λ i h. bytes (place n wantedAt + i))
-
-  pub excluded-fits : excludedOf s n < 2 ^ nameCount
-  excluded-fits = be-bound s (place n excludedAt) nameBytes (λ i h. bytes (place n excludedAt + i))
