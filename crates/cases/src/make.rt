@@ -122,4 +122,3 @@ pub fn nested(out: &mut [u8], depth: u8) -> usize
     }
     at
 }
-
