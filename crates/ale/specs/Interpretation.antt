@@ -1,6 +1,7 @@
 -- 01, "What a picture means": finite interpretations, and subsumption over them (003, Definition 1, finite ones only).
 --   Interpretation   the individuals are the numbers below a positive count; a set of them for each name, a set of pairs for each role
---   structureOf      the same as a structure. Its elements are all numbers, but its edges end at individuals: so "some" and "all" range over these
+--   structureOf      the same as a structure. Its elements are all numbers, but its edges end at individuals: so "some" and "all" range over these.
+--                    A role is a set of pairs of individuals: `edge` below `count` on both sides, of x by `Subsumed`, of y by `structureOf`
 --   Subsumed         `Subsumed v d`: v ⊑ d, d covers v: every individual that fits v fits d, in every interpretation
 --                    (over all structures: `SubsumedInAll`, for pictures the same, Subsumption: `subsumed-inAll`)
 --   Equivalent       each subsumes the other
@@ -17,6 +18,7 @@ module _ (S : Signature) where
     pub inhabited : 0 < count
     pub holds : ℕ → ℕ → Bool
     pub edge : ℕ → ℕ → ℕ → Bool
+    -- asks nothing where inclusion is equality, as in 01 (subsumption/proofs/Conditions: `any-interpretation`)
     pub respects : (r s x y : ℕ) → T (S .subrole r s) → T (edge r x y) → T (edge s x y)
 
   abbrev pub structureOf : Interpretation → Structure S

@@ -1,13 +1,13 @@
 -- 01, "A merged row stands for a set of file rows": the merged tree of a set of rows of a table.
---   successorOfSet   row j hangs from a row of the set
---   rowsBelow        the successors of the set, of one kind, whose role passes a test, in file-row order
---   valueRows        A: the all-successors of the set for role r (of every role including r)
---   existsRows       the some-successors of the set by role r
---   labelUnion       the union of two labels
+--   labelUnion               the union of two labels
 --   valuePart, existsParts   the successors for A, and for each c
---   labelOfSet       the unions of the names; ⊥ if any has it
---   roleParts        one all-successor standing for A if A is not empty, then for each some-successor c one standing for c with A
---   merged           the merged tree of a set, down to a depth; a depth that is large enough cuts nothing off (MergedDepths: `merged-deeper`)
+--   successorOfSet           row j hangs from a row of the set
+--   rowsBelow                the successors of the set, of one kind, whose role passes a test, in file-row order
+--   valueRows                A: the all-successors of the set for role r (of every role including r)
+--   existsRows               the some-successors of the set by role r
+--   labelOfSet               the unions of the names; ⊥ if any has it
+--   roleParts                one all-successor standing for A if A is not empty, then for each some-successor c one standing for c with A
+--   merged                   the merged tree of a set, down to a depth; a depth that is large enough cuts nothing off (MergedDepths: `merged-deeper`)
 use Prim.Native.Nat.{suc, zero, ℕ}
 use lib.Dec.{eqb}
 use mathlib.Core.Bool.{Bool, _&&_, _||_, not}

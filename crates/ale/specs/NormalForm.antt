@@ -8,6 +8,7 @@
 -- and used in saying it:
 --   IfExists, IfForAll   a property asked of the successors of one kind
 --   valueOf              the all-successor of a role, or ⊤
+--   Before               a successor by a role, of a kind, may stand after one by role r
 --   Propagated           whatever fits t fits the all-successors of every role including r
 use Prim.Native.Nat.{_<_, _≤_, ℕ}
 use lib.Dec.{T, eqb}

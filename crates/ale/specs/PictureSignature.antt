@@ -1,6 +1,7 @@
 -- The signature of paper 01: 64 names, a set of them being a number below 2 ^ 64 with bit n for name n; 32 roles, each a subrole of itself only.
 --   NameSet            a number below 2 ^ nameCount: the sets of the format (crate table), with their operations and the laws that are proved there
---   nameSet            a number below it as a set
+--   below, nameSet     its number is below that; a number below it as a set
+--   complement-has .. subset-from, equal-trans, equal-below   laws that the signature takes
 --   signatureOf        over any role inclusion
 --   pictureSignature   where it is equality
 use mathlib.Core.Path.{_≡_, sym, subst}

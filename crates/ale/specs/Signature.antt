@@ -2,8 +2,8 @@
 --   Names, names                       sets of names; names are the numbers below `names`
 --   has, none, union, intersection, complement, subset
 --                                      sets by membership, each with its law
---   subrole-below                      a subrole of one of the roles is one of them: merging goes through the roles by number
 --   roles, subrole                     roles are the numbers below `roles`; `subrole r s`: a pair of r is a pair of s (over all numbers, reflexive and transitive)
+--   subrole-below                      a subrole of one of the roles is one of them: merging goes through the roles by number
 -- In paper 01 a role is a subrole of itself only.
 use Prim.Native.Nat.{_<_, ℕ}
 use lib.Dec.{T}

@@ -5,9 +5,10 @@
 --   Tree, Forest            a node; the successors of a node, in order
 --   labelOf, successorsOf   the parts of a tree
 --   emptyLabel, top, bottomLabel, bottomTree     ⊤ and ⊥
---   size, height            nodes; edges from the root to the deepest node
+--   size, sizes             nodes, of a tree and of successors
+--   height, heights         edges from the root to the deepest node, by the tree and by its successors
 --   All, Any, any           a fact of every successor, of one of them; the same by a test
---   RolesKnown              every role is one of the roles
+--   RolesKnown, RolesKnownAll   every role is one of the roles
 use Prim.Native.Nat.{_+_, _<_, max, suc, ℕ}
 use mathlib.Core.Bool.{Bool, _||_, false, true}
 use mathlib.Core.Logic.{_⊎_}

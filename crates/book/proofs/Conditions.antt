@@ -58,7 +58,8 @@ pub record MostSpecificCondition (limits : Limits) (case book : List ℕ) : Type
   pub given-exactly : (room : ℕ) → SaysCards (mostSpecificAnswer limits case book room) ↔ ((workSize limits ≤ room) × AcceptableBook limits case book)
   -- it is refused exactly if the work space is short or one of these is answered no
   pub refused-when : (room : ℕ) → SaysRefusal (mostSpecificAnswer limits case book room) ↔ ((room < workSize limits) ⊎ (AcceptableBook limits case book → ⊥))
-  -- "Order: 1; case; 24 and the cards in turn; 14 for each in that order": a refusal is 1 exactly if the work space is short, and else the first no
+  -- "Order: 1; first (or case); second, or 24 and the cards in turn; 14 for each in that order; then 15 or 16 to 23": a refusal is 1 exactly if the work space is
+  -- short, and else the first no
   pub refused-exactly : (room : ℕ) (r : Refusal) → (mostSpecificAnswer limits case book room ≡ Refused r) ↔
       (((room < workSize limits) × (r ≡ shortBuffer)) ⊎ ((workSize limits ≤ room) × FirstNo limits case book r))
   -- 1 names the buffer, 2 to 14 the case or one of the book's cards, 24 the book; there is no other refusal

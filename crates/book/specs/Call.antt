@@ -1,14 +1,15 @@
--- 01, "Order: 1; case; 24 and the cards in turn; 14 for each in that order": the answer, and what the work space holds then.
---   AcceptableBook       2 to 13, 24 and 14 are answered yes for the case, the book and every card
---   andThen              the first no of two questions
---   askedFrom            the first no of one question of `more` cards from card k on
---   readingAsked, readAsked   2 to 13 of a picture
---   noBook, formAsked    24; it names the book
---   mergedAsked          14 of a picture
+-- 01, "Order: 1; first (or case); second, or 24 and the cards in turn; 14 for each in that order; then 15 or 16 to 23", of a
+-- case and a book: the answer, and what the work space holds then.
+--   AcceptableBook                     2 to 13, 24 and 14 are answered yes for the case, the book and every card
+--   andThen                            the first no of two questions
+--   askedFrom                          the first no of one question of `more` cards from card k on
+--   readingAsked, readAsked            2 to 13 of a picture
+--   noBook, formAsked                  24; it names the book
+--   mergedAsked                        14 of a picture
 --   caseMerged, cardRead, cardMerged   14 of the case; 2 to 13 and 14 of card k
---   bookAsked            all of them, in their order
---   onAsked, mostSpecificAnswer   1; the questions; the word of the most specific cards
---   onSelected, mostSpecificWork  the work space: so many bytes as are lent by name zero where a word is answered; else nothing written
+--   bookAsked                          all of them, in their order
+--   onAsked, mostSpecificAnswer        1; the questions; the word of the most specific cards
+--   onSelected, mostSpecificWork       the work space: zero up to the length named where a word is answered; else nothing written
 use Prim.Native.Nat.{ℕ, zero, suc, _+_, _<_, _≤_}
 use lib.Dec.{leb}
 use lib.ListN.{length}

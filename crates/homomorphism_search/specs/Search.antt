@@ -1,22 +1,27 @@
 -- What the parts of the search decide, on the tables s (the first) and t (the second), down to a depth. Nobody has to believe these: the theory's
 -- test (ale, Homomorphism: `mapsTo`) is what they come to, `rowMaps` of the two roots.
---   RowLabel       a label of the code is that of row w
---   LinkedTable    a table of so many rows, with its links
---   labelCarried   the label of row w of t is within that of row u of s
---   sameEdge       row v of s hangs by the kind of row c of t, and by a role that serves for its role
---   rowMaps        row w's tree maps to row u's tree
---   edgeServed     an edge of u serves for the edge of row c
---   unservedRow    the first row that hangs from w and that no edge of u serves; 0 if there is none
---   lowestImage    the lowest row that hangs from u by such an edge and to whose tree row c's tree maps; the number of rows if there is none
+--   RowLabel           a label of the code is that of row w
+--   LinkedTable        a table of so many rows, with its links
+--   treeAt, forestAt   the tree of row i, and what hangs from it as successors
+--   labelCarried       the label of row w of t is within that of row u of s
+--   sameEdge           row v of s hangs by the kind of row c of t, and by a role that serves for its role
+--   rowMaps            row w's tree maps to row u's tree
+--   edgeServed         an edge of u serves for the edge of row c
+--   firstFailing       the first row of a list that fails, or 0
+--   unservedRow        the first row that hangs from w and that no edge of u serves; 0 if there is none
+--   lowestImage        the lowest row that hangs from u by such an edge and to whose tree row c's tree maps; the number of rows if there is none
 -- and what the search leaves behind, so that no two rows are compared again:
---   Climbs, Under  so many edges up from row i is row w; row i is w or hangs below it
---   Apart          two lists agree but for rows under w
---   Found          where row w maps to row u: for each row below w the image that was found, the lowest (below a marked row there is none)
---   FoundBelow     the same of the rows that hang from w, u not being marked
---   Missed         where row w does not map to row u though its label is carried: for u, and below it, the row that no edge serves
---   MissedBelow    the same of the rows below u, where no edge serves for row c
---   Shallow        no row stands deeper than the depth, which so cuts nothing off
---   Mapped         row 0 maps to row 0, and the images below it were found
+--   Climbs, Under      so many edges up from row i is row w; row i is w or hangs below it
+--   Apart              two lists agree but for rows under w
+--   Hangs              row j hangs from row i
+--   ImagesKept         of each row that hangs from w the image is there, and a fact of both
+--   Found              where row w maps to row u: for each row below w the image that was found, the lowest (below a marked row there is none)
+--   FoundBelow         the same of the rows that hang from w, u not being marked
+--   EdgesKept          of each row that hangs from u by an edge like that of row c, a fact of both
+--   Missed             where row w does not map to row u though its label is carried: for u, and below it, the row that no edge serves
+--   MissedBelow        the same of the rows below u, where no edge serves for row c
+--   Shallow            no row stands deeper than the depth, which so cuts nothing off
+--   Mapped             row 0 maps to row 0, and the images below it were found
 use Prim.Native.Nat.{_<_, suc, zero, ℕ}
 use lib.ListN.{getD, length}
 use mathlib.Core.Bool.{Bool, _&&_, not, true}

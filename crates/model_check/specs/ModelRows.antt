@@ -1,4 +1,5 @@
--- Row by row, whether an individual of the refutation e fits a row of the table t: what the parts of the model check decide.
+-- Row by row, whether an individual of the refutation e fits a row of the table t: what the parts of the model check decide. Nobody has to believe
+-- these.
 --   satisfiesRow   the names that hold of individual i, against the label of row w
 --   fitsRow        individual i fits row w
 --   rowForest, reachedForest   what hangs from a row, and the individuals that i reaches, as successors

@@ -1,9 +1,9 @@
 -- 01, "Write its normal table and give its length in bytes (buffer 6,147)": the answer, and what the result buffer holds then.
---   shortBuffer       1 is answered no: it names the buffer
---   tooMany           14 is answered no for an input
---   onReading         after 2 to 13: 14, and then the length of the normal table
---   normalizeAnswer   1; 2 to 13; 14
---   normalizeResult   the normal table from the first byte on, or nothing written
+--   shortBuffer                 1 is answered no: it names the buffer
+--   tooMany                     14 is answered no for an input
+--   onReading                   after 2 to 13: 14, and then the length of the normal table
+--   normalizeAnswer             1; 2 to 13; 14
+--   onAnswer, normalizeResult   the normal table from the first byte on, or nothing written
 use Prim.Native.Nat.{ℕ}
 use lib.Dec.{leb}
 use lib.ListN.{length}

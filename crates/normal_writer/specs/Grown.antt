@@ -1,11 +1,12 @@
 -- What a function that writes merged rows has done: it has counted a forest of them up to the limit and one more, and has written
--- what tidying leaves of it.
---   prefix     the bytes of the rows that a table under construction has
---   capped     a count up to the limit and one more
---   Room       what such a function needs of its arguments
---   Written    the rows of a forest stand after those that were there, and whether a some-successor is ⊥
---   Grown      a forest was counted, and what tidying leaves of it was written if the count is within the limit
---   Entered    a row was written, and what hangs from it is to follow
+-- what tidying leaves of it. Nobody has to believe these.
+--   prefix                            the bytes of the rows that a table under construction has
+--   capped                            a count up to the limit and one more
+--   Room                              what such a function needs of its arguments
+--   Written                           the rows of a forest stand after those that were there, and whether a some-successor is ⊥
+--   Grown                             a forest was counted, and what tidying leaves of it was written if the count is within the limit
+--   Entered                           a row was written, and what hangs from it is to follow
+--   clash, bare                       a label is broken by itself; it has no names
 --   isInconsistent, isDropped, Left   01, "broken", "dropped": how a row is left once what hangs from it is there
 use Prim.Native.Nat.{_+_, _<_, _≤_, min, suc, ℕ}
 use lib.Dec.{eqb}

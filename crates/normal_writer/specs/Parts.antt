@@ -1,4 +1,4 @@
--- The merged rows that each function of the writer makes.
+-- The merged rows that each function of the writer makes. Nobody has to believe these.
 --   mergedAt       the merged tree of a set
 --   valuePartAt    the all-successor for A = q, if A is not empty
 --   existsPartAt   the some-successors p below row n, each standing for its row with A = q

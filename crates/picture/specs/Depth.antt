@@ -15,6 +15,8 @@ depthIn parent (suc steps) (suc n) = suc (depthIn parent steps (parent (suc n)))
 unfoldable pub depth : (ℕ → ℕ) → ℕ → ℕ
 depth parent n = depthIn parent n n
 
+-- ---- what the code needs
+
 -- of the rows before row n: each stands after its parent, and the table `depths` has its depth
 pub record Known (s : List ℕ) (n : ℕ) (depths : List ℕ) : Type 0 where
   pub ordered : (k : ℕ) → 0 < k → k < n → parentOf s k < k

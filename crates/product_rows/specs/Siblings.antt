@@ -1,10 +1,12 @@
 -- Rows that hang from the same row, in row order, and the order of their edges. Nobody has to believe these.
 --   siblings     row e and those after it that hang from the same row; none where e is 0
---   forestFrom   these as successors, each with its tree down to a depth
+--   forestOf     rows as successors, each with its tree down to a depth
+--   forestFrom   these as successors
 --   keyAt        the place of row e's edge in the order of successors (ale, PairWalks: `edgeKey`)
 --   dropLower    a list of rows from the first on whose edge does not stand before a place
 --   Trim         what is asked of a normal table's tree: no all-successor is empty, successors are ordered, roles are known
 --   TrimAll      the same of successors
+--   Kept         the same of a row's tree, which is not dropped
 use Prim.Native.Nat.{ℕ}
 use lib.Dec.{leb}
 use mathlib.Core.List.{List, [], _∷_}
@@ -48,7 +50,6 @@ pub record TrimAll (f : Forest pictureSignature) : Type 0 where
   pub ordered : OrderedAll pictureSignature f
   pub known : RolesKnownAll pictureSignature f
 
--- what is asked of the tree of a row: it is that of a normal table, and not one that is dropped
 pub record Kept (k : Kind) (t : Tree pictureSignature) : Type 0 where
   pub trim : Trim t
   pub kept : dropped pictureSignature k t ≡ false

@@ -5,7 +5,7 @@
 --   wantedWithin                     row w is not marked, and its wanted names are in a set
 --   againstTree, againstTop          individuals that fit row u, or ⊤, and not row w
 --   falsifiedBelow                   what hangs from row u so that row w is not fitted
---   valueRow                         the all-successor of row u by a role; 0 if there is none
+--   firstValue, valueRow             the first all-successor of a list by a role; that of row u; 0 if there is none
 --   againstValue                     where the all-edge of row c is not to be fitted: individuals that fit the all-successor of u by its role, and not c
 --   realizedRows, realizedBelow      where its some-edge is not to be fitted: the some-successors of a list; of u
 use Prim.Native.Nat.{ℕ}

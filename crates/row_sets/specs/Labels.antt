@@ -1,4 +1,4 @@
--- Labels of sets of rows, and what else the code has of a set.
+-- Labels of sets of rows, and what else the code has of a set. Nobody has to believe these.
 --   LabelIs   a label of the code stands for one of the theory
 --   Joined    a label with that of row j
 --   Added     the same of all that the code has of a set

@@ -1,4 +1,5 @@
--- Sets of file rows, and what hangs from them. A set is a test of row numbers; the code has some of them as words.
+-- Sets of file rows, and what hangs from them. A set is a test of row numbers; the code has some of them as words. Nobody has to
+-- believe these.
 --   Checked                what the code needs of a readable picture of so many rows
 --   also                   a set with one row more
 --   hangs                  row j hangs from a row of the set

@@ -1,4 +1,4 @@
--- The definitions that a reader of the byte form has to believe.
+-- The definitions of the byte form. A reader has to believe them, but for Links and what stands under `what the code needs`.
 pub mod Pick
 pub mod Range
 pub mod Layout

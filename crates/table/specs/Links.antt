@@ -1,5 +1,6 @@
 -- What hangs from each row, by links: for each row the lowest that hangs from it, and then for each row the next that hangs from the same one;
 -- 0 if there is none. Row 0 hangs from no row. The rows are those of any table by number: of a picture, or the individuals of a refutation.
+-- Nobody has to believe these.
 --   Zeros     a list of zeros
 --   Nearest   the lowest row from one on that hangs from row c, or 0
 --   Linked    both links of each row, the first ones from place 0 on, the next ones from `width` on

@@ -6,6 +6,7 @@
 --   intersection a b  the names in both
 --   complement a      the names that are not in a
 --   subset a b        whether every name of a is in b
+-- and what the code needs:
 --   overlap a b       whether some name is in both
 --   setOf             the set that a value of the code stands for
 use mathlib.Core.Bool.{Bool, not}
@@ -35,6 +36,8 @@ complement a = 2 ^ nameCount - 1 - a
 
 abbrev pub subset : ℕ → ℕ → Bool
 subset a b = eqb (bitAnd a b) a
+
+-- ---- what the code needs
 
 abbrev pub overlap : ℕ → ℕ → Bool
 overlap a b = not (eqb (bitAnd a b) 0)

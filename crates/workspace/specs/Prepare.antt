@@ -1,4 +1,5 @@
--- 01, "Order: 1; first; second; 14 for each in that order" and "All but the first two borrow a work space": what the calls on two pictures have in common.
+-- 01, "Order: 1; first (or case); second, or 24 and the cards in turn; 14 for each in that order; then 15 or 16 to 23" and
+-- "All but the first two borrow a work space": what the calls on two pictures have in common.
 --   Acceptable       "any two readable pictures, each at most 256 rows when merged": 2 to 13 and 14 are answered yes for both
 --   workSize         two halves, each as long as the longest picture
 --   tableRows        the rows of a picture's normal table
