@@ -34,15 +34,44 @@ build() {
 
 # program NAME COMPILER..: builds a test program and counts it.
 program() {
-    build "$@" && count "$1" "$out/$1"
+    started "$@"
+    tally "$1"
 }
 
 # count NAME COMMAND..: runs it and adds what its summary, the last line, says.
 count() {
-    name=$1
+    run "$@"
+    tally "$1"
+}
+
+# run NAME COMMAND..: $out/NAME.log then has what it printed, and $out/NAME.status how it ended.
+run() {
+    running=$1
     shift
     status=0
-    "$@" >"$out/$name.log" || status=$?
+    "$@" >"$out/$running.log" || status=$?
+    echo "$status" >"$out/$running.status"
+}
+
+# started NAME COMPILER..: builds a test program and runs it.
+started() {
+    starting=$1
+    shift
+    if "$@" "$archive" -o "$out/$starting"; then
+        run "$starting" "$out/$starting"
+    else
+        echo unbuilt >"$out/$starting.status"
+    fi
+}
+
+# tally NAME: prints what it printed when it was run, and adds what its summary says.
+tally() {
+    name=$1
+    status=$(cat "$out/$name.status")
+    if [ "$status" = unbuilt ]; then
+        fail "$name" "does not build"
+        return
+    fi
     cat "$out/$name.log"
     counts=$(sed -n '$s/^.*: \([0-9][0-9]*\) passed, \([0-9][0-9]*\) failed$/\1 \2/p' "$out/$name.log")
     case $status:$counts in
@@ -53,6 +82,25 @@ count() {
     esac
     passed=$((passed + ${counts% *}))
     failed=$((failed + ${counts#* }))
+}
+
+# both COMMAND ITEM..: calls COMMAND for every other ITEM beside the rest, so that two run at a time.
+both() {
+    command=$1
+    shift
+    (every_other "$command" "$@") &
+    shift
+    every_other "$command" "$@"
+    wait
+}
+every_other() {
+    command=$1
+    shift
+    while [ $# -gt 0 ]; do
+        "$command" "$1"
+        shift
+        [ $# -eq 0 ] || shift
+    done
 }
 
 # objects FOLDER COMPILER..: what the tests share and, in FOLDER/fuzz, what the fuzz targets share besides. Without a

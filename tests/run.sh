@@ -33,9 +33,12 @@ rm -rf "$out"
 mkdir -p "$out"
 
 objects "$out" $c
+c_test() {
+    started "$(basename "$1" .c)" $c "$1" "$out"/*.o
+}
+both c_test tests/test_*.c
 for source in tests/test_*.c; do
-    name=$(basename "$source" .c)
-    program "$name" $c "$source" "$out"/*.o
+    tally "$(basename "$source" .c)"
 done
 # rust SOURCE ARCHIVE -o PROGRAM: the compiler's own way to say it.
 rust() {
@@ -67,16 +70,20 @@ fi
 
 # Each fuzz target with its seeds, and so many inputs made from them.
 fuzz_drivers $calls
-while read -r call runs; do
-    count "fuzz_$call" "$out/fuzz_$call" "$runs" $sample_files
-done <<END
-validate 100000
-normalize 40000
-subsumes 20000
-lcs 20000
-verify 20000
-most_specific 40000
-END
+fuzz_runs() {
+    case $1 in
+    validate) echo 100000 ;;
+    normalize | most_specific) echo 40000 ;;
+    subsumes | lcs | verify) echo 20000 ;;
+    esac
+}
+fuzz() {
+    run "fuzz_$1" "$out/fuzz_$1" "$(fuzz_runs "$1")" $sample_files
+}
+both fuzz $calls
+for call in $calls; do
+    tally "fuzz_$call"
+done
 if libfuzzer_is_there; then
     libfuzzer_objects
     for call in $calls; do
