@@ -4,7 +4,7 @@
 use Prim.Native.Nat.{ℕ}
 use lib.ListN.{length}
 use mathlib.Core.List.{List}
-use mathlib.Core.Path.{_∙_, _≡_, ap, refl, subst}
+use mathlib.Core.Path.{_∙_, _≡_, ap, refl, subst, sym}
 use native.Mathlib.Omega.{arith}
 use Rattle.countermodel.specs.Individual.{individualHead, individualOk, refutationForm}
 use Rattle.countermodel.specs.Layout.{individualCount}
@@ -52,7 +52,7 @@ module _ (first second e : List ℕ) (is : evidenceOf benchLimits first second �
       WritesEvidence first second o e
   writes o pair told work result enough long =
       let decided = subsumes-decided first second work result enough long pair in
-      (decided .0 ∙ told, decided .2 ∙ ap (λ (l : List ℕ). put result 0 l) is)
+      (sym (decided .word-is) ∙ told, sym (decided .result-is) ∙ ap (λ (l : List ℕ). put result 0 l) is)
 
   shown : verdictWord (verdictAnswer benchLimits first second) ≡ valueWord outcomeYes (length e) →
       verifyWord first second e workRoom ≡ valueWord outcomeYes 0 → Holds (subsumes first second e)
@@ -77,7 +77,7 @@ shown-normal : (first table : List ℕ) → outcome (validateWord first) ≡ out
     normalFile benchLimits first ≡ table → WritesNormal first table
 shown-normal first table opened few is result long =
     let written = normalize-written first result long (validate-readable first opened) (leb-true (mergedCount benchLimits first) maxRows few) in
-    (written .0 ∙ ap (λ (e : List ℕ). valueWord outcomeYes (length e)) is, written .1 ∙ ap (λ (e : List ℕ). put result 0 e) is)
+    (sym (written .word-is) ∙ ap (λ (e : List ℕ). valueWord outcomeYes (length e)) is, sym (written .buffer-is) ∙ ap (λ (e : List ℕ). put result 0 e) is)
 
 -- a common picture that is given with buffers of the lengths laid down stands in any result buffer that is long enough, and covers both
 module _ (first second table : List ℕ) (is : lcsFile benchLimits first second ≡ table) where
@@ -87,7 +87,7 @@ module _ (first second table : List ℕ) (is : lcsFile benchLimits first second 
       let a = lcs-yes first second workRoom tableRoom told in (
         λ work result enough long.
             let given = lcs-common first second work result enough long (a .pair) (a .few) in
-            (given .0 ∙ ap (λ (e : List ℕ). valueWord outcomeYes (length e)) is, given .2 ∙ ap (λ (e : List ℕ). put result 0 e) is),
+            (sym (given .word-is) ∙ ap (λ (e : List ℕ). valueWord outcomeYes (length e)) is, sym (given .result-is) ∙ ap (λ (e : List ℕ). put result 0 e) is),
         subst (λ e. Covers benchLimits e first) is (lcs-covers-first benchLimits first second (a .few) bench),
         subst (λ e. Covers benchLimits e second) is (lcs-covers-second benchLimits first second (a .few) bench),
       )
