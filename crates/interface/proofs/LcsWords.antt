@@ -1,6 +1,5 @@
 -- The call that gives the common picture: which of its words is given for which inputs and buffers, what both buffers hold then, and what a word shows.
 -- The answers themselves, at any limits, are those of lcs (Answers, Conditions).
---   Gives, Refuses              the word and both buffers; the word of a refusal, and nothing written
 --   lcs-short                   1: the work space is shorter than two halves, or the result buffer than 6,147 bytes
 --   lcs-refuses                 2 to 13 of the first picture, then of the second; 14 of the first, then of the second (PairWords)
 --   lcs-large                    15: the common picture has more than 256 rows; both normal tables stand in the work space, nothing in the result buffer
@@ -30,7 +29,6 @@ use Rattle.lcs.specs.declared.common.Common.{Common}
 use Rattle.lcs.specs.declared.common.Common.the-variants as common
 use Rattle.meaning.specs.NormalTable.{normalFile}
 use Rattle.normal.specs.Half.{halfOf}
-use Rattle.picture.specs.declared.answer.Input.{Input}
 use Rattle.picture.specs.declared.answer.Input.the-variants.{Buffer, Second}
 use Rattle.picture.specs.declared.answer.Refusal.{Refusal}
 use Rattle.table.specs.Bounds.{benchLimits, maxRows, pictureSize}
@@ -40,62 +38,53 @@ use Rattle.workspace.proofs.Lendings.{acceptable-work, refused-work, short-work
 use Rattle.workspace.specs.Refusals.{TooShort}
 use Rattle.workspace.proofs.Preparations.{halves-same}
 use Rattle.workspace.specs.Prepare.{Acceptable, halvesPut, workSize}
-use Rattle.interface.specs.Calls.{lcsBuffer, LcsGives, lcsSpace, lcsWord, verifySpace}
+use Rattle.interface.specs.Calls.{LcsGives, LcsRefuses, lcsBuffer, lcsSpace, lcsWord, verifySpace}
 use Rattle.interface.specs.Refusals.{Refusals}
 use Rattle.interface.specs.Word.{commonWord, outcome, outcomeYes, refusalWord, refused, value, valueRange, valueWord}
 use Rattle.interface.proofs.PairWords.{bench, concerns-zero, known-zero, refusals}
 use Rattle.interface.proofs.Words.{value-outcome, value-value}
 
 module _ (first second work result : List ℕ) where
-  abbrev pub Gives : ℕ → List ℕ → List ℕ → Type 0
-  Gives word space buffer =
-      (lcsWord first second (length work) (length result) ≡ word)
-      × (lcsSpace first second work (length result) ≡ space)
-      × (lcsBuffer first second (length work) result ≡ buffer)
-
-  abbrev pub Refuses : ℕ → Input → Type 0
-  Refuses q input = Gives (refused q input) work result
-
-  pub lcs-short : TooShort benchLimits (pictureSize benchLimits) (length work) (length result) → Refuses 1 Buffer
+  pub lcs-short : TooShort benchLimits (pictureSize benchLimits) (length work) (length result) → LcsRefuses first second work result 1 Buffer
   unfolding lcsWord lcsSpace lcsBuffer
-  lcs-short h = (
-    ap commonWord (short-lcs benchLimits first second (length work) (length result) h),
-    short-work benchLimits (pictureSize benchLimits) first second work (length result) h,
-    short-result benchLimits first second (length work) result h,
-  )
+  lcs-short h = record {
+    word-is = sym (ap commonWord (short-lcs benchLimits first second (length work) (length result) h));
+    work-is = sym (short-work benchLimits (pictureSize benchLimits) first second work (length result) h);
+    result-is = sym (short-result benchLimits first second (length work) result h);
+  }
 
   pub lcs-space : pictureSize benchLimits ≤ length result → lcsSpace first second work (length result) ≡ verifySpace first second work
   unfolding lcsSpace verifySpace
   lcs-space long = pair-work benchLimits first second work (pictureSize benchLimits) (length result) long
 
   module _ (enough : workSize benchLimits ≤ length work) (long : pictureSize benchLimits ≤ length result) where
-    pub lcs-refuses : Refusals first second Refuses
+    pub lcs-refuses : Refusals first second (LcsRefuses first second work result)
     unfolding lcsWord lcsSpace lcsBuffer
     lcs-refuses =
-        refusals first second Refuses (λ r e. (
-          ap commonWord (refused-lcs benchLimits first second (length work) (length result) enough long r e),
-          refused-work benchLimits (pictureSize benchLimits) first second work (length result) enough long r e,
-          refused-result benchLimits first second (length work) result enough long r e,
-        ))
+        refusals first second (LcsRefuses first second work result) (λ r e. record {
+          word-is = sym (ap commonWord (refused-lcs benchLimits first second (length work) (length result) enough long r e));
+          work-is = sym (refused-work benchLimits (pictureSize benchLimits) first second work (length result) enough long r e);
+          result-is = sym (refused-result benchLimits first second (length work) result enough long r e);
+        })
 
     module _ (pair : Acceptable benchLimits first second) where
-      pub lcs-large : maxRows < lcsCount benchLimits first second → Gives (refused 15 Second) (halvesPut benchLimits first second work) result
+      pub lcs-large : maxRows < lcsCount benchLimits first second → LcsGives first second work result (refused 15 Second) (halvesPut benchLimits first second work) result
       unfolding lcsWord lcsSpace lcsBuffer
-      lcs-large many = (
-        ap commonWord (large-lcs benchLimits first second (length work) (length result) enough long pair many),
-        acceptable-work benchLimits (pictureSize benchLimits) first second work (length result) enough long pair,
-        large-result benchLimits first second (length work) result enough long pair many,
-      )
+      lcs-large many = record {
+        word-is = sym (ap commonWord (large-lcs benchLimits first second (length work) (length result) enough long pair many));
+        work-is = sym (acceptable-work benchLimits (pictureSize benchLimits) first second work (length result) enough long pair);
+        result-is = sym (large-result benchLimits first second (length work) result enough long pair many);
+      }
 
       pub lcs-common : lcsCount benchLimits first second ≤ maxRows →
-          Gives (valueWord outcomeYes (length (lcsFile benchLimits first second))) (halvesPut benchLimits first second work)
+          LcsGives first second work result (valueWord outcomeYes (length (lcsFile benchLimits first second))) (halvesPut benchLimits first second work)
           (put result 0 (lcsFile benchLimits first second))
       unfolding lcsWord lcsSpace lcsBuffer
-      lcs-common few = (
-        ap commonWord (common-lcs benchLimits first second (length work) (length result) enough long pair few),
-        acceptable-work benchLimits (pictureSize benchLimits) first second work (length result) enough long pair,
-        common-result benchLimits first second (length work) result enough long pair few,
-      )
+      lcs-common few = record {
+        word-is = sym (ap commonWord (common-lcs benchLimits first second (length work) (length result) enough long pair few));
+        work-is = sym (acceptable-work benchLimits (pictureSize benchLimits) first second work (length result) enough long pair);
+        result-is = sym (common-result benchLimits first second (length work) result enough long pair few);
+      }
 
       pub lcs-space-same :
           take (workSize benchLimits) (lcsSpace first second work (length result))

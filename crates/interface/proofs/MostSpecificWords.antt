@@ -1,6 +1,5 @@
 -- The call that gives the nearest cards: which of its words is given for which case, book and work space, what the work space holds then, and what a word
 -- shows. The answers themselves, at any limits, are those of book (Answers, Orders, Conditions).
---   Gives, Refuses                 the word and the work space; the word of a refusal, and nothing written
 --   most-specific-short            1: the work space is shorter than two halves
 --   most-specific-refuses          else the first question that is answered no: 2 to 13 of the case; 24; 2 to 13 of the cards in turn; 14 of the case, then of the cards
 --   most-specific-given            else the word of the nearest cards; the work space's two halves are zero
@@ -32,7 +31,6 @@ use Rattle.book.specs.Form.{cardCount}
 use Rattle.book.specs.Selection.{MostSpecific, mostSpecificCards}
 use Rattle.book.specs.declared.answer.Selected.{Selected}
 use Rattle.book.specs.declared.answer.Selected.the-variants.{Cards, Refused}
-use Rattle.picture.specs.declared.answer.Input.{Input}
 use Rattle.picture.specs.declared.answer.Input.the-variants.{Buffer}
 use Rattle.picture.specs.declared.answer.Refusal.{Refusal}
 use Rattle.table.specs.Bounds.{benchLimits}
@@ -40,34 +38,31 @@ use Rattle.table.specs.NameSet.{has}
 use Rattle.table.specs.Put.{put, zeros}
 use Rattle.table.specs.declared.layout.Limits.{Limits}
 use Rattle.workspace.specs.Prepare.{workSize}
-use Rattle.interface.specs.Calls.{MostSpecificGives, mostSpecificSpace, mostSpecificWord}
-use Rattle.interface.specs.Word.{card, cardOf, input, inputCode, outcome, outcomeYes, partRange, question, refused, selectedWord, value, valueRange, valueWord}
+use Rattle.interface.specs.Calls.{MostSpecificGives, MostSpecificRefuses, mostSpecificSpace, mostSpecificWord}
+use Rattle.interface.specs.Word.{card, cardOf, input, inputCode, outcome, outcomeYes, partRange, question, selectedWord, value, valueRange, valueWord}
 use Rattle.interface.proofs.Words.{refusal-card, refusal-input, refusal-outcome, refusal-question, value-outcome, value-value}
 
 module _ (case book work : List ℕ) where
-  abbrev pub Gives : ℕ → List ℕ → Type 0
-  Gives word space = (mostSpecificWord case book (length work) ≡ word) × (mostSpecificSpace case book work ≡ space)
-
-  abbrev pub Refuses : ℕ → Input → Type 0
-  Refuses q named = Gives (refused q named) work
-
-  refusing : (r : Refusal) → mostSpecificAnswer benchLimits case book (length work) ≡ Refused r → Refuses (r .number) (r .input)
+  refusing : (r : Refusal) → mostSpecificAnswer benchLimits case book (length work) ≡ Refused r → MostSpecificRefuses case book work (r .number) (r .input)
   unfolding mostSpecificWord mostSpecificSpace
-  refusing r e = (ap selectedWord e, refused-work benchLimits case book work r e)
+  refusing r e = record { word-is = sym (ap selectedWord e); buffer-is = sym (refused-work benchLimits case book work r e) }
 
-  pub most-specific-short : length work < workSize benchLimits → Refuses 1 Buffer
+  pub most-specific-short : length work < workSize benchLimits → MostSpecificRefuses case book work 1 Buffer
   most-specific-short short = refusing (record { number = 1; input = Buffer }) (short-answer benchLimits case book (length work) short)
 
   module _ (enough : workSize benchLimits ≤ length work) where
-    pub most-specific-refuses : (r : Refusal) → FirstNo benchLimits case book r → Refuses (r .number) (r .input)
+    pub most-specific-refuses : (r : Refusal) → FirstNo benchLimits case book r → MostSpecificRefuses case book work (r .number) (r .input)
     most-specific-refuses r first = refusing r (refused-exactly benchLimits case book (length work) r .1 (inr (enough, first)))
 
     pub most-specific-given : AcceptableBook benchLimits case book →
-        Gives (valueWord outcomeYes (mostSpecificCards benchLimits case book)) (put work 0 (zeros (workSize benchLimits)))
+        MostSpecificGives case book work (valueWord outcomeYes (mostSpecificCards benchLimits case book)) (put work 0 (zeros (workSize benchLimits)))
     unfolding mostSpecificWord mostSpecificSpace
     most-specific-given acceptable =
         let e = acceptable-answer benchLimits case book (length work) enough acceptable in
-        (ap selectedWord e, answered-work benchLimits case book work (mostSpecificCards benchLimits case book) e)
+        record {
+          word-is = sym (ap selectedWord e);
+          buffer-is = sym (answered-work benchLimits case book work (mostSpecificCards benchLimits case book) e);
+        }
 
   pub most-specific-past : (i : ℕ) → workSize benchLimits ≤ i → getD (mostSpecificSpace case book work) i 0 ≡ getD work i 0
   unfolding mostSpecificSpace

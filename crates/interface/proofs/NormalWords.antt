@@ -1,6 +1,5 @@
 -- The call that writes the normal table: which of its words is given for which picture and buffer, and what the buffer holds then.
 -- The answers themselves, at any limits, are normal's (Answers).
---   Refuses                               the word of a refusal, and nothing written
 --   normalize-short                       1: the buffer is shorter than the longest picture
 --   normalize-unreadable                  2 to 13, the number being that of the reading
 --   normalize-many                        14: the merged table has more rows than a picture may have
@@ -24,7 +23,6 @@ use Rattle.table.specs.Bounds.{benchLimits, maxRows, pictureSize}
 use Rattle.table.specs.Put.{put}
 use Rattle.picture.specs.Read.{readingOf}
 use Rattle.picture.specs.View.{Readable}
-use Rattle.picture.specs.declared.answer.Input.{Input}
 use Rattle.picture.specs.declared.answer.Input.the-variants.{Buffer, First}
 use Rattle.picture.specs.declared.read.Reading.{Reading}
 use Rattle.picture.specs.declared.read.Reading.the-variants as reading
@@ -36,44 +34,40 @@ use Rattle.meaning.specs.Meaning.{pictureTree}
 use Rattle.meaning.proofs.Normals.{normal-readable, normal-size, normalFile-equivalent}
 use Rattle.normal.specs.Call.{normalizeResult}
 use Rattle.normal.proofs.Answers.{Accepted, few-answer, many-answer, result-kept, result-past, short-answer, unreadable-answer}
-use Rattle.interface.specs.Word.{outcome, outcomeYes, refused, value, valueWord}
-use Rattle.interface.specs.Calls.{normalizeBuffer, normalizeWord}
+use Rattle.interface.specs.Word.{outcome, outcomeYes, value, valueWord}
+use Rattle.interface.specs.Calls.{NormalizeGives, NormalizeRefuses, normalizeBuffer, normalizeWord}
 use Rattle.interface.proofs.Words.{value-value}
 
 module _ (s out : List ℕ) where
-  abbrev pub Refuses : ℕ → Input → Type 0
-  Refuses q input = (normalizeWord s (length out) ≡ refused q input) × (normalizeBuffer s out ≡ out)
-
-  pub normalize-short : length out < pictureSize benchLimits → Refuses 1 Buffer
+  pub normalize-short : length out < pictureSize benchLimits → NormalizeRefuses s out 1 Buffer
   unfolding normalizeWord normalizeBuffer normalizeResult
-  normalize-short h = let e = short-answer benchLimits s (length out) h in (rw e, rw e)
+  normalize-short h = let e = short-answer benchLimits s (length out) h in record { word-is = rw e; buffer-is = rw e }
 
   module _ (enough : pictureSize benchLimits ≤ length out) where
-    pub normalize-unreadable : (q : ℕ) → readingOf benchLimits s ≡ reading.Failed q → Refuses q First
+    pub normalize-unreadable : (q : ℕ) → readingOf benchLimits s ≡ reading.Failed q → NormalizeRefuses s out q First
     unfolding normalizeWord normalizeBuffer normalizeResult
-    normalize-unreadable q h = let e = unreadable-answer benchLimits s (length out) enough q h in (rw e, rw e)
+    normalize-unreadable q h = let e = unreadable-answer benchLimits s (length out) enough q h in record { word-is = rw e; buffer-is = rw e }
 
     module _ (readable : Readable benchLimits s) where
-      pub normalize-many : maxRows < mergedCount benchLimits s → Refuses 14 First
+      pub normalize-many : maxRows < mergedCount benchLimits s → NormalizeRefuses s out 14 First
       unfolding normalizeWord normalizeBuffer normalizeResult
-      normalize-many h = let e = many-answer benchLimits s (length out) enough readable h in (rw e, rw e)
+      normalize-many h = let e = many-answer benchLimits s (length out) enough readable h in record { word-is = rw e; buffer-is = rw e }
 
       module _ (few : mergedCount benchLimits s ≤ maxRows) where
         pub normalize-written :
-            (normalizeWord s (length out) ≡ valueWord outcomeYes (length (normalFile benchLimits s)))
-            × (normalizeBuffer s out ≡ put out 0 (normalFile benchLimits s))
+            NormalizeGives s out (valueWord outcomeYes (length (normalFile benchLimits s))) (put out 0 (normalFile benchLimits s))
         unfolding normalizeWord normalizeBuffer normalizeResult
-        normalize-written = let e = few-answer benchLimits s (length out) enough readable few in (rw e, rw e)
+        normalize-written = let e = few-answer benchLimits s (length out) enough readable few in record { word-is = rw e; buffer-is = rw e }
 
         pub normalize-value : value (normalizeWord s (length out)) ≡ length (normalFile benchLimits s)
         normalize-value =
-            rw (normalize-written .0)
+            rw (sym (normalize-written .word-is))
             (value-value outcomeYes (length (normalFile benchLimits s)) (omega (arith, normal-size benchLimits s few)))
 
         pub normalize-result : take (value (normalizeWord s (length out))) (normalizeBuffer s out) ≡ normalFile benchLimits s
         unfolding put
         normalize-result =
-            rw (normalize-value, normalize-written .1)
+            rw (normalize-value, sym (normalize-written .buffer-is))
             (take-at (normalFile benchLimits s) (drop (0 + length (normalFile benchLimits s)) out) (length (normalFile benchLimits s)) refl)
 
         pub normalize-readable : Readable benchLimits (take (value (normalizeWord s (length out))) (normalizeBuffer s out))
@@ -89,19 +83,19 @@ module _ (s out : List ℕ) where
   yes-few : (b : Bool) → leb (mergedCount benchLimits s) maxRows ≡ b → pictureSize benchLimits ≤ length out → Readable benchLimits s → outcome (normalizeWord s (length out)) ≡ outcomeYes → Accepted benchLimits s (length out)
   yes-few true e enough readable h = record { enough = enough; readable = readable; few = leb-true (mergedCount benchLimits s) maxRows e }
   yes-few false e enough readable h =
-      let many = normalize-many enough readable (leb-false (mergedCount benchLimits s) maxRows e) .0 in
+      let many = normalize-many enough readable (leb-false (mergedCount benchLimits s) maxRows e) .word-is in
       absurd (omega (arith, many))
 
   yes-reading : (r : Reading) → readingOf benchLimits s ≡ r → pictureSize benchLimits ≤ length out → outcome (normalizeWord s (length out)) ≡ outcomeYes → Accepted benchLimits s (length out)
   yes-reading (reading.Rows n) e enough h = yes-few (leb (mergedCount benchLimits s) maxRows) refl enough (record { rows = n; reads = e }) h
   yes-reading (reading.Failed q) e enough h =
-      let failed = normalize-unreadable enough q e .0 in
+      let failed = normalize-unreadable enough q e .word-is in
       absurd (omega (arith, failed, reading-number benchLimits s q e .most))
 
   yes-room : (b : Bool) → leb (pictureSize benchLimits) (length out) ≡ b → outcome (normalizeWord s (length out)) ≡ outcomeYes → Accepted benchLimits s (length out)
   yes-room true e h = yes-reading (readingOf benchLimits s) refl (leb-true (pictureSize benchLimits) (length out) e) h
   yes-room false e h =
-      let short = normalize-short (leb-false (pictureSize benchLimits) (length out) e) .0 in
+      let short = normalize-short (leb-false (pictureSize benchLimits) (length out) e) .word-is in
       absurd (omega (arith, short))
 
   pub normalize-accepted : outcome (normalizeWord s (length out)) ≡ outcomeYes → Accepted benchLimits s (length out)

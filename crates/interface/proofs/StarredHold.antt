@@ -4,7 +4,7 @@
 use Prim.Native.Nat.{ℕ}
 use lib.ListN.{length}
 use mathlib.Core.List.{List}
-use mathlib.Core.Path.{_∙_, _≡_, ap, refl, subst}
+use mathlib.Core.Path.{_∙_, _≡_, ap, refl, subst, sym}
 use native.Mathlib.Omega.{arith}
 use Rattle.countermodel.specs.Individual.{individualHead, individualOk, refutationForm}
 use Rattle.countermodel.specs.Layout.{individualCount}
@@ -32,7 +32,7 @@ use Rattle.table.specs.Put.{put}
 use Rattle.table.specs.Range.{each}
 use Rattle.workspace.specs.Prepare.{Acceptable, mergedAsked, prepareAnswer}
 use Rattle.interface.specs.Calls.{lcsWord, validateWord, verifyWord}
-use Rattle.interface.specs.Starred.{AllHold, HasRows, Holds, WritesEvidence, common, empty, k10-first, k10-second, k11-first, k11-second, k12-first, k12-normal, k12-normal-again, k2-first, k2-normal, k3-first, k3-normal, k4-first, k4-normal, k5-first, k6-first, k6-more, k7-first, k7-map, k7-refutation, k7-second, k8-first, k8-map, k8-other, k8-refutation, k8-second, k9-common, k9-first, k9-second, normal, starred, subsumes, subsumesNot, tableRoom, workRoom}
+use Rattle.interface.specs.Starred.{WritesNormal, WritesCommon, AllHold, Holds, WritesEvidence, empty, k10-first, k10-second, k11-first, k11-second, k12-first, k12-normal, k12-normal-again, k2-first, k2-normal, k3-first, k3-normal, k4-first, k4-normal, k5-first, k6-first, k6-added-first, k6-added-normal, k7-first, k7-map, k7-refutation, k7-second, k8-first, k8-map, k8-other, k8-refutation, k8-second, k9-common, k9-first, k9-second, starred, subsumes, subsumesNot, tableRoom, workRoom}
 use Rattle.interface.specs.Word.{outcome, outcomeNo, outcomeYes, valueWord, verdictWord}
 use Rattle.interface.proofs.EmptySubsumes.{empty-subsumes}
 use Rattle.interface.proofs.LcsWords.{lcs-common, lcs-yes}
@@ -52,7 +52,7 @@ module _ (first second e : List ℕ) (is : evidenceOf benchLimits first second �
       WritesEvidence first second o e
   writes o pair told work result enough long =
       let decided = subsumes-decided first second work result enough long pair in
-      (decided .0 ∙ told, decided .2 ∙ ap (λ (l : List ℕ). put result 0 l) is)
+      (sym (decided .word-is) ∙ told, sym (decided .result-is) ∙ ap (λ (l : List ℕ). put result 0 l) is)
 
   shown : verdictWord (verdictAnswer benchLimits first second) ≡ valueWord outcomeYes (length e) →
       verifyWord first second e workRoom ≡ valueWord outcomeYes 0 → Holds (subsumes first second e)
@@ -73,26 +73,21 @@ module _ (first second e : List ℕ) (is : evidenceOf benchLimits first second �
       )
 
 -- a normal table that is computed stands in any result buffer that is long enough
-shown-normal : (rows : ℕ) (first : List ℕ) (left : ℕ) (table : List ℕ) → HasRows first rows → HasRows table left →
-    outcome (validateWord first) ≡ outcomeYes → leb (mergedCount benchLimits first) maxRows ≡ true → normalFile benchLimits first ≡ table →
-    Holds (normal rows first left table)
-shown-normal rows first left table counted left-counted opened few is = (
-  counted,
-  left-counted,
-  λ result long.
-      let written = normalize-written first result long (validate-readable first opened) (leb-true (mergedCount benchLimits first) maxRows few) in
-      (written .0 ∙ ap (λ (e : List ℕ). valueWord outcomeYes (length e)) is, written .1 ∙ ap (λ (e : List ℕ). put result 0 e) is),
-)
+shown-normal : (first table : List ℕ) → outcome (validateWord first) ≡ outcomeYes → leb (mergedCount benchLimits first) maxRows ≡ true →
+    normalFile benchLimits first ≡ table → WritesNormal first table
+shown-normal first table opened few is result long =
+    let written = normalize-written first result long (validate-readable first opened) (leb-true (mergedCount benchLimits first) maxRows few) in
+    (sym (written .word-is) ∙ ap (λ (e : List ℕ). valueWord outcomeYes (length e)) is, sym (written .buffer-is) ∙ ap (λ (e : List ℕ). put result 0 e) is)
 
 -- a common picture that is given with buffers of the lengths laid down stands in any result buffer that is long enough, and covers both
-module _ (first second : List ℕ) (rows : ℕ) (table : List ℕ) (is : lcsFile benchLimits first second ≡ table) where
-  shown-common : HasRows table rows → outcome (lcsWord first second workRoom tableRoom) ≡ outcomeYes → Holds (common first second rows table)
-  shown-common counted told =
+module _ (first second table : List ℕ) (is : lcsFile benchLimits first second ≡ table) where
+  shown-common : outcome (lcsWord first second workRoom tableRoom) ≡ outcomeYes →
+      WritesCommon first second table × Covers benchLimits table first × Covers benchLimits table second
+  shown-common told =
       let a = lcs-yes first second workRoom tableRoom told in (
-        counted,
         λ work result enough long.
             let given = lcs-common first second work result enough long (a .pair) (a .few) in
-            (given .0 ∙ ap (λ (e : List ℕ). valueWord outcomeYes (length e)) is, given .2 ∙ ap (λ (e : List ℕ). put result 0 e) is),
+            (sym (given .word-is) ∙ ap (λ (e : List ℕ). valueWord outcomeYes (length e)) is, sym (given .result-is) ∙ ap (λ (e : List ℕ). put result 0 e) is),
         subst (λ e. Covers benchLimits e first) is (lcs-covers-first benchLimits first second (a .few) bench),
         subst (λ e. Covers benchLimits e second) is (lcs-covers-second benchLimits first second (a .few) bench),
       )
@@ -105,17 +100,17 @@ unfolding be beBytes rowOf endBytes endsAt depthIn depth tagOk lengthFor kindOk 
 starred-hold = (
   empty-subsumes,
   (
-    shown-normal 1 k2-first 1 k2-normal refl refl refl refl refl,
+    (refl, refl, shown-normal k2-first k2-normal refl refl refl),
     (
-      shown-normal 3 k3-first 2 k3-normal refl refl refl refl refl,
+      (refl, refl, shown-normal k3-first k3-normal refl refl refl),
       (
-        shown-normal 3 k4-first 3 k4-normal refl refl refl refl refl,
+        (refl, refl, shown-normal k4-first k4-normal refl refl refl),
         (
-          shown-normal 2 k5-first 1 empty refl refl refl refl refl,
+          (refl, refl, shown-normal k5-first empty refl refl refl),
           (
-            shown-normal 2 k6-first 2 k6-first refl refl refl refl refl,
+            (refl, refl, shown-normal k6-first k6-first refl refl refl),
             (
-              shown-normal 3 k6-more 1 k2-normal refl refl refl refl refl,
+              (refl, refl, shown-normal k6-added-first k6-added-normal refl refl refl),
               (
                 shown k7-first k7-second k7-map refl refl refl,
                 (
@@ -125,15 +120,15 @@ starred-hold = (
                     (
                       shown-not k8-first k8-other k8-refutation refl refl refl,
                       (
-                        shown-common k9-first k9-second 3 k9-common refl refl refl,
+                        (refl, shown-common k9-first k9-second k9-common refl refl),
                         (
-                          shown-common k10-first k10-second 1 empty refl refl refl,
+                          (refl, shown-common k10-first k10-second empty refl refl),
                           (
-                            shown-common k11-first k11-second 2 k11-second refl refl refl,
+                            (refl, shown-common k11-first k11-second k11-second refl refl),
                             (
-                              shown-normal 4 k12-first 5 k12-normal refl refl refl refl refl,
+                              (refl, refl, shown-normal k12-first k12-normal refl refl refl),
                               (
-                                shown-normal 5 k12-normal 6 k12-normal-again refl refl refl refl refl,
+                                (refl, refl, shown-normal k12-normal k12-normal-again refl refl refl),
                                 tt,
                               ),
                             ),

@@ -1,6 +1,5 @@
 -- The call that gives the verdict: which of its words is given for which inputs and buffers, what both buffers hold then, and what a word shows.
 -- The answers themselves, at any limits, are subsumption's (Answers, Conditions).
---   Gives, Refuses              the word and both buffers; the word of a refusal, and nothing written
 --   subsumes-short              1: the work space is shorter than two halves, or the result buffer than 46,595 bytes
 --   subsumes-refuses            2 to 13 of the first picture, then of the second; 14 of the first, then of the second (PairWords)
 --   subsumes-decided            else the verdict and the evidence's length; both normal tables stand in the work space, the evidence in the result buffer
@@ -27,7 +26,6 @@ use mathlib.Core.Path.{_∙_, _≡_, ap, refl, subst, sym}
 use Rattle.table.specs.Bounds.{benchLimits}
 use Rattle.table.specs.Put.{put}
 use Rattle.table.specs.declared.layout.Limits.{Limits}
-use Rattle.picture.specs.declared.answer.Input.{Input}
 use Rattle.picture.specs.declared.answer.Input.the-variants.{Buffer}
 use Rattle.picture.specs.declared.answer.Refusal.{Refusal}
 use Rattle.meaning.specs.NormalTable.{normalFile}
@@ -47,59 +45,50 @@ use Rattle.subsumption.specs.Call.{subsumesAnswer, subsumesResult, subsumesWork
 use Rattle.subsumption.specs.Verdict.{evidenceOf, evidenceSize}
 use Rattle.subsumption.specs.declared.verdict.Verdict.{Verdict}
 use Rattle.subsumption.specs.declared.verdict.Verdict.the-variants as verdict
-use Rattle.interface.specs.Calls.{subsumesBuffer, SubsumesGives, subsumesSpace, subsumesWord, verifySpace, verifyWord}
+use Rattle.interface.specs.Calls.{SubsumesGives, SubsumesRefuses, subsumesBuffer, subsumesSpace, subsumesWord, verifySpace, verifyWord}
 use Rattle.interface.specs.Refusals.{Refusals}
-use Rattle.interface.specs.Word.{outcome, outcomeNo, outcomeYes, refusalWord, refused, value, valueRange, verdictWord, verifiedWord}
+use Rattle.interface.specs.Word.{outcome, outcomeNo, outcomeYes, refusalWord, value, valueRange, verdictWord, verifiedWord}
 use Rattle.interface.proofs.PairWords.{bench, known-zero, refusals}
 use Rattle.interface.proofs.Words.{value-outcome, value-value}
 
 module _ (first second work result : List ℕ) where
-  abbrev pub Gives : ℕ → List ℕ → List ℕ → Type 0
-  Gives word space buffer =
-      (subsumesWord first second (length work) (length result) ≡ word)
-      × (subsumesSpace first second work (length result) ≡ space)
-      × (subsumesBuffer first second (length work) result ≡ buffer)
-
-  abbrev pub Refuses : ℕ → Input → Type 0
-  Refuses q input = Gives (refused q input) work result
-
-  pub subsumes-short : TooShort benchLimits (evidenceSize benchLimits) (length work) (length result) → Refuses 1 Buffer
+  pub subsumes-short : TooShort benchLimits (evidenceSize benchLimits) (length work) (length result) → SubsumesRefuses first second work result 1 Buffer
   unfolding subsumesWord subsumesSpace subsumesBuffer
-  subsumes-short h = (
-    ap verdictWord (short-subsumes benchLimits first second (length work) (length result) h),
-    short-work benchLimits (evidenceSize benchLimits) first second work (length result) h,
-    short-result benchLimits first second (length work) result h,
-  )
+  subsumes-short h = record {
+    word-is = sym (ap verdictWord (short-subsumes benchLimits first second (length work) (length result) h));
+    work-is = sym (short-work benchLimits (evidenceSize benchLimits) first second work (length result) h);
+    result-is = sym (short-result benchLimits first second (length work) result h);
+  }
 
   pub subsumes-space : evidenceSize benchLimits ≤ length result → subsumesSpace first second work (length result) ≡ verifySpace first second work
   unfolding subsumesSpace verifySpace
   subsumes-space long = pair-work benchLimits first second work (evidenceSize benchLimits) (length result) long
 
   module _ (enough : workSize benchLimits ≤ length work) (long : evidenceSize benchLimits ≤ length result) where
-    pub subsumes-refuses : Refusals first second Refuses
+    pub subsumes-refuses : Refusals first second (SubsumesRefuses first second work result)
     unfolding subsumesWord subsumesSpace subsumesBuffer
     subsumes-refuses =
-        refusals first second Refuses (λ r e. (
-          ap verdictWord (refused-subsumes benchLimits first second (length work) (length result) enough long r e),
-          refused-work benchLimits (evidenceSize benchLimits) first second work (length result) enough long r e,
-          refused-result benchLimits first second (length work) result enough long r e,
-        ))
+        refusals first second (SubsumesRefuses first second work result) (λ r e. record {
+          word-is = sym (ap verdictWord (refused-subsumes benchLimits first second (length work) (length result) enough long r e));
+          work-is = sym (refused-work benchLimits (evidenceSize benchLimits) first second work (length result) enough long r e);
+          result-is = sym (refused-result benchLimits first second (length work) result enough long r e);
+        })
 
     module _ (pair : Acceptable benchLimits first second) where
       pub subsumes-decided :
-          Gives (verdictWord (verdictAnswer benchLimits first second)) (halvesPut benchLimits first second work) (put result 0 (evidenceOf benchLimits first second))
+          SubsumesGives first second work result (verdictWord (verdictAnswer benchLimits first second)) (halvesPut benchLimits first second work) (put result 0 (evidenceOf benchLimits first second))
       unfolding subsumesWord subsumesSpace subsumesBuffer
-      subsumes-decided = (
-        ap verdictWord (acceptable-subsumes benchLimits first second (length work) (length result) enough long pair),
-        acceptable-work benchLimits (evidenceSize benchLimits) first second work (length result) enough long pair,
-        acceptable-result benchLimits first second (length work) result enough long pair,
-      )
+      subsumes-decided = record {
+        word-is = sym (ap verdictWord (acceptable-subsumes benchLimits first second (length work) (length result) enough long pair));
+        work-is = sym (acceptable-work benchLimits (evidenceSize benchLimits) first second work (length result) enough long pair);
+        result-is = sym (acceptable-result benchLimits first second (length work) result enough long pair);
+      }
 
       pub subsumes-space-same :
           take (workSize benchLimits) (subsumesSpace first second work (length result))
           ≡ halfOf benchLimits (normalFile benchLimits first) ++ halfOf benchLimits (normalFile benchLimits second)
       subsumes-space-same =
-          ap (λ (l : List ℕ). take (workSize benchLimits) l) (subsumes-decided .1)
+          ap (λ (l : List ℕ). take (workSize benchLimits) l) (sym (subsumes-decided .work-is))
           ∙ halves-same benchLimits first second work (pair .first-few) (pair .second-few)
 
   pub subsumes-past : (i : ℕ) → workSize benchLimits ≤ i → getD (subsumesSpace first second work (length result)) i 0 ≡ getD work i 0

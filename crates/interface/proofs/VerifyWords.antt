@@ -1,6 +1,5 @@
 -- The call that checks evidence: which of its words is given for which inputs and work space, what the work space holds then, and what a word shows.
 -- The answers themselves, at any limits, are evidence's (Verifications, Soundness).
---   Refuses                       the word of a refusal, and nothing written
 --   verify-short                  1: the work space is shorter than two halves
 --   verify-refuses                2 to 13 of the first picture, then of the second; 14 of the first, then of the second (PairWords)
 --   verify-checked                else 16 to 23 decide the word, and both normal tables stand in the work space
@@ -20,10 +19,9 @@ use native.Mathlib.Omega.{arith}
 use lib.ListN.{getD, length, take}
 use mathlib.Core.List.{List, _++_}
 use mathlib.Core.Logic.{_↔_, _⊎_, inl, inr, ⊎-elim}
-use mathlib.Core.Path.{_∙_, _≡_, ap, refl}
+use mathlib.Core.Path.{_∙_, _≡_, ap, refl, sym}
 use Rattle.table.specs.Bounds.{benchLimits}
 use Rattle.table.specs.Number.{Bytes}
-use Rattle.picture.specs.declared.answer.Input.{Input}
 use Rattle.picture.specs.declared.answer.Input.the-variants.{Buffer, Evidence}
 use Rattle.picture.specs.declared.answer.Refusal.{Refusal}
 use Rattle.meaning.specs.Covering.{Covers}
@@ -40,39 +38,42 @@ use Rattle.evidence.specs.declared.check.Verified.{Verified}
 use Rattle.evidence.specs.declared.check.Verified.the-variants as verified
 use Rattle.subsumption.proofs.Conditions.{condition-3}
 use Rattle.subsumption.proofs.Writers.{map-covers, refutation-fails}
-use Rattle.interface.specs.Calls.{verifySpace, verifyWord}
+use Rattle.interface.specs.Calls.{VerifyGives, VerifyRefuses, verifySpace, verifyWord}
 use Rattle.interface.specs.Refusals.{Refusals}
-use Rattle.interface.specs.Word.{outcome, outcomeNo, outcomeYes, refusalWord, refused, verifiedWord}
+use Rattle.interface.specs.Word.{outcome, outcomeNo, outcomeYes, refusalWord, verifiedWord}
 use Rattle.interface.proofs.PairWords.{bench, concerns-zero, known-zero, refusals}
 
 module _ (first second evidence work : List ℕ) where
-  abbrev pub Refuses : ℕ → Input → Type 0
-  Refuses q input = (verifyWord first second evidence (length work) ≡ refused q input) × (verifySpace first second work ≡ work)
-
-  pub verify-short : length work < workSize benchLimits → Refuses 1 Buffer
+  pub verify-short : length work < workSize benchLimits → VerifyRefuses first second evidence work 1 Buffer
   unfolding verifyWord verifySpace
-  verify-short h = (rw (short-verify benchLimits first second evidence (length work) h), short-work benchLimits first second work h)
+  verify-short h = record {
+    word-is = rw (short-verify benchLimits first second evidence (length work) h);
+    buffer-is = sym (short-work benchLimits first second work h);
+  }
 
   module _ (enough : workSize benchLimits ≤ length work) where
-    pub verify-refuses : Refusals first second Refuses
+    pub verify-refuses : Refusals first second (VerifyRefuses first second evidence work)
     unfolding verifyWord verifySpace
     verify-refuses =
-        refusals first second Refuses (λ r e.
-        (rw (refused-verify benchLimits first second evidence (length work) enough r e), refused-work benchLimits first second work enough r e))
+        refusals first second (VerifyRefuses first second evidence work) (λ r e. record {
+          word-is = rw (refused-verify benchLimits first second evidence (length work) enough r e);
+          buffer-is = sym (refused-work benchLimits first second work enough r e);
+        })
 
     module _ (pair : Acceptable benchLimits first second) where
       pub verify-checked :
-          (verifyWord first second evidence (length work) ≡ verifiedWord (evidenceAnswer benchLimits first second evidence))
-          × (verifySpace first second work ≡ halvesPut benchLimits first second work)
+          VerifyGives first second evidence work (verifiedWord (evidenceAnswer benchLimits first second evidence)) (halvesPut benchLimits first second work)
       unfolding verifyWord verifySpace
-      verify-checked =
-          (rw (acceptable-verify benchLimits first second evidence (length work) enough pair), acceptable-work benchLimits first second work enough pair)
+      verify-checked = record {
+        word-is = rw (acceptable-verify benchLimits first second evidence (length work) enough pair);
+        buffer-is = sym (acceptable-work benchLimits first second work enough pair);
+      }
 
       pub verify-space-same :
           take (workSize benchLimits) (verifySpace first second work)
           ≡ halfOf benchLimits (normalFile benchLimits first) ++ halfOf benchLimits (normalFile benchLimits second)
       verify-space-same =
-          ap (λ (l : List ℕ). take (workSize benchLimits) l) (verify-checked .1)
+          ap (λ (l : List ℕ). take (workSize benchLimits) l) (sym (verify-checked .buffer-is))
           ∙ halves-same benchLimits first second work (pair .first-few) (pair .second-few)
 
   pub verify-past : (i : ℕ) → workSize benchLimits ≤ i → getD (verifySpace first second work) i 0 ≡ getD work i 0

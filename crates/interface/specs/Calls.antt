@@ -8,11 +8,15 @@
 --   OneBuffer, TwoBuffers                         the word and what is left in the buffers are those of given definitions
 --   NormalizeGives, SubsumesGives, LcsGives,
 --   VerifyGives, MostSpecificGives                so of each call: the inputs, the buffers as lent, the word, and the buffers as left
+--   NormalizeRefuses, SubsumesRefuses,
+--   LcsRefuses, VerifyRefuses,
+--   MostSpecificRefuses                           the word of a refusal, by its number and input, and nothing written
 use lib.ListN.{length}
 use mathlib.Core.List.{List}
 use mathlib.Core.Path.{_≡_}
 use Prim.Native.Nat.{ℕ}
 use Rattle.table.specs.Bounds.{benchLimits}
+use Rattle.picture.specs.declared.answer.Input.{Input}
 use Rattle.picture.specs.declared.answer.Input.the-variants.{First}
 use Rattle.picture.specs.Read.{answerOf}
 use Rattle.normal.specs.Call.{normalizeAnswer, normalizeResult}
@@ -20,7 +24,7 @@ use Rattle.evidence.specs.Call.{verifyAnswer, verifyWork}
 use Rattle.lcs.specs.Call.{lcsAnswer, lcsResult, lcsWork}
 use Rattle.book.specs.Call.{mostSpecificAnswer, mostSpecificWork}
 use Rattle.subsumption.specs.Call.{subsumesAnswer, subsumesResult, subsumesWork}
-use Rattle.interface.specs.Word.{commonWord, normalizedWord, readWord, selectedWord, verdictWord, verifiedWord}
+use Rattle.interface.specs.Word.{commonWord, normalizedWord, readWord, refused, selectedWord, verdictWord, verifiedWord}
 
 -- Test one picture; give its row count. A single picture is the first input.
 unfoldable pub validateWord : List ℕ → ℕ
@@ -105,3 +109,18 @@ VerifyGives first second evidence = OneBuffer (verifyWord first second evidence)
 
 abbrev pub MostSpecificGives : List ℕ → List ℕ → List ℕ → ℕ → List ℕ → Type 0
 MostSpecificGives case book = OneBuffer (mostSpecificWord case book) (mostSpecificSpace case book)
+
+abbrev pub NormalizeRefuses : List ℕ → List ℕ → ℕ → Input → Type 0
+NormalizeRefuses picture result q input = NormalizeGives picture result (refused q input) result
+
+abbrev pub SubsumesRefuses : List ℕ → List ℕ → List ℕ → List ℕ → ℕ → Input → Type 0
+SubsumesRefuses first second work result q input = SubsumesGives first second work result (refused q input) work result
+
+abbrev pub LcsRefuses : List ℕ → List ℕ → List ℕ → List ℕ → ℕ → Input → Type 0
+LcsRefuses first second work result q input = LcsGives first second work result (refused q input) work result
+
+abbrev pub VerifyRefuses : List ℕ → List ℕ → List ℕ → List ℕ → ℕ → Input → Type 0
+VerifyRefuses first second evidence work q input = VerifyGives first second evidence work (refused q input) work
+
+abbrev pub MostSpecificRefuses : List ℕ → List ℕ → List ℕ → ℕ → Input → Type 0
+MostSpecificRefuses case book work q input = MostSpecificGives case book work (refused q input) work

@@ -150,9 +150,7 @@ Holds (subsumesNot first second refuting) =
     × (Covers benchLimits second first → ⊥)
 Holds (common first second rows table) =
     HasRows table rows
-    × WritesCommon first second table
-    × Covers benchLimits table first
-    × Covers benchLimits table second
+    × (WritesCommon first second table × Covers benchLimits table first × Covers benchLimits table second)
 Holds (subsumesAll rows second map) =
     HasRows second rows
     × ((first : List ℕ) → Readable benchLimits first →
@@ -216,14 +214,17 @@ k5 = normal 2 k5-first 1 empty
 abbrev pub k6-first : List ℕ
 k6-first = picture (root [] ∷ impossibleAllRow 0 r ∷ [])
 
-abbrev pub k6-more : List ℕ
-k6-more = picture (root [] ∷ impossibleAllRow 0 r ∷ someRow 0 r [] ∷ [])
+abbrev pub k6-added-first : List ℕ
+k6-added-first = picture (root [] ∷ impossibleAllRow 0 r ∷ someRow 0 r [] ∷ [])
+
+abbrev pub k6-added-normal : List ℕ
+k6-added-normal = picture (impossibleRoot ∷ [])
 
 abbrev pub k6 : Case
 k6 = normal 2 k6-first 2 k6-first
 
 abbrev pub k6-added : Case
-k6-added = normal 3 k6-more 1 k2-normal
+k6-added = normal 3 k6-added-first 1 k6-added-normal
 
 -- some r{3}, some r{5} covers some r{3,5}; not the reverse.
 abbrev pub k7-first : List ℕ
