@@ -6,10 +6,10 @@
 --   prepare-many-second               14 of the first, of the second
 --   prepare-tables, acceptable-tables the rows of both normal tables
 --   tables-acceptable                 tables are given in no other case, and with no other rows
---   length-halves                     the work space keeps its length
---   halves-same                       what stood in its halves does not matter
 --   halves-first, halves-second       each half begins with a normal file
+--   halves-same                       what stood in its halves does not matter
 --   halves-past                       bytes past both halves keep their contents
+--   length-halves                     the work space keeps its length
 use Prim.Native.Nat.{_<_, _≤_, ℕ}
 use borrow.Author.Tests.{le-leb, leb-true, lt-leb}
 use lib.Dec.{leb}
@@ -153,18 +153,6 @@ module _ (limits : Limits) (first second work : List ℕ) (first-few : mergedCou
   upper : length (half limits second) ≡ pictureSize limits
   upper = length-normal limits second second-few
 
-  pub length-halves : workSize limits ≤ length work → length (halvesPut limits first second work) ≡ length work
-  unfolding halvesPut
-  length-halves room =
-      length-put work 0 (half limits first ++ half limits second)
-      (omega (arith, length-join (pictureSize limits) (half limits first) (half limits second) lower upper))
-
-  pub halves-same :
-      take (workSize limits) (halvesPut limits first second work)
-      ≡ halfOf limits (normalFile limits first) ++ halfOf limits (normalFile limits second)
-  unfolding halvesPut
-  halves-same = join-whole (pictureSize limits) (half limits first) (half limits second) lower upper work
-
   pub halves-first : take (length (normalFile limits first)) (halvesPut limits first second work) ≡ normalFile limits first
   unfolding halvesPut
   halves-first =
@@ -179,6 +167,18 @@ module _ (limits : Limits) (first second work : List ℕ) (first-few : mergedCou
       (normal-size limits second second-few)
       ∙ half-file limits (normalFile limits second)
 
+  pub halves-same :
+      take (workSize limits) (halvesPut limits first second work)
+      ≡ halfOf limits (normalFile limits first) ++ halfOf limits (normalFile limits second)
+  unfolding halvesPut
+  halves-same = join-whole (pictureSize limits) (half limits first) (half limits second) lower upper work
+
   pub halves-past : (i : ℕ) → workSize limits ≤ i → getD (halvesPut limits first second work) i 0 ≡ getD work i 0
   unfolding halvesPut
   halves-past = join-past (pictureSize limits) (half limits first) (half limits second) lower upper work
+
+  pub length-halves : workSize limits ≤ length work → length (halvesPut limits first second work) ≡ length work
+  unfolding halvesPut
+  length-halves room =
+      length-put work 0 (half limits first ++ half limits second)
+      (omega (arith, length-join (pictureSize limits) (half limits first) (half limits second) lower upper))
