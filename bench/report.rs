@@ -121,7 +121,8 @@ pub fn growth(growth: &[Vec<Race>]) {
     let cells = format!("{:>5} {:>9} ", "size", "ns").repeat(GROWTH[0].3.len());
     println!("{:<13} {:<28} {:<11} {cells}{:>8}", "call", "input", "size in", "exponent");
     for ((call, name, unit, sizes, _), races) in GROWTH.iter().zip(growth) {
-        let points: Vec<(f64, f64)> = sizes.iter().zip(races).map(|(&size, race)| (size as f64, race.best[0])).collect();
+        let points: Vec<(f64, f64)> =
+            sizes.iter().zip(races).map(|(&size, race)| (size as f64, race.best[0])).collect();
         let cells: String = points.iter().map(|(size, time)| format!("{size:>5} {time:>9.0} ")).collect();
         let [.., before, last] = points[..] else { continue };
         let exponent = (last.1 / before.1).ln() / (last.0 / before.0).ln();
