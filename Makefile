@@ -6,7 +6,8 @@
 # make demo       validate the sample pictures, print their normal tables, ask which subsumes which, check the
 #                 sample evidence, print common pictures, look up cards and explain them, and run the verdict
 #                 program
-# make bench      time the library beside the same calls hand-written in C and in Rust
+# make bench      print one table of the time of each call beside the same call hand-written in Rust and in C, and how
+#                 it grows with the size
 # make fuzz       fuzz all calls with libFuzzer, each for a minute; or CALL=lcs SECONDS=600
 # make valgrind   run the calls and the smaller C tests under valgrind
 # make shared     link the built library as build/shared/libzuvaropy.so
@@ -67,24 +68,17 @@ demo: library program
 	@sh samples/explain.sh build/examples/explain
 	@sh samples/verdict.sh $(PROGRAM)
 
-bench: library
-	@mkdir -p build/bench
-	@$(CC) $(CFLAGS) -Iinclude bench/validate.c bench/scan.c bench/timing.c $(LIBRARY) -o build/bench/validate
-	@$(CC) $(CFLAGS) -Iinclude -Itests bench/normalize.c bench/merge.c bench/scan.c bench/timing.c tests/picture.c \
-	    tests/random.c tests/check.c $(LIBRARY) -o build/bench/normalize
-	@$(CC) $(CFLAGS) -Iinclude -Itests bench/verify.c bench/inputs.c bench/audit.c bench/merge.c bench/scan.c \
-	    bench/timing.c tests/picture.c tests/rows.c tests/random.c tests/evidence.c tests/witness.c \
-	    tests/normal_reference.c tests/reference.c tests/check.c $(LIBRARY) -o build/bench/verify
-	@for call in subsumes lcs most_specific; do \
-	    rustc --edition 2021 -O -C panic=abort -D warnings bench/$$call.rs -C link-arg=$(LIBRARY) \
-	        -o build/bench/$$call || exit; \
-	done
-	@build/bench/validate
-	@build/bench/normalize
-	@build/bench/subsumes
-	@build/bench/verify
-	@build/bench/lcs
-	@build/bench/most_specific
+# What the library is timed beside: the plain C, and the Rust of tests/rust.
+PLAIN = $(patsubst %,build/bench/%.o,scan merge audit)
+
+bench: library $(PLAIN)
+	@rustc --edition 2021 -O -C panic=abort -D warnings bench/bench.rs \
+	    $(patsubst %,-C link-arg=%,$(PLAIN) $(LIBRARY)) -o build/bench/bench
+	@build/bench/bench
+
+build/bench/%.o: bench/%.c bench/%.h include/zuvaropy.h
+	@mkdir -p $(@D)
+	@$(CC) $(CFLAGS) -Iinclude -c $< -o $@
 
 CALL =
 SECONDS = 60

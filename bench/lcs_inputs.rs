@@ -1,7 +1,6 @@
 //! Pairs of pictures whose common picture is timed: each maker gives the first and the second tree.
 
-use super::pair_bench::Pair;
-use super::parts::{card, coded, hang, DEPTH};
+use super::parts::{card, coded, hang, Pair, DEPTH};
 use super::reference::table::{KIND_FORALL, MAX_ROWS};
 use super::rng::Rng;
 use super::trees::{all, root, some, spread, Node, Tree};
@@ -131,9 +130,9 @@ pub fn roles() -> Pair {
 }
 
 /// All roles at several nodes.
-pub fn roles_large() -> Pair {
+pub fn roles_large(rows: usize) -> Pair {
     let mut tree = vec![root()];
-    tree.extend((0..MAX_ROWS - 1).map(|number| coded(some(number / 32, (number % 32) as u8, 0), number)));
+    tree.extend((0..rows - 1).map(|number| coded(some(number / 32, (number % 32) as u8, 0), number)));
     twice(tree)
 }
 

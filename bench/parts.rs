@@ -6,6 +6,9 @@ use super::trees::{all, chain, root, some, Node, Tree};
 
 pub const DEPTH: usize = MAX_DEPTH as usize;
 
+/// The first and the second tree.
+pub type Pair = (Tree, Tree);
+
 /// Labels of which none carries another: eight names, each wanted or excluded.
 pub fn coded(node: Node, code: usize) -> Node {
     let wanted = code as u64 & 0xFF;

@@ -1,7 +1,6 @@
 //! Pairs of pictures whose verdict is timed: each maker gives the first and the second tree.
 
-use super::pair_bench::Pair;
-use super::parts::{card, coded, hang, DEPTH};
+use super::parts::{card, coded, hang, Pair, DEPTH};
 use super::reference::table::{KIND_EXISTS, KIND_FORALL, MAX_ROWS};
 use super::rng::Rng;
 use super::trees::{chain, root, some, spread, Node};
