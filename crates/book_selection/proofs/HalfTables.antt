@@ -24,7 +24,7 @@ use Rattle.table.specs.NameSet.{has}
 use Rattle.table.specs.declared.layout.Limits.{Limits}
 use Rattle.workspace.proofs.Halves.{put-upper, upper-part}
 use Rattle.workspace.specs.Prepare.{workSize}
-use Rattle.prepare.specs.Tables.{TablesIn, firstIn, secondIn}
+use Rattle.prepare_pair.specs.Tables.{TablesIn, firstIn, secondIn}
 use Rattle.workspace.specs.declared.prepare.Pair.{Pair}
 use Rattle.book.specs.Form.{card}
 use Rattle.book.specs.Selection.{cardCovers}

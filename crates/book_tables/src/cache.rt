@@ -2,7 +2,7 @@
 use crate::covering::tabulate_card;
 use book_form::form::MAX_CARDS;
 use book_form::form::PLACES;
-use normalize::normalize::SCRATCH;
+use normalize_call::normalize::SCRATCH;
 use table::layout::END_SIZE;
 use table::layout::Limits;
 use table::layout::place;

@@ -3,7 +3,7 @@ use lcs::common::Common;
 use lcs_call::call::lcs;
 use libc::STDOUT_FILENO;
 use normal::normalize::Normalized;
-use normalize::normalize::normalize;
+use normalize_call::normalize::normalize;
 use picture::answer::Answer;
 use picture::answer::Input;
 use picture::answer::Refusal;

@@ -22,9 +22,9 @@ use Rattle.countermodel.specs.Individual.{individualOk, refutationForm}
 use Rattle.countermodel.specs.Layout.{individualCount}
 use Rattle.countermodel.specs.Model.{modelTree, rowTree}
 use Rattle.model_check.specs.ModelRows.{fitsRow}
-use Rattle.prepare.proofs.TablesIn.{prepared-first, prepared-pair, prepared-second}
+use Rattle.prepare_pair.proofs.TablesIn.{prepared-first, prepared-pair, prepared-second}
 use Rattle.workspace.specs.Prepare.{Acceptable, halvesPut, onPrepared, prepareAnswer, workSize}
-use Rattle.prepare.specs.Tables.{firstIn, secondIn}
+use Rattle.prepare_pair.specs.Tables.{firstIn, secondIn}
 use Rattle.workspace.specs.declared.prepare.Pair.{Pair}
 use Rattle.workspace.specs.declared.prepare.Prepared.{Prepared}
 use Rattle.workspace.specs.declared.prepare.Prepared.the-variants.{Tables}

@@ -30,10 +30,10 @@ use Rattle.table.specs.Layout.{endSize, «place»}
 use Rattle.table.specs.Put.{put}
 use Rattle.table_rows.specs.declared.builder.Builder.{Builder}
 use Rattle.table.specs.declared.layout.Limits.{Limits}
-use Rattle.prepare.proofs.TablesIn.{prepared-pair, prepared-tables}
+use Rattle.prepare_pair.proofs.TablesIn.{prepared-pair, prepared-tables}
 use Rattle.workspace.specs.Lent.{pairWork, roomy}
 use Rattle.workspace.specs.Prepare.{Acceptable, halvesPut, onPrepared, prepareAnswer, workSize}
-use Rattle.prepare.specs.Tables.{firstIn, secondIn}
+use Rattle.prepare_pair.specs.Tables.{firstIn, secondIn}
 use Rattle.workspace.specs.declared.prepare.Pair.{Pair}
 use Rattle.workspace.specs.declared.prepare.Prepared.{Prepared}
 use Rattle.workspace.specs.declared.prepare.Prepared.the-variants as prepared

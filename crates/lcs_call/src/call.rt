@@ -1,12 +1,12 @@
 // The fourth call: question 1, both pictures into the work space, question 15, and the common picture into the result buffer.
 use lcs::common::Common;
-use normalize::normalize::SCRATCH;
-use normalize::normalize::write_table;
+use normalize_call::normalize::SCRATCH;
+use normalize_call::normalize::write_table;
 use picture::answer::Input;
 use picture::answer::Refusal;
-use prepare::prepare::half_size;
-use prepare::prepare::has_room;
-use prepare::prepare::prepare;
+use prepare_pair::prepare::half_size;
+use prepare_pair::prepare::has_room;
+use prepare_pair::prepare::prepare;
 use product_writer::graft::build;
 use table::layout::END_SIZE;
 use table::layout::Limits;
@@ -18,7 +18,7 @@ ghost use Prim.Native.Nat.{ℕ, _≤_};
 ghost use lib.ListN.{length};
 ghost use Rattle.table.specs.Bounds.{Bounded, pictureSize};
 ghost use Rattle.row_sets.specs.Rows.{Checked};
-ghost use Rattle.prepare.specs.Tables.{TablesIn, firstIn, secondIn};
+ghost use Rattle.prepare_pair.specs.Tables.{TablesIn, firstIn, secondIn};
 ghost use Rattle.lcs.specs.Call.{lcsAnswer, lcsResult, lcsWork, onCommon};
 ghost use Rattle.product_writer.specs.Tables.{Trims, commonFileIn, commonIn};
 

@@ -12,7 +12,7 @@ use picture::answer::Answer;
 use picture::answer::Input;
 use picture::answer::Refusal;
 use picture_reader::read::read;
-use prepare::prepare::half_size;
+use prepare_pair::prepare::half_size;
 use table::layout::HEAD_SIZE;
 use table::layout::Limits;
 ghost use mathlib.Core.Path.{_≡_};

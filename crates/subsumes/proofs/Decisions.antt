@@ -17,8 +17,8 @@ use Rattle.ale.specs.RowMap.{image}
 use Rattle.countermodel.proofs.Individuals.{within-most}
 use Rattle.refutation_writer.specs.Refuting.{againstTree}
 use Rattle.countermodel.specs.Writing.{RefutationRoom, refutationFile}
-use Rattle.prepare.proofs.TablesIn.{prepared-pair, prepared-tables}
-use Rattle.prepare.specs.Tables.{firstIn, secondIn}
+use Rattle.prepare_pair.proofs.TablesIn.{prepared-pair, prepared-tables}
+use Rattle.prepare_pair.specs.Tables.{firstIn, secondIn}
 use Rattle.homomorphism.proofs.MapFiles.{length-mapFile}
 use Rattle.homomorphism_search.proofs.NormalMaps.{normal-maps}
 use Rattle.homomorphism.specs.Layout.{imagePlace}

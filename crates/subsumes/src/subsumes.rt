@@ -2,9 +2,9 @@
 use crate::verdict::decide;
 use picture::answer::Input;
 use picture::answer::Refusal;
-use prepare::prepare::half_size;
-use prepare::prepare::has_room;
-use prepare::prepare::prepare;
+use prepare_pair::prepare::half_size;
+use prepare_pair::prepare::has_room;
+use prepare_pair::prepare::prepare;
 use refutation_reader::layout::individual_place;
 use refutation_reader::layout::individuals_within;
 use subsumption::verdict::Verdict;
@@ -18,7 +18,7 @@ ghost use Prim.Native.Nat.{ℕ};
 ghost use lib.ListN.{length};
 ghost use Rattle.table.specs.Bounds.{Bounded};
 ghost use Rattle.table.specs.Put.{put};
-ghost use Rattle.prepare.specs.Tables.{TablesIn, firstIn, secondIn};
+ghost use Rattle.prepare_pair.specs.Tables.{TablesIn, firstIn, secondIn};
 ghost use Rattle.subsumption.specs.Call.{subsumesAnswer, subsumesResult, subsumesWork};
 ghost use Rattle.subsumes.specs.Tables.{Settled, evidenceIn, verdictIn};
 

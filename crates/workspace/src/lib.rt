@@ -1,2 +1,2 @@
-// The work space of the calls on two pictures. Definitions and laws; the code is in prepare.
+// The work space of the calls on two pictures. Definitions and laws; the code is in prepare_pair.
 pub mod prepare;

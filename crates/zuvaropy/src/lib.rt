@@ -8,7 +8,7 @@ use answer_word::answers::verified_word;
 use evidence_check::verify::verify;
 use lcs_call::call::lcs;
 use most_specific::most_specific::most_specific;
-use normalize::normalize::normalize;
+use normalize_call::normalize::normalize;
 use picture::answer::Input;
 use picture_reader::read::read;
 use subsumes::subsumes::subsumes;

@@ -8,8 +8,8 @@ use mathlib.Core.Path.{refl, subst, sym}
 use Rattle.table.proofs.Stores.{blank}
 use Rattle.row_sets.specs.Rows.{Checked}
 use Rattle.homomorphism_search.specs.Search.{LinkedTable, rowMaps}
-use Rattle.prepare.proofs.TablesIn.{first-part, of-parts, second-part}
-use Rattle.prepare.specs.Tables.{firstIn, secondIn}
+use Rattle.prepare_pair.proofs.TablesIn.{first-part, of-parts, second-part}
+use Rattle.prepare_pair.specs.Tables.{firstIn, secondIn}
 use Rattle.book_form.specs.Places.{WithEach}
 use Rattle.book_selection.proofs.HalfTables.{with-each}
 use borrow.Author.Needs.{needs}

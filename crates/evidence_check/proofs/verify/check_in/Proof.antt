@@ -6,8 +6,8 @@ use lib.ListN.{drop, take}
 use lib.Seq.{length-take-le}
 use Prim.Native.Nat.{_+_, _-_}
 use Rattle.row_sets.specs.Rows.{Checked}
-use Rattle.prepare.specs.Tables.{firstIn, secondIn}
-use Rattle.prepare.proofs.TablesIn.{first-part, second-part}
+use Rattle.prepare_pair.specs.Tables.{firstIn, secondIn}
+use Rattle.prepare_pair.proofs.TablesIn.{first-part, second-part}
 use Rattle.evidence_check.proofs.CheckLaws.{check-parts}
 use borrow.Author.Needs.{needs}
 use Rattle.evidence_check.proofs.verify.check_in.Statement.{statement}

@@ -6,7 +6,7 @@ use denote.Ref.{now}
 use lib.ListN.{length}
 use Rattle.workspace.specs.Prepare.{workSize}
 use Rattle.workspace.specs.declared.prepare.Prepared.the-variants.{Refused, Tables}
-use Rattle.prepare.proofs.TablesIn.{prepared-in}
+use Rattle.prepare_pair.proofs.TablesIn.{prepared-in}
 use Rattle.evidence_check.proofs.CheckLaws.{prepared-check}
 use Rattle.evidence.proofs.Verifications.{prepared-verify, prepared-work, short-verify, short-work}
 use borrow.Author.Needs.{needs}

@@ -7,8 +7,8 @@ use lib.Seq.{length-take-le}
 use mathlib.Core.Path.{_≡_, sym}
 use Rattle.table.specs.Bounds.{Bounded, pictureSize}
 use Rattle.row_sets.specs.Rows.{Checked}
-use Rattle.prepare.proofs.TablesIn.{first-part, of-parts, second-part}
-use Rattle.prepare.specs.Tables.{firstIn, secondIn}
+use Rattle.prepare_pair.proofs.TablesIn.{first-part, of-parts, second-part}
+use Rattle.prepare_pair.specs.Tables.{firstIn, secondIn}
 use Rattle.lcs.specs.Call.{onCommon}
 use Rattle.product_writer.specs.Tables.{Trims, commonFileIn, commonIn}
 use borrow.Author.Needs.{needs}

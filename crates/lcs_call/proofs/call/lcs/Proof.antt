@@ -6,7 +6,7 @@ use lib.ListN.{length}
 use mathlib.Core.Path.{_∙_, ap, sym}
 use Rattle.table.specs.Bounds.{pictureSize}
 use Rattle.workspace.proofs.Lendings.{room-both}
-use Rattle.prepare.proofs.TablesIn.{prepared-in}
+use Rattle.prepare_pair.proofs.TablesIn.{prepared-in}
 use Rattle.workspace.specs.Lent.{roomy}
 use Rattle.workspace.specs.declared.prepare.Prepared.the-variants.{Refused, Tables}
 use Rattle.lcs_call.proofs.Calls.{prepared-call, prepared-common, prepared-trims, short-call}

@@ -8,7 +8,7 @@ use mathlib.Core.Path.{_∙_, _≡_, ap, sym}
 use native.Mathlib.Omega.{arith}
 use Rattle.countermodel.proofs.Individuals.{within-most}
 use Rattle.workspace.proofs.Lendings.{room-both}
-use Rattle.prepare.proofs.TablesIn.{prepared-in}
+use Rattle.prepare_pair.proofs.TablesIn.{prepared-in}
 use Rattle.workspace.specs.Lent.{roomy}
 use Rattle.workspace.specs.declared.prepare.Prepared.the-variants.{Refused, Tables}
 use Rattle.subsumption.specs.Verdict.{evidenceSize}

@@ -5,8 +5,8 @@ use lib.Seq.{length-take-le}
 use borrow.Author.Needs.{needs}
 use denote.Ref.{now}
 use Rattle.normal_writer.proofs.Normalizations.{table-put}
-use Rattle.normalize.proofs.normalize.write_table.Statement.{statement}
-use Rattle.normalize.proofs.normalize.write_table.Tie as tie
+use Rattle.normalize_call.proofs.normalize.write_table.Statement.{statement}
+use Rattle.normalize_call.proofs.normalize.write_table.Tie as tie
 
 place-requires : tie.Need-place-requires
 place-requires c κs = search needs

@@ -11,8 +11,8 @@ use Rattle.normal_writer.proofs.Normalizations.{length-prefix}
 use Rattle.normal_writer.specs.Grown.{prefix}
 use Rattle.normal.specs.Half.{halfOf}
 use Rattle.workspace.proofs.Halves.{put-halves}
-use Rattle.prepare.proofs.prepare.write_halves.Statement.{statement}
-use Rattle.prepare.proofs.prepare.write_halves.Tie as tie
+use Rattle.prepare_pair.proofs.prepare.write_halves.Statement.{statement}
+use Rattle.prepare_pair.proofs.prepare.write_halves.Tie as tie
 
 half-size-requires : tie.Need-half-size-requires
 half-size-requires c κs = search needs

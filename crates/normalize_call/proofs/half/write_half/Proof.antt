@@ -8,8 +8,8 @@ use Rattle.table.specs.Fields.{endBytes}
 use Rattle.normal_writer.specs.Grown.{prefix}
 use Rattle.normal.proofs.Halves.{half-put}
 use Rattle.normal_writer.proofs.Normalizations.{length-prefix}
-use Rattle.normalize.proofs.half.write_half.Statement.{statement}
-use Rattle.normalize.proofs.half.write_half.Tie as tie
+use Rattle.normalize_call.proofs.half.write_half.Statement.{statement}
+use Rattle.normalize_call.proofs.half.write_half.Tie as tie
 
 write-table-requires : tie.Need-write-table-requires
 write-table-requires c κs = search needs

@@ -7,8 +7,8 @@ use denote.Ref.{now}
 use Rattle.table.specs.Put.{put}
 use Rattle.normal.specs.declared.normalize.Normalized.the-variants.{Length}
 use Rattle.normal_writer.proofs.Normalizations.{built-file, built-length, few-rows, many-rows}
-use Rattle.normalize.proofs.normalize.tabulate.Statement.{statement}
-use Rattle.normalize.proofs.normalize.tabulate.Tie as tie
+use Rattle.normalize_call.proofs.normalize.tabulate.Statement.{statement}
+use Rattle.normalize_call.proofs.normalize.tabulate.Tie as tie
 
 slice-aggregate-build : tie.Need-slice-aggregate-build
 slice-aggregate-build c = search needs

@@ -7,8 +7,8 @@ use native.Mathlib.Omega.{arith}
 use Rattle.workspace.proofs.Lendings.{room-long, room-no}
 use Rattle.workspace.specs.Prepare.{workSize}
 use borrow.Author.Needs.{needs}
-use Rattle.prepare.proofs.prepare.has_room.Statement.{statement}
-use Rattle.prepare.proofs.prepare.has_room.Tie as tie
+use Rattle.prepare_pair.proofs.prepare.has_room.Statement.{statement}
+use Rattle.prepare_pair.proofs.prepare.has_room.Tie as tie
 
 half-size-requires : tie.Need-half-size-requires
 half-size-requires c κs = search needs

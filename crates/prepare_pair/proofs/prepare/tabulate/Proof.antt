@@ -5,9 +5,9 @@ use borrow.Author.Needs.{needs}
 use denote.Ref.{now}
 use Rattle.normal_writer.proofs.Normalizations.{few-rows, many-rows}
 use Rattle.workspace.proofs.Preparations.{many-first, many-second}
-use Rattle.prepare.proofs.BuiltTables.{built-halves, built-tables}
-use Rattle.prepare.proofs.prepare.tabulate.Statement.{statement}
-use Rattle.prepare.proofs.prepare.tabulate.Tie as tie
+use Rattle.prepare_pair.proofs.BuiltTables.{built-halves, built-tables}
+use Rattle.prepare_pair.proofs.prepare.tabulate.Statement.{statement}
+use Rattle.prepare_pair.proofs.prepare.tabulate.Tie as tie
 
 slice-aggregate-build : tie.Need-slice-aggregate-build
 slice-aggregate-build c = search needs

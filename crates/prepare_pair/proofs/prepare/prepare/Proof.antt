@@ -8,8 +8,8 @@ use Rattle.picture.specs.Read.{answerOf}
 use Rattle.picture.specs.declared.answer.Answer.the-variants as answer
 use Rattle.picture.specs.declared.answer.Input.the-variants.{First, Second}
 use Rattle.workspace.proofs.Preparations.{prepare-answers}
-use Rattle.prepare.proofs.prepare.prepare.Statement.{statement}
-use Rattle.prepare.proofs.prepare.prepare.Tie as tie
+use Rattle.prepare_pair.proofs.prepare.prepare.Statement.{statement}
+use Rattle.prepare_pair.proofs.prepare.prepare.Tie as tie
 
 read-requires : tie.Need-read-requires
 read-requires c κs = search needs

@@ -1,7 +1,7 @@
 // Two pictures, in the order of every call on two: 2 to 13 of the first, of the second, then 14 of each. Nothing is written before all are answered yes.
 use normal_writer::grow::build;
-use normalize::half::write_half;
-use normalize::normalize::SCRATCH;
+use normalize_call::half::write_half;
+use normalize_call::normalize::SCRATCH;
 use picture::answer::Answer;
 use picture::answer::Input;
 use picture::answer::Refusal;

@@ -9,8 +9,8 @@ use Rattle.picture.specs.declared.answer.Input.the-variants.{First}
 use Rattle.picture.proofs.Readables.{answer-reading}
 use Rattle.normal.proofs.Answers.{long-answer, result-of, short-answer}
 use Rattle.row_sets.proofs.Checks.{readable-checked}
-use Rattle.normalize.proofs.normalize.normalize.Statement.{statement}
-use Rattle.normalize.proofs.normalize.normalize.Tie as tie
+use Rattle.normalize_call.proofs.normalize.normalize.Statement.{statement}
+use Rattle.normalize_call.proofs.normalize.normalize.Tie as tie
 
 place-requires : tie.Need-place-requires
 place-requires c κs = search needs

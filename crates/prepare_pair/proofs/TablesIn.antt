@@ -19,7 +19,7 @@ use Rattle.meaning.specs.NormalTable.{normalFile}
 use Rattle.row_sets.proofs.Checks.{readable-checked}
 use Rattle.row_sets.specs.Rows.{Checked}
 use Rattle.workspace.specs.Prepare.{Acceptable, halvesPut, onPrepared, prepareAnswer, tableRows, workSize}
-use Rattle.prepare.specs.Tables.{TablesIn, firstIn, secondIn}
+use Rattle.prepare_pair.specs.Tables.{TablesIn, firstIn, secondIn}
 use Rattle.workspace.specs.declared.prepare.Pair.{Pair}
 use Rattle.workspace.specs.declared.prepare.Prepared.{Prepared}
 use Rattle.workspace.specs.declared.prepare.Prepared.the-variants.{Tables}
