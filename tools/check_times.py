@@ -1,7 +1,7 @@
 #!/usr/bin/env python3
 """Says how many seconds each law file and each function of a crate takes to check.
 
-    tools/profile.py CRATE [MOST]
+    tools/check_times.py CRATE [MOST]
 
 A check with a fresh incremental folder writes each module as it is done; the times of these files are what is printed, the
 MOST largest of them (30). The crates below have to be proved (`rt check`). Run it while nothing else runs.
@@ -31,17 +31,21 @@ def library(name):
     return own if os.path.isdir(own) else f'{OWN}/rlib/{name}.rlib'
 
 
-def check(crate, folder):
-    """The time at which the check began, and when it wrote each module."""
-    source = f'{ROOT}/crates/{crate}/src'
+def check_words(crate, source):
+    """What `rattle check` is called with, for a crate whose source folder is given."""
     main = next(f for f in (f'{source}/lib.rt', f'{source}/main.rt') if os.path.exists(f))
     words = ['--crate-name', crate, main]
     for name in ['std'] + crates_below(crate):
         words += ['--extern', f'{name}={library(name)}']
-    words += ['-L', f'dependency={ROOT}/target/rlib', '-L', f'dependency={OWN}/rlib', '--antt-project',
-              f'{KIT}/logic/antt-project.json', '--logic-built', f'{OWN}/logic-built', '--incremental', folder]
+    return words + ['-L', f'dependency={ROOT}/target/rlib', '-L', f'dependency={OWN}/rlib', '--antt-project',
+                    f'{KIT}/logic/antt-project.json', '--logic-built', f'{OWN}/logic-built']
+
+
+def check(crate, folder):
+    """The time at which the check began, and when it wrote each module."""
     began = time.time()
-    subprocess.run([f'{OWN}/bin/rattle', 'check', *words], capture_output=True, check=True)
+    words = check_words(crate, f'{ROOT}/crates/{crate}/src')
+    subprocess.run([f'{OWN}/bin/rattle', 'check', *words, '--incremental', folder], capture_output=True, check=True)
     written = []
     for where, _, names in os.walk(folder):
         written += [(os.stat(f'{where}/{n}').st_mtime, n) for n in names if n.endswith('.oantt') and n.startswith('Rattle·')]
@@ -69,4 +73,5 @@ def main():
         print(f'  {seconds:6.2f}  {name}')
 
 
-main()
+if __name__ == '__main__':
+    main()
