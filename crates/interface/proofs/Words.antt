@@ -1,6 +1,6 @@
 -- The answer word: what a caller takes out of it is what was put in.
---   refusal-outcome .. refusal-card         those of a refusal
---   value-outcome, value-value              those of an answer
+--   refusal-outcome .. refusal-card         the parts of a refusal's word
+--   value-outcome, value-value              the parts of an answer's word
 --   codes-agree                             the words of a refusal of each input, and of an answer of each call, computed
 --   validate-readable, readable-validate    the plain test answers with a row count exactly when the picture is readable
 use mathlib.Core.Path.{_≡_, refl}

@@ -1,4 +1,4 @@
--- Condition 2 (the common picture), of the call's definitions over byte lists: what zuvaropy_lcs promises is an equality with these (zuvaropy, specs/Calls).
+-- Condition 2 (the common picture), of the call's definitions over byte lists: what zuvaropy_lcs promises is an equality with these (interface, specs/Calls).
 -- Each sentence stands above what says it. The limits are any that the code can hold; those of paper 01, with its numbers, are `benchLimits`.
 --
 -- The pair: "any two readable pictures, each at most 256 rows when merged" is `Acceptable` (workspace, specs/Prepare). "Buffers of the lengths laid down" are

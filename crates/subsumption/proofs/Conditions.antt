@@ -1,5 +1,5 @@
 -- Conditions 2 (the verdict) and 3, of the calls' definitions over byte lists: what zuvaropy_subsumes and zuvaropy_verify promise is an equality with these
--- (zuvaropy, specs/Calls). Each sentence stands above what says it. The limits are any that the code can hold; those of paper 01, with its numbers, are
+-- (interface, specs/Calls). Each sentence stands above what says it. The limits are any that the code can hold; those of paper 01, with its numbers, are
 -- `benchLimits`.
 --
 -- The pair: "any two readable pictures, each at most 256 rows when merged" is `Acceptable` (workspace, specs/Prepare). "Buffers of the lengths laid down"
