@@ -25,8 +25,7 @@ use Rattle.ale.specs.Interpretation.{Subsumed}
 use Rattle.ale.specs.NormalForm.{Reduced}
 use Rattle.ale.specs.PictureSignature.{pictureSignature}
 use Rattle.ale.specs.Tree.{RolesKnown, Tree, exists, height}
-use Rattle.meaning.proofs.ByteLists.{encoded-bytes}
-use Rattle.meaning.proofs.EncodedFiles.{encoded-meaning, encoded-reads}
+use Rattle.meaning.proofs.EncodedFiles.{encoded-bytes, encoded-meaning, encoded-reads}
 use Rattle.meaning.proofs.Files.{length-fileOf}
 use Rattle.meaning.proofs.Pictures.{picture-known}
 use Rattle.meaning.specs.Covering.{Covers}

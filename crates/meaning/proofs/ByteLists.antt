@@ -2,23 +2,21 @@
 --   bytes-none, bytes-cons, bytes-append   no byte, one byte before others, bytes after bytes
 --   bytes-number                           a number as bytes
 --   bytes-end                              the end field
---   bytes-file                             rows as a picture file, if their roles are
---   encoded-bytes                          so a tree of known roles as a picture file
+--   bytes-rows                             rows, if their roles are
 use Prim.Native.Nat.{_%_, _/_, _<_, _^_, suc, zero, ℕ}
 use lib.Dec.{eqb}
 use lib.ListN.{getD, length}
 use mathlib.Core.Bool.{Bool, false, true}
 use mathlib.Core.List.{List, [], _++_, _∷_}
 use native.Mathlib.Omega.{arith}
-use Rattle.ale.proofs.RoleLaws.{encoded-known}
-use Rattle.ale.specs.Encoding.{Row, encode, noRow}
+use Rattle.ale.specs.Encoding.{Row, noRow}
 use Rattle.ale.specs.PictureSignature.{pictureSignature}
-use Rattle.ale.specs.Tree.{Kind, RolesKnown, Tree, exists, forAll}
+use Rattle.ale.specs.Tree.{Kind, exists, forAll}
 use Rattle.table.specs.Fields.{endBytes, rowOf}
 use Rattle.table.specs.Layout.{endLength, endTag, kindRoot, nameBytes, numberSize, rowLength, rowTag}
 use Rattle.table.specs.Number.{Bytes, beBytes}
 use Rattle.table.specs.Pick.{pick}
-use Rattle.meaning.specs.File.{codeAt, fileOf, kindCode, markCode, rowAt, rowsFrom}
+use Rattle.meaning.specs.File.{codeAt, kindCode, markCode, rowAt, rowsFrom}
 
 pub bytes-none : Bytes []
 bytes-none i = omega arith
@@ -40,7 +38,7 @@ pub bytes-end : Bytes endBytes
 unfolding endBytes
 bytes-end = bytes-cons endTag (beBytes numberSize endLength) (omega arith) (bytes-number numberSize endLength)
 
--- ---- a picture file
+-- ---- rows
 
 kind-byte : (k : Kind) → kindCode k < 256
 kind-byte exists = omega arith
@@ -65,7 +63,7 @@ bytes-row parent kind role mark wanted excluded k r m =
     (bytes-cons kind (role ∷ mark ∷ sets) k (bytes-cons role (mark ∷ sets) r (bytes-cons mark sets m
     (bytes-append (beBytes nameBytes wanted) (beBytes nameBytes excluded) (bytes-number nameBytes wanted) (bytes-number nameBytes excluded)))))))
 
-bytes-rows : (ws : List (Row pictureSignature)) (y : ℕ) →
+pub bytes-rows : (ws : List (Row pictureSignature)) (y : ℕ) →
     ((j : ℕ) → j < length ws → (getD ws j (noRow pictureSignature)) .role < 256) → Bytes (rowsFrom y ws)
 bytes-rows [] y h = bytes-none
 bytes-rows (w ∷ ws) y h =
@@ -73,10 +71,3 @@ bytes-rows (w ∷ ws) y h =
     (bytes-row (w .parent) (codeAt y (w .kind)) (w .role) (markCode (w .label .bottom)) (w .label .wanted .set) (w .label .excluded .set)
     (code-byte (eqb y 0) (w .kind)) (h 0 (omega arith)) (mark-byte (w .label .bottom)))
     (bytes-rows ws (suc y) (λ j l. h (suc j) (omega arith)))
-
-pub bytes-file : (ws : List (Row pictureSignature)) →
-    ((j : ℕ) → j < length ws → (getD ws j (noRow pictureSignature)) .role < 256) → Bytes (fileOf ws)
-bytes-file ws h = bytes-append (rowsFrom 0 ws) endBytes (bytes-rows ws 0 h) bytes-end
-
-pub encoded-bytes : (t : Tree pictureSignature) → RolesKnown pictureSignature t → Bytes (fileOf (encode pictureSignature t))
-encoded-bytes t known = bytes-file (encode pictureSignature t) (λ j l. omega (arith, encoded-known pictureSignature (omega arith) t known j l))

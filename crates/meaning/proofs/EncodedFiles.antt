@@ -4,15 +4,17 @@
 --   encoded-table        the table of the file is the table of the tree, if no row number is too wide for its field
 --   encoded-meaning-at   so the tree of the file is the tree, at any depth that reaches its nodes
 --   encoded-meaning      and at the limit of the depth
+--   bytes-file           rows as a picture file are bytes, if their roles are
+--   encoded-bytes        so a tree of known roles as a picture file is
 use Prim.Native.Nat.{_<_, _^_, _≤_, suc, ℕ}
-use lib.ListN.{length}
+use lib.ListN.{getD, length}
 use mathlib.Core.Path.{_∙_, _≡_, ap, refl}
 use native.Mathlib.Omega.{arith}
 use Rattle.ale.proofs.EncodedDepths.{encoded-depth}
 use Rattle.ale.proofs.Encodings.{encodeTree-length, encoded-parentsFirst, encoded-tree, height-size}
 use Rattle.ale.proofs.RoleLaws.{encoded-known}
 use Rattle.ale.proofs.SameTables.{SameTable}
-use Rattle.ale.specs.Encoding.{encode, encoded}
+use Rattle.ale.specs.Encoding.{Row, encode, encoded, noRow}
 use Rattle.ale.specs.PictureSignature.{pictureSignature}
 use Rattle.ale.specs.Table.{tree}
 use Rattle.ale.specs.Tree.{RolesKnown, Tree, exists, height, node, size}
@@ -23,11 +25,15 @@ use Rattle.table.specs.Bounds.{Bounded}
 use Rattle.table.specs.Layout.{numberSize}
 use Rattle.table.specs.declared.layout.Limits.{Limits}
 use Rattle.picture.specs.declared.read.Reading.the-variants.{Rows}
-use Rattle.meaning.specs.File.{fileOf}
+use Rattle.meaning.specs.File.{fileOf, rowsFrom}
 use Rattle.meaning.specs.Meaning.{pictureTable, pictureTree}
 use Rattle.meaning.proofs.FileReadings.{Writable, file-readable}
 use Rattle.meaning.proofs.FileTables.{ParentsFit, file-table, file-tree, parents-fit}
 use Rattle.meaning.proofs.Files.{rowIn}
+use mathlib.Core.List.{List}
+use Rattle.table.specs.Fields.{endBytes}
+use Rattle.table.specs.Number.{Bytes}
+use Rattle.meaning.proofs.ByteLists.{bytes-append, bytes-end, bytes-rows}
 
 -- row 0 hangs from none: its parent and its role are written as 0
 encoded-root : (t : Tree pictureSignature) → ((rowIn (encode pictureSignature t) 0) .parent ≡ 0) × ((rowIn (encode pictureSignature t) 0) .role ≡ 0)
@@ -80,3 +86,12 @@ module _ (t : Tree pictureSignature) where
   pub encoded-meaning : (limits : Limits) → size pictureSignature t ≤ 256 ^ numberSize → height pictureSignature t ≤ limits .depth →
       pictureTree limits (fileOf (encode pictureSignature t)) ≡ t
   encoded-meaning limits few low = encoded-meaning-at few (limits .depth) low
+
+-- ---- what is written is bytes
+
+pub bytes-file : (ws : List (Row pictureSignature)) →
+    ((j : ℕ) → j < length ws → (getD ws j (noRow pictureSignature)) .role < 256) → Bytes (fileOf ws)
+bytes-file ws h = bytes-append (rowsFrom 0 ws) endBytes (bytes-rows ws 0 h) bytes-end
+
+pub encoded-bytes : (t : Tree pictureSignature) → RolesKnown pictureSignature t → Bytes (fileOf (encode pictureSignature t))
+encoded-bytes t known = bytes-file (encode pictureSignature t) (λ j l. omega (arith, encoded-known pictureSignature (omega arith) t known j l))
