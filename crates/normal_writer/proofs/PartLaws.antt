@@ -4,6 +4,7 @@
 --   successors-leaf, successors-roles        none at depth 0; role by role
 --   roles-none, roles-next, roles-skip, roles-more   role after role; roles without successors are skipped
 --   Unused, unused-roles                     a set has no row by a role from one to another; by a role that the code does not have
+--   merged-leaf                              the tree of a set from which nothing hangs: its label alone
 --   value-none, value-one, code-later        the one for A
 --   role-parts                               those of one role: for A, and for each some-successor with A
 --   exists-next, exists-skip, exists-more    row after row
@@ -21,6 +22,7 @@ use Rattle.table.specs.Layout.{kindExists, kindForAll, roles}
 use Rattle.table.specs.NameSet.{has}
 use Rattle.table.specs.Pick.{pick}
 use Rattle.table.proofs.Bools.{false-is, true-is}
+use Rattle.table.proofs.NameSets.{has-none}
 use Rattle.ale.specs.Forest.{append, byRole}
 use Rattle.ale.specs.Merged.{existsParts, existsRows, labelOfSet, merged, roleParts, rowsBelow, successorOfSet, valuePart, valueRows}
 use Rattle.ale.specs.PictureSignature.{pictureSignature}
@@ -33,7 +35,9 @@ use Rattle.meaning.specs.File.{codeAt, kindCode}
 use Rattle.meaning.specs.Meaning.{kindAt, pictureTable}
 use Rattle.normal_writer.specs.Parts.{existsPartAt, mergedAt, partsAt, rolesAt, successorsAt, valuePartAt}
 use Rattle.row_sets.specs.Rows.{Checked, Found, Known, also, hangs, holds, ofKind, ofRole}
+use Rattle.row_sets.specs.Labels.{Valued}
 use Rattle.row_sets.specs.declared.rows.Successors.{Successors}
+use Rattle.row_sets.specs.declared.values.Values.{Values}
 use Rattle.normal_writer.proofs.RowFilters.{filter-none, filter-same, filter-yes, member-filter}
 use Rattle.table.proofs.Tests.{and-comm, and-none, and-none-two, and-swap, eqb-same, refuted}
 
@@ -208,6 +212,21 @@ unused-roles s rows successors least to end known l none =
       none = λ j b x y.
           refuted (holds (successors .set) j) (λ h. false≢true (sym (none (roleOf s j) x (omega arith)) ∙ known .known j b h));
     }
+
+-- a set from which nothing hangs by any role that the code has is a leaf
+successors-none : (s : List ℕ) (rows : ℕ) (successors : Successors) → Known s rows successors → successors .roles ≡ 0 → (depth : ℕ) → successorsAt s rows depth (holds (successors .set)) ≡ nil
+unfolding successorsAt
+successors-none s rows successors known e zero = refl
+successors-none s rows successors known e (suc depth) =
+    roles-skip s rows (holds (successors .set)) 0 roles
+    (unused-roles s rows successors 0 roles roles known (omega arith) (λ k l b. ap (λ (w : ℕ). has w k) e ∙ has-none k)) depth (omega arith)
+    ∙ roles-none s rows (holds (successors .set)) depth
+
+pub merged-leaf : (s : List ℕ) (rows : ℕ) → Checked s rows → (q : ℕ → Bool) (values : Values) → Valued s rows q values → values .successors .roles ≡ 0 → (depth : ℕ) → mergedAt s rows depth q ≡ node (labelOfSet pictureSignature (pictureTable s) (filterBelow q rows)) nil
+merged-leaf s rows checked q values v e depth =
+    merged-node s rows checked q depth
+    ∙ ap (node (labelOfSet pictureSignature (pictureTable s) (filterBelow q rows)))
+    (sym (successors-same s rows (holds (values .successors .set)) (hangs s q) (v .successors-are) depth) ∙ successors-none s rows (values .successors) (v .known) e depth)
 
 -- ---- one role
 

@@ -2,6 +2,7 @@
 use crate::node::Branch;
 use crate::node::Edge;
 use crate::node::enter;
+use crate::node::graft_leaf;
 use crate::node::leave;
 use row_sets::rows::LINKS;
 use row_sets::rows::MASKS;
@@ -72,6 +73,40 @@ fn graft(
         start.rows,
     );
     leave(out, branch, edge, label, below)
+}
+
+// The same, without a walk along the roles where nothing hangs.
+fn graft_row(
+    s: &[u8],
+    rows: usize,
+    limit: usize,
+    links: &[u8; LINKS],
+    masks: &[u64; MASKS],
+    values: Values,
+    depth: usize,
+    out: &mut [u8],
+    branch: Branch,
+    edge: Edge,
+) -> Branch
+    requires { ⌜ (Surveyed (now s) rows (now links) (now masks)) × ((Known (now s) rows (values .successors)) × ((Room limit branch (now out)) × (codeAt (branch .table .rows) (kindAt (edge .kind)) ≡ edge .kind))) ⌝ }
+    ensures { λ r. ⌜ ((q : ℕ → Bool) → Valued (now (s .entry)) rows q values → Grown limit (edge .parent) branch (now (out .entry)) (cons (kindAt (edge .kind)) (edge .role) (mergedAt (now (s .entry)) rows depth q) nil) r (now (out .exit))) ⌝ }
+{
+    if values.successors.roles == 0 {
+        graft_leaf(limit, out, branch, edge, values.label)
+    } else {
+        graft(
+            s,
+            rows,
+            limit,
+            links,
+            masks,
+            values,
+            depth,
+            out,
+            branch,
+            edge,
+        )
+    }
 }
 
 // The successors of the merged row of a set, role by role.
@@ -199,7 +234,7 @@ fn graft_value(
         kind: KIND_FOR_ALL,
         role,
     };
-    let grown = graft(
+    let grown = graft_row(
         s,
         rows,
         limit,
@@ -246,7 +281,7 @@ fn graft_exists(
     let mut j = some.next(0, rows);
     while j < rows {
         let whole = values.add(s, rows, links, j);
-        let more = graft(s, rows, limit, links, masks, whole, depth, out, grown, edge);
+        let more = graft_row(s, rows, limit, links, masks, whole, depth, out, grown, edge);
         let table = more.table;
         grown = Branch {
             table,

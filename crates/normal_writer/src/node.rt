@@ -12,7 +12,13 @@ ghost use lib.Dec.{eqb};
 ghost use lib.ListN.{length};
 ghost use Rattle.table.specs.Bounds.{maxRows};
 ghost use Rattle.table.specs.Layout.{kindForAll, «place», rowSize};
-ghost use Rattle.normal_writer.specs.Grown.{Entered, Left, isInconsistent, isDropped};
+ghost use Rattle.ale.specs.PictureSignature.{pictureSignature};
+ghost use Rattle.ale.specs.Tree as tree;
+ghost use Rattle.ale.specs.Tree.{cons, nil, node};
+ghost use Rattle.meaning.specs.File.{codeAt};
+ghost use Rattle.meaning.specs.Meaning.{kindAt};
+ghost use Rattle.row_sets.specs.Labels.{LabelIs};
+ghost use Rattle.normal_writer.specs.Grown.{Entered, Grown, Left, Room, isInconsistent, isDropped};
 
 // Successors written so far: the table with them, the merged rows counted, and whether a some-successor is ⊥.
 pub struct Branch {
@@ -117,4 +123,21 @@ pub fn leave(out: &mut [u8], branch: Branch, edge: Edge, label: Label, below: Br
         merged: below.merged,
         bottom: branch.bottom,
     }
+}
+
+// One successor more, from which nothing hangs.
+pub fn graft_leaf(limit: usize, out: &mut [u8], branch: Branch, edge: Edge, label: Label) -> Branch
+    requires { ⌜ (Room limit branch (now out)) × (codeAt (branch .table .rows) (kindAt (edge .kind)) ≡ edge .kind) ⌝ }
+    ensures { λ r. ⌜ ((l : tree.Label pictureSignature) → LabelIs label l → Grown limit (edge .parent) branch (now (out .entry)) (cons (kindAt (edge .kind)) (edge .role) (node l nil) nil) r (now (out .exit))) ⌝ }
+{
+    let start = branch.table;
+    if limit <= branch.merged {
+        return Branch {
+            table: start,
+            merged: limit + 1,
+            bottom: branch.bottom,
+        };
+    }
+    let entered = enter(out, branch, edge, label);
+    leave(out, branch, edge, label, entered)
 }

@@ -19,54 +19,61 @@ use Rattle.normal_writer.proofs.Growth.{entered-length, entered-room, g
 use Rattle.row_sets.proofs.LabelLaws.{known-with, valued-with}
 use Rattle.row_sets.proofs.Masks.{edge-row}
 use Rattle.normal_writer.proofs.Nodes.{grown-node}
-use Rattle.normal_writer.proofs.PartLaws.{code-later, merged-node, role-parts, roles-more, roles-none, successors-leaf, successors-roles, successors-same, unused-roles, value-none, value-one}
+use Rattle.normal_writer.proofs.PartLaws.{code-later, merged-leaf, merged-node, role-parts, roles-more, roles-none, successors-leaf, successors-roles, successors-same, unused-roles, value-none, value-one}
 use Rattle.normal_writer.proofs.Turns.{role-on, role-turn, turn-end, turn-full, turn-on, turn-start}
 use Prim.Native.Nat.{ℕ, _*_, _+_, _-_, _<_, min}
 use borrow.Fn.Kinds.{In}
 use borrow.Fn.PlainCycle.{Measures, is, falls, and}
 use Rattle.normal_writer.proofs.grow.graft.Reads as graft
 use Rattle.normal_writer.proofs.grow.graft.Kinds as graft-kinds
-use Rattle.normal_writer.proofs.grow.+graft+graft_exists+graft_role+graft_roles+graft_value.Lts-graft as graft-lts
+use Rattle.normal_writer.proofs.grow.+graft+graft_exists+graft_role+graft_roles+graft_row+graft_value.Lts-graft as graft-lts
 use Rattle.normal_writer.proofs.grow.graft_exists.Reads as graft-exists
 use Rattle.normal_writer.proofs.grow.graft_exists.Kinds as graft-exists-kinds
-use Rattle.normal_writer.proofs.grow.+graft+graft_exists+graft_role+graft_roles+graft_value.Lts-graft_exists as graft-exists-lts
+use Rattle.normal_writer.proofs.grow.+graft+graft_exists+graft_role+graft_roles+graft_row+graft_value.Lts-graft_exists as graft-exists-lts
 use Rattle.normal_writer.proofs.grow.graft_role.Reads as graft-role
 use Rattle.normal_writer.proofs.grow.graft_role.Kinds as graft-role-kinds
-use Rattle.normal_writer.proofs.grow.+graft+graft_exists+graft_role+graft_roles+graft_value.Lts-graft_role as graft-role-lts
+use Rattle.normal_writer.proofs.grow.+graft+graft_exists+graft_role+graft_roles+graft_row+graft_value.Lts-graft_role as graft-role-lts
 use Rattle.normal_writer.proofs.grow.graft_roles.Reads as graft-roles
 use Rattle.normal_writer.proofs.grow.graft_roles.Kinds as graft-roles-kinds
-use Rattle.normal_writer.proofs.grow.+graft+graft_exists+graft_role+graft_roles+graft_value.Lts-graft_roles as graft-roles-lts
+use Rattle.normal_writer.proofs.grow.+graft+graft_exists+graft_role+graft_roles+graft_row+graft_value.Lts-graft_roles as graft-roles-lts
+use Rattle.normal_writer.proofs.grow.graft_row.Reads as graft-row
+use Rattle.normal_writer.proofs.grow.graft_row.Kinds as graft-row-kinds
+use Rattle.normal_writer.proofs.grow.+graft+graft_exists+graft_role+graft_roles+graft_row+graft_value.Lts-graft_row as graft-row-lts
 use Rattle.normal_writer.proofs.grow.graft_value.Reads as graft-value
 use Rattle.normal_writer.proofs.grow.graft_value.Kinds as graft-value-kinds
-use Rattle.normal_writer.proofs.grow.+graft+graft_exists+graft_role+graft_roles+graft_value.Lts-graft_value as graft-value-lts
+use Rattle.normal_writer.proofs.grow.+graft+graft_exists+graft_role+graft_roles+graft_row+graft_value.Lts-graft_value as graft-value-lts
 use Rattle.normal_writer.proofs.node.enter.Reads as enter-reads
+use Rattle.normal_writer.proofs.node.graft_leaf.Reads as graft-leaf-reads
 use Rattle.normal_writer.proofs.node.leave.Reads as leave-reads
 use Rattle.row_sets.proofs.rows.RowSet.next.Reads as next-reads
 use Rattle.row_sets.proofs.rows.RowSet.of_edge.Reads as of-edge-reads
 use Rattle.row_sets.proofs.rows.next_bit.Reads as next-bit-reads
 use Rattle.row_sets.proofs.values.Values.add.Reads as add-reads
 use Rattle.row_sets.proofs.values.gather.Reads as gather-reads
-use Rattle.normal_writer.proofs.grow.+graft+graft_exists+graft_role+graft_roles+graft_value.{
+use Rattle.normal_writer.proofs.grow.+graft+graft_exists+graft_role+graft_roles+graft_row+graft_value.{
   statement,
 }
-use Rattle.normal_writer.proofs.grow.+graft+graft_exists+graft_role+graft_roles+graft_value.Tie.{
+use Rattle.normal_writer.proofs.grow.+graft+graft_exists+graft_role+graft_roles+graft_row+graft_value.Tie.{
   close,
 }
 
 abbrev μ-graft : Measures 4 graft-kinds.ps ℕ
-μ-graft κs a = 4 * a .1 .1 .1 .1 .1 .1 .0 + 1
+μ-graft κs a = 5 * a .1 .1 .1 .1 .1 .1 .0 + 1
 
 abbrev μ-graft-exists : Measures 4 graft-exists-kinds.ps ℕ
-μ-graft-exists κs a = 4 * a .1 .1 .1 .1 .1 .1 .1 .1 .0 + 2
+μ-graft-exists κs a = 5 * a .1 .1 .1 .1 .1 .1 .1 .1 .0 + 3
 
 abbrev μ-graft-role : Measures 4 graft-role-kinds.ps ℕ
-μ-graft-role κs a = 4 * a .1 .1 .1 .1 .1 .1 .0 + 3
+μ-graft-role κs a = 5 * a .1 .1 .1 .1 .1 .1 .0 + 4
 
 abbrev μ-graft-roles : Measures 4 graft-roles-kinds.ps ℕ
-μ-graft-roles κs a = 4 * a .1 .1 .1 .1 .1 .1 .0
+μ-graft-roles κs a = 5 * a .1 .1 .1 .1 .1 .1 .0
+
+abbrev μ-graft-row : Measures 4 graft-row-kinds.ps ℕ
+μ-graft-row κs a = 5 * a .1 .1 .1 .1 .1 .1 .0 + 2
 
 abbrev μ-graft-value : Measures 4 graft-value-kinds.ps ℕ
-μ-graft-value κs a = 4 * a .1 .1 .1 .1 .1 .1 .1 .0 + 2
+μ-graft-value κs a = 5 * a .1 .1 .1 .1 .1 .1 .1 .0 + 3
 
 abbrev graft-at : ℕ → In 4 graft-kinds.ps
 graft-at t = and 4 graft-kinds.ps (is 4 graft-kinds.ps μ-graft t) graft.Pre
@@ -102,6 +109,13 @@ abbrev graft-roles-below : ℕ → In 4 graft-roles-kinds.ps
 graft-roles-below t =
     and 4 graft-roles-kinds.ps (falls 4 graft-roles-kinds.ps _<_ μ-graft-roles t) graft-roles.Pre
 
+abbrev graft-row-at : ℕ → In 4 graft-row-kinds.ps
+graft-row-at t = and 4 graft-row-kinds.ps (is 4 graft-row-kinds.ps μ-graft-row t) graft-row.Pre
+
+abbrev graft-row-below : ℕ → In 4 graft-row-kinds.ps
+graft-row-below t =
+    and 4 graft-row-kinds.ps (falls 4 graft-row-kinds.ps _<_ μ-graft-row t) graft-row.Pre
+
 abbrev graft-value-at : ℕ → In 4 graft-value-kinds.ps
 graft-value-at t =
     and 4 graft-value-kinds.ps (is 4 graft-value-kinds.ps μ-graft-value t) graft-value.Pre
@@ -111,7 +125,7 @@ graft-value-below t =
     and 4 graft-value-kinds.ps (falls 4 graft-value-kinds.ps _<_ μ-graft-value t) graft-value.Pre
 
 abbrev graft-exists-claims : ℕ → graft-exists-lts.Claims
-graft-exists-claims t = (next-reads.Asked, next-reads.Learnt, add-reads.Asked, add-reads.Learnt, graft-below t, graft.Post)
+graft-exists-claims t = (next-reads.Asked, next-reads.Learnt, add-reads.Asked, add-reads.Learnt, graft-row-below t, graft-row.Post)
 
 abbrev graft-roles-claims : ℕ → graft-roles-lts.Claims
 graft-roles-claims t = (next-bit-reads.Asked, next-bit-reads.Learnt, graft-role-below t, graft-role.Post)
@@ -120,7 +134,10 @@ abbrev graft-role-claims : ℕ → graft-role-lts.Claims
 graft-role-claims t = (of-edge-reads.Asked, of-edge-reads.Learnt, gather-reads.Asked, gather-reads.Learnt, graft-value-below t, graft-value.Post, graft-exists-below t, graft-exists.Post)
 
 abbrev graft-value-claims : ℕ → graft-value-lts.Claims
-graft-value-claims t = (graft-below t, graft.Post)
+graft-value-claims t = (graft-row-below t, graft-row.Post)
+
+abbrev graft-row-claims : ℕ → graft-row-lts.Claims
+graft-row-claims t = (graft-leaf-reads.Asked, graft-leaf-reads.Learnt, graft-below t, graft.Post)
 
 abbrev graft-claims : ℕ → graft-lts.Claims
 graft-claims t = (enter-reads.Asked, enter-reads.Learnt, graft-roles-below t, graft-roles.Post, leave-reads.Asked, leave-reads.Learnt)
@@ -217,8 +234,8 @@ graft-exists-add-requires t c κs =
     let pre = st .pre .1 in
     (pre .0 .checked, (pre .0 .linked, c .loop-test .taken))
 
-graft-exists-graft-requires : (t : ℕ) → graft-exists-lts.Need-graft-requires (graft-exists-claims t) (graft-exists-at t) graft-exists.Post graft-exists-Inv-loop graft-exists-μ-loop
-graft-exists-graft-requires t c κs =
+graft-exists-graft-row-requires : (t : ℕ) → graft-exists-lts.Need-graft-row-requires (graft-exists-claims t) (graft-exists-at t) graft-exists.Post graft-exists-Inv-loop graft-exists-μ-loop
+graft-exists-graft-row-requires t c κs =
     let st = c .before .before .before .before .before .before .before in
     let a = st .args in
     let pre = st .pre .1 in
@@ -237,7 +254,7 @@ graft-exists-same-length t c =
     let more = c .before .before .before .before .before .before .before .before .loop-test .taken in
     let q = holds (a .all) in
     let v = pre .1 .0 in
-    c .before .before .before .before .before .graft .ensures (also (l .j) q) (valued-with (now (a .s)) (a .rows) q (a .values) (l .j) (ad .result) more v (ad .ensures)) .same ∙ l .inv .0 q v .same
+    c .before .before .before .before .before .graft-row .ensures (also (l .j) q) (valued-with (now (a .s)) (a .rows) q (a .values) (l .j) (ad .result) more v (ad .ensures)) .same ∙ l .inv .0 q v .same
 
 graft-exists-returns : (t : ℕ) → graft-exists-lts.Need-returns (graft-exists-claims t) (graft-exists-at t) graft-exists.Post graft-exists-Inv-loop graft-exists-μ-loop
 graft-exists-returns t c =
@@ -246,7 +263,7 @@ graft-exists-returns t c =
     let pre = st .pre .1 in
     let l = c .before .before .before .before .before .before .before .before .before .loop in
     let ad = c .before .before .before .before .before .before .before .add in
-    let gr = c .before .before .before .before .before .graft in
+    let gr = c .before .before .before .before .before .graft-row in
     let more = c .before .before .before .before .before .before .before .before .loop-test .taken in
     let q = holds (a .all) in
     let v = pre .1 .0 in
@@ -280,7 +297,7 @@ graft-exists-loop-again t c =
     let pre = st .pre .1 in
     let l = c .before .before .before .before .before .before .before .before .before .before .loop in
     let ad = c .before .before .before .before .before .before .before .before .add in
-    let gr = c .before .before .before .before .before .before .graft in
+    let gr = c .before .before .before .before .before .before .graft-row in
     let more = c .before .before .before .before .before .before .before .before .before .loop-test .taken in
     (λ q v. turn-on (now (a .s)) (a .rows) (a .depth) (a .role) (a .some) q (a .limit) (a .parent) (a .branch) (now (a .out)) (l .j) more (l .grown) (l .out) (l .inv .0 q v) (gr .result) _ (l .inv .1 more) (gr .ensures (also (l .j) q) (valued-with (now (a .s)) (a .rows) q (a .values) (l .j) (ad .result) more v (ad .ensures))) (c .next2 .result) (c .next2 .ensures), c .next2 .ensures .held)
 
@@ -440,6 +457,32 @@ graft-roles-returns-3 t c =
     let e : min (l .role) roles ≡ roles = omega (arith, m) in
     grown-same (a .limit) (a .parent) (a .branch) (l .grown) (now (a .out)) (l .out) _ _ (ap (rolesAt (now (a .s)) (a .rows) (a .depth - 1) (holds (a .successors .set))) e ∙ sym (successors-roles (now (a .s)) (a .rows) (holds (a .successors .set)) (a .depth) (c .before .before .before .if1 .left))) (l .inv)
 
+graft-row-graft-leaf-requires : (t : ℕ) → graft-row-lts.Need-graft-leaf-requires (graft-row-claims t) (graft-row-at t) graft-row.Post
+graft-row-graft-leaf-requires t c κs = c .before .before .before .before .before .pre .1 .1 .1
+
+graft-row-graft-requires : (t : ℕ) → graft-row-lts.Need-graft-requires (graft-row-claims t) (graft-row-at t) graft-row.Post
+graft-row-graft-requires t c κs =
+    let st = c .before .before .before .before .before in
+    (omega (arith, st .pre .0), st .pre .1)
+
+graft-row-same-length : (t : ℕ) → graft-row-lts.Need-same-length (graft-row-claims t) (graft-row-at t) graft-row.Post
+graft-row-same-length t c = search needs
+
+graft-row-returns : (t : ℕ) → graft-row-lts.Need-returns (graft-row-claims t) (graft-row-at t) graft-row.Post
+graft-row-returns t c =
+    let st = c .before .before .before .before .before .before .before .before in
+    let a = st .args in
+    let leaf = c .before .before .graft-leaf in
+    λ q v.
+    grown-same (a .limit) (a .edge .parent) (a .branch) (leaf .result) (now (a .out)) _ _ _ (ap (λ t. cons (kindAt (a .edge .kind)) (a .edge .role) t nil) (sym (merged-leaf (now (a .s)) (a .rows) (st .pre .1 .0 .checked) q (a .values) v (c .before .before .before .before .if1 .taken) (a .depth))))
+    (leaf .ensures (labelOfSet pictureSignature (pictureTable (now (a .s))) (filterBelow q (a .rows))) (v .label-is))
+
+graft-row-same-length-2 : (t : ℕ) → graft-row-lts.Need-same-length-2 (graft-row-claims t) (graft-row-at t) graft-row.Post
+graft-row-same-length-2 t c = search needs
+
+graft-row-returns-2 : (t : ℕ) → graft-row-lts.Need-returns-2 (graft-row-claims t) (graft-row-at t) graft-row.Post
+graft-row-returns-2 t c = c .before .before .graft .ensures
+
 graft-value-returns :
     (t : ℕ) →
     graft-value-lts.Need-returns (graft-value-claims t) (graft-value-at t) graft-value.Post
@@ -449,8 +492,8 @@ graft-value-returns t c =
     let pre = st .pre .1 in
     grown-same (a .limit) (a .parent) (a .branch) (a .branch) (now (a .out)) (now (a .out)) _ _ (sym (value-none (now (a .s)) (a .rows) (a .depth) (a .role) (holds (a .all)) (a .values .first) (c .if1 .taken))) (grown-nil (a .limit) (a .parent) (a .branch) (now (a .out)) (pre .1 .1 .0))
 
-graft-value-graft-requires : (t : ℕ) → graft-value-lts.Need-graft-requires (graft-value-claims t) (graft-value-at t) graft-value.Post
-graft-value-graft-requires t c κs =
+graft-value-graft-row-requires : (t : ℕ) → graft-value-lts.Need-graft-row-requires (graft-value-claims t) (graft-value-at t) graft-value.Post
+graft-value-graft-row-requires t c κs =
     let st = c .before .before .before .before .before .before in
     let a = st .args in
     let pre = st .pre .1 in
@@ -471,12 +514,12 @@ graft-value-returns-2 t c =
     let st = c .before .before .before .before .before .before .before .before .before .before in
     let a = st .args in
     let pre = st .pre .1 in
-    let gr = c .before .before .before .graft in
+    let gr = c .before .before .before .graft-row in
     grown-same (a .limit) (a .parent) (a .branch) (gr .result) (now (a .out)) _ _ _ (sym (value-one (now (a .s)) (a .rows) (a .depth) (a .role) (holds (a .all)) (a .values .first) (omega (arith, c .before .before .before .before .before .if1 .left)))) (gr .ensures (holds (a .all)) (pre .1 .0))
 
-pub +graft+graft-exists+graft-role+graft-roles+graft-value-spec : {M : Type 1} → statement M
-+graft+graft-exists+graft-role+graft-roles+graft-value-spec =
-    close μ-graft μ-graft-exists μ-graft-role μ-graft-roles μ-graft-value (λ t. graft-lts.spec (graft-claims t)
+pub +graft+graft-exists+graft-role+graft-roles+graft-row+graft-value-spec : {M : Type 1} → statement M
++graft+graft-exists+graft-role+graft-roles+graft-row+graft-value-spec =
+    close μ-graft μ-graft-exists μ-graft-role μ-graft-roles μ-graft-row μ-graft-value (λ t. graft-lts.spec (graft-claims t)
     (graft-at t)
     graft.Post
     (graft-add-t16 t)
@@ -494,7 +537,7 @@ pub +graft+graft-exists+graft-role+graft-roles+graft-value-spec : {M : Type 1} �
     (graft-exists-next-requires t)
     (graft-exists-loop-holds t)
     (graft-exists-add-requires t)
-    (graft-exists-graft-requires t)
+    (graft-exists-graft-row-requires t)
     (graft-exists-same-length t)
     (graft-exists-returns t)
     (graft-exists-add-next t)
@@ -532,11 +575,20 @@ pub +graft+graft-exists+graft-role+graft-roles+graft-value-spec : {M : Type 1} �
     (graft-roles-loop-again t)
     (graft-roles-same-length-2 t)
     (graft-roles-returns-3 t))
+    (λ t. graft-row-lts.spec (graft-row-claims t)
+    (graft-row-at t)
+    graft-row.Post
+    (graft-row-graft-leaf-requires t)
+    (graft-row-graft-requires t)
+    (graft-row-same-length t)
+    (graft-row-returns t)
+    (graft-row-same-length-2 t)
+    (graft-row-returns-2 t))
     λ t. graft-value-lts.spec
     (graft-value-claims t)
     (graft-value-at t)
     graft-value.Post
     (graft-value-returns t)
-    (graft-value-graft-requires t)
+    (graft-value-graft-row-requires t)
     (graft-value-same-length t)
     (graft-value-returns-2 t)
