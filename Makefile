@@ -9,7 +9,7 @@
 # make bench      print one table of the time of each call beside the same call hand-written in Rust and in C, and how
 #                 it grows with the size
 # make fuzz       fuzz all calls with libFuzzer, each for a minute; or CALL=lcs SECONDS=600
-# make valgrind   run the calls and the smaller C tests under valgrind
+# make valgrind   run the calls, the fuzz targets and the smaller C tests under valgrind
 # make shared     link the built library as build/shared/libzuvaropy.so
 # make install    put the built library, its header and manual page and the verdict program below PREFIX
 # make uninstall  remove what make install put there

@@ -108,6 +108,7 @@ every_other() {
 objects() {
     into=$1
     shift
+    rm -f "$into"/*.o "$into"/fuzz/*.o
     mkdir -p "$into/fuzz"
     for source in check area picture rows random pages reference normal_reference normalize evidence verify_reference \
         witness verify subsumes lcs_reference lcs book most_specific_reference most_specific second_unit \
@@ -127,8 +128,18 @@ fuzz_drivers() {
     done
 }
 
-# finish NAME: prints the sums; fails if something did.
+# left_out WHAT WHY: says so here, and once more at the end.
+left_out() {
+    echo "$1: not tested, $2"
+    missed="$missed$1: not tested, $2
+"
+}
+missed=''
+
+# finish NAME: prints what was left out and the sums; fails if something did, or if there was nothing to count.
 finish() {
+    [ "$passed" -gt 0 ] || fail "$1" "made no check"
     echo "$failed" >"$out/failed"
+    printf '%s' "$missed"
     summary "$1"
 }

@@ -47,7 +47,7 @@ rust() {
 if command -v rustc >/dev/null; then
     program test_rust_random rust tests/rust/random.rs
 else
-    echo "random pairs against the Rust implementation: not tested, no rustc"
+    left_out "random pairs against the Rust implementation" "no rustc"
 fi
 
 # alone COMPILER..: a unit of the header alone, and one that makes every call.
@@ -65,7 +65,7 @@ if command -v "$cxx" >/dev/null; then
     program test_header_cxx "$cxx" -x c++ -std=c++11 $warnings -Iinclude tests/test_header.c tests/check.c \
         tests/second_unit.c -x none
 else
-    echo "header as C++: not tested, no $cxx"
+    left_out "header as C++" "no $cxx"
 fi
 
 # Each fuzz target with its seeds, and so many inputs made from them.
@@ -90,12 +90,12 @@ if libfuzzer_is_there; then
         libfuzzer "$call" -runs=3000 -seed=1
     done
 else
-    echo "libFuzzer: not run, no clang with it"
+    left_out "libFuzzer" "no clang with it"
 fi
 if command -v valgrind >/dev/null; then
     valgrind_samples
 else
-    echo "valgrind: not run, not there"
+    left_out "valgrind" "not there"
 fi
 
 # The shared library, as make builds it; without the flags of the make that runs the tests.
@@ -164,13 +164,13 @@ one 'shared library' shared
 if command -v nm >/dev/null; then
     count symbols sh tests/symbols.sh "$archive" "$out/shared/libzuvaropy.so"
 else
-    echo "symbols: not tested, no nm"
+    left_out "symbols" "no nm"
 fi
 if command -v python3 >/dev/null; then
     count shared python3 tests/shared.py "$out/shared/libzuvaropy.so"
     one 'readme, Python' readme_python
 else
-    echo "shared library from Python: not tested, no python3"
+    left_out "shared library from Python" "no python3"
 fi
 count install sh tests/install.sh "$archive" "$verdict" "$PWD/$out/shared"
 count manual sh tests/manual.sh "$archive"

@@ -22,9 +22,12 @@ libfuzzer() {
     shift
     rm -rf "$out/seeds/$call"
     mkdir -p "$out/seeds/$call" "$out/corpus/$call"
-    "$out/fuzz_$call" --write "$out/seeds/$call" $sample_files &&
-        build "libfuzzer_$call" $clang -fsanitize=fuzzer,address "tests/fuzz/fuzz_$call.c" "$out"/clang/fuzz/*.o \
-            "$out"/clang/*.o &&
+    "$out/fuzz_$call" --write "$out/seeds/$call" $sample_files || {
+        fail "libfuzzer $call" "no seeds"
+        return
+    }
+    build "libfuzzer_$call" $clang -fsanitize=fuzzer,address "tests/fuzz/fuzz_$call.c" "$out"/clang/fuzz/*.o \
+        "$out"/clang/*.o &&
         one "libfuzzer $call" run_libfuzzer "$@"
 }
 

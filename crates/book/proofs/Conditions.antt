@@ -1,4 +1,4 @@
--- The nearest cards for a case, of the call's definitions over byte lists: what zuvaropy_most_specific promises is an equality with these (zuvaropy,
+-- The nearest cards for a case, of the call's definitions over byte lists: what zuvaropy_most_specific promises is an equality with these (interface,
 -- specs/Calls). Each sentence of paper 01 stands above what says it. The limits are any; those of the paper, with its numbers, are `benchLimits`.
 --
 -- The case and the book are lists of any numbers, bytes among them; what the work space holds beforehand is no argument of the answer, only its length is.
