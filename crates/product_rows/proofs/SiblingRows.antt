@@ -11,10 +11,12 @@
 --   drop-trim                     and of those that are left
 --   SeekAt, seek-found, seek-next, seek-end   looking for the first of them along the links
 --   trees-leaf, trees-level       a row has no successors at depth 0, else those that hang from it
+--   trees-none                    none at any depth, if it has no first link
 use Prim.Native.Nat.{_+_, _-_, _<_, _≤_, suc, ℕ}
 use borrow.Author.Tests.{eq-eqb, eqb-false, eqb-true, le-leb, leb-false, leb-true, lt-leb}
 use lib.Dec.{eqb, leb}
 use lib.ListN.{getD}
+use mathlib.Core.Bool.{true}
 use mathlib.Core.List.{List, [], _∷_}
 use mathlib.Core.Path.{_∙_, _≡_, ap, refl, subst, sym}
 use native.Mathlib.Omega.{arith}
@@ -176,3 +178,9 @@ module _ (t : List ℕ) (depth u : ℕ) where
   trees-level links rows e table l is deep =
       let d : depth ≡ suc (depth - 1) = omega arith in
       ap (λ n. successorsOf pictureSignature (treeAt t n u)) d ∙ ap (forestOf t (depth - 1)) (siblings-first t links rows table u e l is)
+
+  pub trees-none : (links : List ℕ) (rows : ℕ) → LinkedTable t rows links → u < rows → eqb (getD links u 0) 0 ≡ true → successorsOf pictureSignature (treeAt t depth u) ≡ nil
+  trees-none links rows table l none =
+      by-test (eqb depth 0) (λ e. trees-leaf (eqb-true depth 0 e))
+      (λ e.
+      trees-level links rows 0 table l (sym (eqb-true (getD links u 0) 0 none)) (eqb-false depth 0 e) ∙ ap (forestOf t (depth - 1)) (siblings-none t rows 0 refl))

@@ -7,14 +7,20 @@ use table::layout::KIND_FOR_ALL;
 use table::row::Row;
 use table_rows::builder::Builder;
 ghost use mathlib.Core.Path.{_≡_};
-ghost use mathlib.Core.Bool.{false};
+ghost use mathlib.Core.Bool.{_&&_, _||_, false, not};
 ghost use Prim.Native.Nat.{ℕ, _+_, _≤_, _<_};
 ghost use lib.Dec.{eqb};
 ghost use Rattle.table.specs.Bounds.{maxRows};
 ghost use Rattle.table.specs.NameSet.{intersection, setOf};
 ghost use Rattle.table.specs.Pick.{pick};
-ghost use Rattle.meaning.specs.File.{markCode};
-ghost use Rattle.product_rows.specs.Grown.{Entered, Pushed, Room, isDropped, stays};
+ghost use Rattle.ale.specs.Forest.{consReduced};
+ghost use Rattle.ale.specs.PictureSignature.{pictureSignature};
+ghost use Rattle.ale.specs.Tree as tree;
+ghost use Rattle.ale.specs.Tree.{nil, node};
+ghost use Rattle.meaning.specs.File.{codeAt, markCode};
+ghost use Rattle.meaning.specs.Meaning.{kindAt};
+ghost use Rattle.row_sets.specs.Labels.{LabelIs};
+ghost use Rattle.product_rows.specs.Grown.{Entered, Grown, Pushed, Room, isDropped, stays};
 
 // The names that two labels have in common.
 pub fn common_label(a: Label, b: Label) -> Label
@@ -27,6 +33,19 @@ pub fn common_label(a: Label, b: Label) -> Label
         excluded: excluded.intersection(b.excluded),
         bottom: 0,
     }
+}
+
+// Whether neither of two labels is marked, and one of their rows has no first successor: then nothing hangs from the pair.
+pub fn is_leaf(a: Label, b: Label, first: u8, second: u8) -> bool
+    ensures { λ r. ⌜ r ≡ (not (eqb (a .bottom) 1) && (not (eqb (b .bottom) 1) && (eqb first 0 || eqb second 0))) ⌝ }
+{
+    if a.bottom == 1 {
+        return false;
+    }
+    if b.bottom == 1 {
+        return false;
+    }
+    first == 0 || second == 0
 }
 
 // A count beyond the limit, where a row more would have to stand: none is written any more, and the answer is 15.
@@ -101,4 +120,18 @@ pub fn leave(table: Builder, edge: Edge, label: Label, below: Builder, limit: us
         return table;
     }
     below
+}
+
+// One successor more, from which nothing hangs.
+pub fn graft_leaf(out: &mut [u8], table: Builder, edge: Edge, label: Label, limit: usize) -> Builder
+    requires { ⌜ (Room limit table (now out)) × (codeAt (table .rows) (kindAt (edge .kind)) ≡ edge .kind) ⌝ }
+    ensures { λ r. ⌜ ((l : tree.Label pictureSignature) → LabelIs label l → l .bottom ≡ false → Grown limit (edge .parent) table (now (out .entry)) (consReduced pictureSignature (kindAt (edge .kind)) (edge .role) (node l nil) nil) r (now (out .exit))) ⌝ }
+{
+    if limit <= table.rows {
+        if is_kept(edge, label) {
+            return beyond(limit);
+        }
+    }
+    let entered = enter(out, table, edge, label, limit);
+    leave(table, edge, label, entered, limit)
 }

@@ -8,7 +8,9 @@ use product_rows::edge::seek;
 use product_rows::node::beyond;
 use product_rows::node::common_label;
 use product_rows::node::enter;
+use product_rows::node::graft_leaf;
 use product_rows::node::is_kept;
+use product_rows::node::is_leaf;
 use product_rows::node::leave;
 use row_sets::rows::LINKS;
 use row_sets::rows::fill_links;
@@ -87,6 +89,48 @@ fn graft(
         at,
     );
     leave(table, edge, label, below, limit)
+}
+
+// The same, without a walk along the successors where there can be no pair of them.
+fn graft_pair(
+    first: &[u8],
+    n: usize,
+    links: &[u8; LINKS],
+    u: usize,
+    second: &[u8],
+    m: usize,
+    others: &[u8; LINKS],
+    w: usize,
+    depth: usize,
+    limit: usize,
+    out: &mut [u8],
+    table: Builder,
+    edge: Edge,
+) -> Builder
+    requires { ⌜ (LinkedTable (now first) n (now links)) × ((LinkedTable (now second) m (now others)) × (((u < n) × (w < m)) × (((Kept (kindAt (edge .kind)) (treeAt (now first) depth u)) × (Kept (kindAt (edge .kind)) (treeAt (now second) depth w))) × ((Room limit table (now out)) × (codeAt (table .rows) (kindAt (edge .kind)) ≡ edge .kind))))) ⌝ }
+    ensures { λ r. ⌜ Grown limit (edge .parent) table (now (out .entry)) (consReduced pictureSignature (kindAt (edge .kind)) (edge .role) (productAt (now (first .entry)) (now (second .entry)) depth u w) nil) r (now (out .exit)) ⌝ }
+{
+    let a = label_at(first, u);
+    let b = label_at(second, w);
+    if is_leaf(a, b, links[u], others[w]) {
+        graft_leaf(out, table, edge, common_label(a, b), limit)
+    } else {
+        graft(
+            first,
+            n,
+            links,
+            u,
+            second,
+            m,
+            others,
+            w,
+            depth,
+            limit,
+            out,
+            table,
+            edge,
+        )
+    }
 }
 
 // The pairs of successors of rows u and w, hung from row `parent` of the new table.
@@ -172,7 +216,7 @@ fn graft_each(
         if edge_key(second, v) != key {
             return grown;
         }
-        grown = graft(
+        grown = graft_pair(
             first,
             n,
             links,

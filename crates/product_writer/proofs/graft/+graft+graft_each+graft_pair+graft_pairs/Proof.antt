@@ -1,7 +1,7 @@
 -- A pair of rows is made of the names that both have and the pairs of their successors, which one pass along both tables finds; what was written and what is
--- left are always the whole. A pair of successors is less deep.
+-- left are always the whole. A pair of successors is less deep. Where one row has no successors there is no pair of them, and the row is a leaf.
 use Prim.Native.Nat.{ℕ, _*_, _+_, _-_, _<_, _≤_}
-use mathlib.Core.Bool.{false}
+use mathlib.Core.Bool.{_||_, false}
 use mathlib.Core.Logic.{⊎-elim}
 use mathlib.Core.Path.{_∙_, _≡_, refl, subst, sym}
 use native.Mathlib.Omega.{arith}
@@ -9,6 +9,7 @@ use borrow.Author.Needs.{needs}
 use borrow.Author.Tests.{eq-eqb, ne-eqb}
 use denote.Ref.{now}
 use lib.Dec.{eqb}
+use lib.ListN.{getD}
 use Rattle.ale.specs.PictureSignature.{pictureSignature}
 use Rattle.ale.specs.Product.{labelIntersection}
 use Rattle.homomorphism_search.proofs.Searches.{checked-has}
@@ -19,7 +20,7 @@ use Rattle.product_rows.specs.Grown.{stays}
 use Rattle.product_writer.specs.Tables.{pairsBelow, pairsFrom}
 use Rattle.product_rows.specs.Siblings.{Kept}
 use Rattle.product_rows.proofs.Edges.{code-kept}
-use Rattle.product_writer.proofs.Grafts.{graft-full, graft-left, pair-first, pair-second, pairs-leaf}
+use Rattle.product_writer.proofs.Grafts.{graft-full, graft-leaf, graft-left, leaf-tests, pair-first, pair-second, pairs-leaf, pairs-none}
 use Rattle.product_rows.proofs.Growth.{grown-same}
 use Rattle.product_rows.proofs.Nodes.{common-is, entered-length, entered-room, entered-some}
 use Rattle.product_writer.proofs.Pairings.{EachAt, PairsAt, each-end, each-full, each-kept, each-next, each-other, each-start, pairs-end, pairs-full, pairs-next, pairs-paired, pairs-start}
@@ -28,13 +29,16 @@ use borrow.Fn.Kinds.{In}
 use borrow.Fn.PlainCycle.{Measures, is, falls, and}
 use Rattle.product_writer.proofs.graft.graft.Reads as graft
 use Rattle.product_writer.proofs.graft.graft.Kinds as graft-kinds
-use Rattle.product_writer.proofs.graft.+graft+graft_each+graft_pairs.Lts-graft as graft-lts
+use Rattle.product_writer.proofs.graft.+graft+graft_each+graft_pair+graft_pairs.Lts-graft as graft-lts
 use Rattle.product_writer.proofs.graft.graft_each.Reads as graft-each
 use Rattle.product_writer.proofs.graft.graft_each.Kinds as graft-each-kinds
-use Rattle.product_writer.proofs.graft.+graft+graft_each+graft_pairs.Lts-graft_each as graft-each-lts
+use Rattle.product_writer.proofs.graft.+graft+graft_each+graft_pair+graft_pairs.Lts-graft_each as graft-each-lts
+use Rattle.product_writer.proofs.graft.graft_pair.Reads as graft-pair
+use Rattle.product_writer.proofs.graft.graft_pair.Kinds as graft-pair-kinds
+use Rattle.product_writer.proofs.graft.+graft+graft_each+graft_pair+graft_pairs.Lts-graft_pair as graft-pair-lts
 use Rattle.product_writer.proofs.graft.graft_pairs.Reads as graft-pairs
 use Rattle.product_writer.proofs.graft.graft_pairs.Kinds as graft-pairs-kinds
-use Rattle.product_writer.proofs.graft.+graft+graft_each+graft_pairs.Lts-graft_pairs as graft-pairs-lts
+use Rattle.product_writer.proofs.graft.+graft+graft_each+graft_pair+graft_pairs.Lts-graft_pairs as graft-pairs-lts
 use Rattle.homomorphism_search.proofs.label.label_at.Reads as label-at-reads
 use Rattle.product_rows.proofs.copy.copy_tree.Reads as copy-tree-reads
 use Rattle.product_rows.proofs.edge.edge_key.Reads as edge-key-reads
@@ -42,22 +46,27 @@ use Rattle.product_rows.proofs.edge.seek.Reads as seek-reads
 use Rattle.product_rows.proofs.node.beyond.Reads as beyond-reads
 use Rattle.product_rows.proofs.node.common_label.Reads as common-label-reads
 use Rattle.product_rows.proofs.node.enter.Reads as enter-reads
+use Rattle.product_rows.proofs.node.graft_leaf.Reads as graft-leaf-reads
 use Rattle.product_rows.proofs.node.is_kept.Reads as is-kept-reads
+use Rattle.product_rows.proofs.node.is_leaf.Reads as is-leaf-reads
 use Rattle.product_rows.proofs.node.leave.Reads as leave-reads
 use Rattle.table.proofs.number.wide.Reads as wide-reads
 use Rattle.table_rows.proofs.row.kind.Reads as kind-reads
 use Rattle.table_rows.proofs.row.role.Reads as role-reads
-use Rattle.product_writer.proofs.graft.+graft+graft_each+graft_pairs.{statement}
-use Rattle.product_writer.proofs.graft.+graft+graft_each+graft_pairs.Tie.{close}
+use Rattle.product_writer.proofs.graft.+graft+graft_each+graft_pair+graft_pairs.{statement}
+use Rattle.product_writer.proofs.graft.+graft+graft_each+graft_pair+graft_pairs.Tie.{close}
 
 abbrev μ-graft : Measures 5 graft-kinds.ps ℕ
-μ-graft κs a = 3 * a .1 .1 .1 .1 .1 .1 .1 .1 .0 + 2
+μ-graft κs a = 4 * a .1 .1 .1 .1 .1 .1 .1 .1 .0 + 2
 
 abbrev μ-graft-each : Measures 5 graft-each-kinds.ps ℕ
-μ-graft-each κs a = 3 * a .1 .1 .1 .1 .1 .1 .1 .1 .1 .0 + 3
+μ-graft-each κs a = 4 * a .1 .1 .1 .1 .1 .1 .1 .1 .1 .0 + 4
+
+abbrev μ-graft-pair : Measures 5 graft-pair-kinds.ps ℕ
+μ-graft-pair κs a = 4 * a .1 .1 .1 .1 .1 .1 .1 .1 .0 + 3
 
 abbrev μ-graft-pairs : Measures 5 graft-pairs-kinds.ps ℕ
-μ-graft-pairs κs a = 3 * a .1 .1 .1 .1 .1 .1 .1 .1 .0 + 1
+μ-graft-pairs κs a = 4 * a .1 .1 .1 .1 .1 .1 .1 .1 .0 + 1
 
 abbrev graft-at : ℕ → In 5 graft-kinds.ps
 graft-at t = and 5 graft-kinds.ps (is 5 graft-kinds.ps μ-graft t) graft.Pre
@@ -71,6 +80,12 @@ graft-each-at t = and 5 graft-each-kinds.ps (is 5 graft-each-kinds.ps μ-graft-e
 abbrev graft-each-below : ℕ → In 5 graft-each-kinds.ps
 graft-each-below t = and 5 graft-each-kinds.ps (falls 5 graft-each-kinds.ps _<_ μ-graft-each t) graft-each.Pre
 
+abbrev graft-pair-at : ℕ → In 5 graft-pair-kinds.ps
+graft-pair-at t = and 5 graft-pair-kinds.ps (is 5 graft-pair-kinds.ps μ-graft-pair t) graft-pair.Pre
+
+abbrev graft-pair-below : ℕ → In 5 graft-pair-kinds.ps
+graft-pair-below t = and 5 graft-pair-kinds.ps (falls 5 graft-pair-kinds.ps _<_ μ-graft-pair t) graft-pair.Pre
+
 abbrev graft-pairs-at : ℕ → In 5 graft-pairs-kinds.ps
 graft-pairs-at t = and 5 graft-pairs-kinds.ps (is 5 graft-pairs-kinds.ps μ-graft-pairs t) graft-pairs.Pre
 
@@ -81,7 +96,10 @@ abbrev graft-claims : ℕ → graft-lts.Claims
 graft-claims t = (label-at-reads.Asked, label-at-reads.Learnt, copy-tree-reads.Asked, copy-tree-reads.Learnt, common-label-reads.Asked, common-label-reads.Learnt, is-kept-reads.Asked, is-kept-reads.Learnt, beyond-reads.Asked, beyond-reads.Learnt, enter-reads.Asked, enter-reads.Learnt, graft-pairs-below t, graft-pairs.Post, leave-reads.Asked, leave-reads.Learnt)
 
 abbrev graft-each-claims : ℕ → graft-each-lts.Claims
-graft-each-claims t = (kind-reads.Asked, kind-reads.Learnt, role-reads.Asked, role-reads.Learnt, edge-key-reads.Asked, edge-key-reads.Learnt, graft-below t, graft.Post, wide-reads.Asked, wide-reads.Learnt)
+graft-each-claims t = (kind-reads.Asked, kind-reads.Learnt, role-reads.Asked, role-reads.Learnt, edge-key-reads.Asked, edge-key-reads.Learnt, graft-pair-below t, graft-pair.Post, wide-reads.Asked, wide-reads.Learnt)
+
+abbrev graft-pair-claims : ℕ → graft-pair-lts.Claims
+graft-pair-claims t = (label-at-reads.Asked, label-at-reads.Learnt, is-leaf-reads.Asked, is-leaf-reads.Learnt, common-label-reads.Asked, common-label-reads.Learnt, graft-leaf-reads.Asked, graft-leaf-reads.Learnt, graft-below t, graft.Post)
 
 abbrev graft-pairs-claims : ℕ → graft-pairs-lts.Claims
 graft-pairs-claims t = (wide-reads.Asked, wide-reads.Learnt, edge-key-reads.Asked, edge-key-reads.Learnt, seek-reads.Asked, seek-reads.Learnt, graft-each-below t, graft-each.Post)
@@ -286,8 +304,8 @@ graft-each-returns t c =
     let key = c .before .edge-key in
     each-other (now (a .first)) (now (a .second)) (now (a .links)) (now (a .others)) (a .n) (a .m) (a .depth) (a .limit) (a .parent) (a .table) (now (a .out)) (pre .0) (pre .1 .0) (a .c) (pairsFrom (now (a .first)) (now (a .second)) (a .m) (a .depth) (a .c) (a .e)) (l .v) (l .grown) (l .out) inv z (λ same. c .if1 .taken (key .ensures ∙ same ∙ sym (pre .1 .1 .1 .0 .0)))
 
-graft-each-graft-requires : (t : ℕ) → graft-each-lts.Need-graft-requires (graft-each-claims t) (graft-each-at t) graft-each.Post graft-each-Inv-loop graft-each-μ-loop
-graft-each-graft-requires t c κs =
+graft-each-graft-pair-requires : (t : ℕ) → graft-each-lts.Need-graft-pair-requires (graft-each-claims t) (graft-each-at t) graft-each.Post graft-each-Inv-loop graft-each-μ-loop
+graft-each-graft-pair-requires t c κs =
     let st = c .before .before .before .before .before .before .before .before .before .before in
     let a = st .args in
     let pre = st .pre .1 in
@@ -307,7 +325,7 @@ graft-each-same-length-2 : (t : ℕ) → graft-each-lts.Need-same-length-2 (graf
 graft-each-same-length-2 t c =
     let l = c .before .before .before .before .before .before .before .before .before .loop in
     let inv = l .inv in
-    c .before .before .before .before .graft .ensures .same ∙ inv .onward .same
+    c .before .before .before .before .graft-pair .ensures .same ∙ inv .onward .same
 
 graft-each-returns-2 : (t : ℕ) → graft-each-lts.Need-returns-2 (graft-each-claims t) (graft-each-at t) graft-each.Post graft-each-Inv-loop graft-each-μ-loop
 graft-each-returns-2 t c =
@@ -321,7 +339,7 @@ graft-each-returns-2 t c =
     let role = c .before .before .before .before .before .before .before .before .before .before .role in
     let key = c .before .before .before .before .before .before .before .edge-key in
     let same = sym (key .ensures) ∙ c .before .before .before .before .before .before .if1 .left ∙ pre .1 .1 .1 .0 .0 in
-    let graft = c .before .before .before .before .graft in
+    let graft = c .before .before .before .before .graft-pair in
     each-full (now (a .first)) (now (a .second)) (now (a .links)) (now (a .others)) (a .n) (a .m) (a .depth) (a .limit) (a .parent) (a .table) (now (a .out)) (pre .0) (pre .1 .0) (a .c) (pairsFrom (now (a .first)) (now (a .second)) (a .m) (a .depth) (a .c) (a .e)) (l .v) (l .grown) (l .out) inv z same (kind .result) (role .result) (kind .ensures) (role .ensures) (graft .result) (graft .last .1 .1 .1 .1 .1 .1 .1 .1 .1 .1 .0) (graft .ensures) (c .if2 .taken)
 
 graft-each-add-wide : (t : ℕ) → graft-each-lts.Need-add-wide (graft-each-claims t) (graft-each-at t) graft-each.Post graft-each-Inv-loop graft-each-μ-loop
@@ -365,7 +383,7 @@ graft-each-loop-again t c =
     let role = c .before .before .before .before .before .before .before .before .before .before .before .before .role in
     let key = c .before .before .before .before .before .before .before .before .before .edge-key in
     let same = sym (key .ensures) ∙ c .before .before .before .before .before .before .before .before .if1 .left ∙ pre .1 .1 .1 .0 .0 in
-    let graft = c .before .before .before .before .before .before .graft in
+    let graft = c .before .before .before .before .before .before .graft-pair in
     let link = c .wide in
     let below : link .result < a .m = omega (arith, link .ensures .0, next-below (now (a .second)) (now (a .others)) (a .m) (pre .1 .0) (l .v) z (inv .below)) in
     each-next (now (a .first)) (now (a .second)) (now (a .links)) (now (a .others)) (a .n) (a .m) (a .depth) (a .limit) (a .parent) (a .table) (now (a .out)) (pre .0) (pre .1 .0) (a .c) (pairsFrom (now (a .first)) (now (a .second)) (a .m) (a .depth) (a .c) (a .e)) (l .v) (l .grown) (l .out) inv z same (kind .result) (role .result) (kind .ensures) (role .ensures) (graft .result) (graft .last .1 .1 .1 .1 .1 .1 .1 .1 .1 .1 .0) (graft .ensures) (link .result) below (link .ensures .0) (c .before .before .if2 .left)
@@ -380,6 +398,66 @@ graft-each-returns-3 t c =
     let pre = st .pre .1 in
     let l = c .before .loop in
     each-end (now (a .first)) (now (a .second)) (now (a .links)) (now (a .others)) (a .n) (a .m) (a .depth) (a .limit) (a .parent) (a .table) (now (a .out)) (pre .0) (pre .1 .0) (a .c) (pairsFrom (now (a .first)) (now (a .second)) (a .m) (a .depth) (a .c) (a .e)) (l .v) (l .grown) (l .out) (l .inv) (c .loop-test .left)
+
+graft-pair-label-at-requires : (t : ℕ) → graft-pair-lts.Need-label-at-requires (graft-pair-claims t) (graft-pair-at t) graft-pair.Post
+graft-pair-label-at-requires t c κs =
+    let st = c .before .before .before in
+    let a = st .args in
+    let pre = st .pre .1 in
+    checked-has (now (a .first)) (a .n) (a .u) (pre .0 .checked) (pre .1 .1 .0 .0)
+
+graft-pair-label-at-requires-2 : (t : ℕ) → graft-pair-lts.Need-label-at-requires-2 (graft-pair-claims t) (graft-pair-at t) graft-pair.Post
+graft-pair-label-at-requires-2 t c κs =
+    let st = c .before .before .before .before in
+    let a = st .args in
+    let pre = st .pre .1 in
+    checked-has (now (a .second)) (a .m) (a .w) (pre .1 .0 .checked) (pre .1 .1 .0 .1)
+
+graft-pair-element-copy-out-is-leaf : (t : ℕ) → graft-pair-lts.Need-element-copy-out-is-leaf (graft-pair-claims t) (graft-pair-at t) graft-pair.Post
+graft-pair-element-copy-out-is-leaf t c =
+    let pre = c .before .before .before .before .before .pre .1 in
+    omega (arith, pre .1 .1 .0 .0, pre .0 .checked .most)
+
+graft-pair-element-copy-out-is-leaf-2 : (t : ℕ) → graft-pair-lts.Need-element-copy-out-is-leaf-2 (graft-pair-claims t) (graft-pair-at t) graft-pair.Post
+graft-pair-element-copy-out-is-leaf-2 t c =
+    let pre = c .before .before .before .before .before .before .pre .1 in
+    omega (arith, pre .1 .1 .0 .1, pre .1 .0 .checked .most)
+
+graft-pair-is-leaf-requires : (t : ℕ) → graft-pair-lts.Need-is-leaf-requires (graft-pair-claims t) (graft-pair-at t) graft-pair.Post
+graft-pair-is-leaf-requires t c κs = search needs
+
+graft-pair-common-label-requires : (t : ℕ) → graft-pair-lts.Need-common-label-requires (graft-pair-claims t) (graft-pair-at t) graft-pair.Post
+graft-pair-common-label-requires t c κs = search needs
+
+graft-pair-graft-leaf-requires : (t : ℕ) → graft-pair-lts.Need-graft-leaf-requires (graft-pair-claims t) (graft-pair-at t) graft-pair.Post
+graft-pair-graft-leaf-requires t c κs = c .before .before .before .before .before .before .before .before .before .before .before .pre .1 .1 .1 .1 .1
+
+graft-pair-graft-requires : (t : ℕ) → graft-pair-lts.Need-graft-requires (graft-pair-claims t) (graft-pair-at t) graft-pair.Post
+graft-pair-graft-requires t c κs =
+    let st = c .before .before .before .before .before .before .before .before .before .before in
+    (omega (arith, st .pre .0), st .pre .1)
+
+graft-pair-same-length : (t : ℕ) → graft-pair-lts.Need-same-length (graft-pair-claims t) (graft-pair-at t) graft-pair.Post
+graft-pair-same-length t c = search needs
+
+graft-pair-returns : (t : ℕ) → graft-pair-lts.Need-returns (graft-pair-claims t) (graft-pair-at t) graft-pair.Post
+graft-pair-returns t c =
+    let st = c .before .before .before .before .before .before .before .before .before .before .before .before .before .before in
+    let a = st .args in
+    let pre = st .pre .1 in
+    let one = c .before .before .before .before .before .before .before .before .before .before .label-at in
+    let two = c .before .before .before .before .before .before .before .before .before .label-at2 in
+    let label = c .before .before .before .common-label in
+    let leaf = c .before .before .graft-leaf in
+    let tests = leaf-tests (eqb (one .result .bottom) 1) (eqb (two .result .bottom) 1) (eqb (getD (now (a .links)) (a .u) 0) 0 || eqb (getD (now (a .others)) (a .w) 0) 0) (sym (c .before .before .before .before .before .before .is-leaf .ensures) ∙ c .before .before .before .before .before .if1 .taken) in
+    let none = pairs-none (now (a .first)) (now (a .second)) (a .depth) (a .u) (a .w) (now (a .links)) (now (a .others)) (a .n) (a .m) (pre .0) (pre .1 .0) (pre .1 .1 .0 .0) (pre .1 .1 .0 .1) (pre .1 .1 .1 .0 .0 .trim) (tests .1 .1) in
+    graft-leaf (now (a .first)) (now (a .second)) (a .depth) (a .u) (a .w) (a .limit) (a .table) (now (a .out)) (a .edge) (pre .1 .1 .1 .1 .0) (pre .1 .1 .1 .1 .1) (one .result) (two .result) (label .result) (one .ensures) (two .ensures) (tests .0) (tests .1 .0) (label .ensures .0) (label .ensures .1 .0) (label .ensures .1 .1) none (leaf .result) _ (leaf .ensures)
+
+graft-pair-same-length-2 : (t : ℕ) → graft-pair-lts.Need-same-length-2 (graft-pair-claims t) (graft-pair-at t) graft-pair.Post
+graft-pair-same-length-2 t c = search needs
+
+graft-pair-returns-2 : (t : ℕ) → graft-pair-lts.Need-returns-2 (graft-pair-claims t) (graft-pair-at t) graft-pair.Post
+graft-pair-returns-2 t c = c .before .before .graft .ensures
 
 graft-pairs-returns : (t : ℕ) → graft-pairs-lts.Need-returns (graft-pairs-claims t) (graft-pairs-at t) graft-pairs.Post graft-pairs-Inv-loop graft-pairs-μ-loop
 graft-pairs-returns t c =
@@ -518,8 +596,8 @@ graft-pairs-returns-3 t c =
     let l = c .before .loop in
     pairs-end (now (a .first)) (now (a .second)) (now (a .links)) (now (a .others)) (a .n) (a .m) (a .depth - 1) (a .limit) (a .parent) (a .table) (now (a .out)) (pre .0) (pre .1 .0) (pairsBelow (now (a .first)) (now (a .second)) (a .depth) (a .u) (a .w)) (l .c) (l .e) (l .grown) (l .out) (l .inv) (c .loop-test .left)
 
-pub +graft+graft-each+graft-pairs-spec : {M : Type 1} → statement M
-+graft+graft-each+graft-pairs-spec = close μ-graft μ-graft-each μ-graft-pairs (λ t. graft-lts.spec (graft-claims t)
+pub +graft+graft-each+graft-pair+graft-pairs-spec : {M : Type 1} → statement M
++graft+graft-each+graft-pair+graft-pairs-spec = close μ-graft μ-graft-each μ-graft-pair μ-graft-pairs (λ t. graft-lts.spec (graft-claims t)
     (graft-at t)
     graft.Post
     (graft-label-at-requires t)
@@ -550,7 +628,7 @@ pub +graft+graft-each+graft-pairs-spec : {M : Type 1} → statement M
     (graft-each-edge-key-requires t)
     (graft-each-same-length t)
     (graft-each-returns t)
-    (graft-each-graft-requires t)
+    (graft-each-graft-pair-requires t)
     (graft-each-same-length-2 t)
     (graft-each-returns-2 t)
     (graft-each-add-wide t)
@@ -560,6 +638,21 @@ pub +graft+graft-each+graft-pairs-spec : {M : Type 1} → statement M
     (graft-each-loop-again t)
     (graft-each-same-length-3 t)
     (graft-each-returns-3 t))
+    (λ t. graft-pair-lts.spec (graft-pair-claims t)
+    (graft-pair-at t)
+    graft-pair.Post
+    (graft-pair-label-at-requires t)
+    (graft-pair-label-at-requires-2 t)
+    (graft-pair-element-copy-out-is-leaf t)
+    (graft-pair-element-copy-out-is-leaf-2 t)
+    (graft-pair-is-leaf-requires t)
+    (graft-pair-common-label-requires t)
+    (graft-pair-graft-leaf-requires t)
+    (graft-pair-graft-requires t)
+    (graft-pair-same-length t)
+    (graft-pair-returns t)
+    (graft-pair-same-length-2 t)
+    (graft-pair-returns-2 t))
     λ t. graft-pairs-lts.spec (graft-pairs-claims t)
     (graft-pairs-at t)
     graft-pairs.Post
