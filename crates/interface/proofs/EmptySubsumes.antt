@@ -44,7 +44,8 @@ use Rattle.table.specs.Number.{be, beBytes}
 use Rattle.table.specs.Put.{put}
 use Rattle.workspace.specs.Prepare.{Acceptable}
 use Rattle.interface.specs.Calls.{subsumesBuffer, subsumesWord, validateWord}
-use Rattle.interface.specs.Starred.{HasRows, Holds, TakesEvidence, WritesEvidence, empty, k1, k1-map}
+use Rattle.interface.specs.Starred.{empty, k1, k1-map}
+use Rattle.interface.specs.StarredClaims.{HasRows, Holds, TakesEvidence, WritesEvidence}
 use Rattle.interface.specs.Word.{outcomeYes, valueWord, verdictWord}
 use Rattle.interface.proofs.PairWords.{bench}
 use Rattle.interface.proofs.VerifyWords.{map-verify}

@@ -32,7 +32,8 @@ use Rattle.table.specs.Put.{put}
 use Rattle.table.specs.Range.{each}
 use Rattle.workspace.specs.Prepare.{Acceptable, mergedAsked, prepareAnswer}
 use Rattle.interface.specs.Calls.{lcsWord, validateWord, verifyWord}
-use Rattle.interface.specs.Starred.{WritesNormal, WritesCommon, AllHold, Holds, WritesEvidence, empty, k10-first, k10-second, k11-first, k11-second, k12-first, k12-normal, k12-normal-again, k2-first, k2-normal, k3-first, k3-normal, k4-first, k4-normal, k5-first, k6-first, k6-added-first, k6-added-normal, k7-first, k7-map, k7-refutation, k7-second, k8-first, k8-map, k8-other, k8-refutation, k8-second, k9-common, k9-first, k9-second, starred, subsumes, subsumesNot, tableRoom, workRoom}
+use Rattle.interface.specs.Starred.{empty, k10-first, k10-second, k11-first, k11-second, k12-first, k12-normal, k12-normal-again, k2-first, k2-normal, k3-first, k3-normal, k4-first, k4-normal, k5-first, k6-first, k6-added-first, k6-added-normal, k7-first, k7-map, k7-refutation, k7-second, k8-first, k8-map, k8-other, k8-refutation, k8-second, k9-common, k9-first, k9-second, starred}
+use Rattle.interface.specs.StarredClaims.{WritesNormal, WritesCommon, AllHold, Holds, WritesEvidence, subsumes, subsumesNot, tableRoom, workRoom}
 use Rattle.interface.specs.Word.{outcome, outcomeNo, outcomeYes, valueWord, verdictWord}
 use Rattle.interface.proofs.EmptySubsumes.{empty-subsumes}
 use Rattle.interface.proofs.LcsWords.{lcs-common, lcs-yes}

@@ -2,4 +2,5 @@
 pub mod Word
 pub mod Calls
 pub mod Refusals
+pub mod StarredClaims
 pub mod Starred
