@@ -10,7 +10,9 @@ sub-left : tie.Need-sub-left
 sub-left c = search needs
 
 returns : tie.Need-returns
-returns c = not-head (now (c .before .before .args .book)) (c .before .before .args .at) (omega (arith, c .before .before .pre, c .if1 .taken))
+returns c =
+    let args = c .before .before .args in
+    not-head (now (args .book)) (args .at) (omega (arith, c .before .before .pre, c .if1 .taken))
 
 shared-slice-read-tag : tie.Need-shared-slice-read-tag
 shared-slice-read-tag c = search needs
@@ -27,7 +29,9 @@ returns-2 c =
     whole-card (now (start .args .book)) (start .args .at) (c .load16 .result) (c .before .match .keys1) (c .load16 .ensures .0) (omega (arith, start .pre, c .before .before .before .if1 .left))
 
 returns-3 : tie.Need-returns-3
-returns-3 c = not-tag (now (c .before .before .before .before .args .book)) (c .before .before .before .before .args .at) (c .match .rest .1)
+returns-3 c =
+    let args = c .before .before .before .before .args in
+    not-tag (now (args .book)) (args .at) (c .match .rest .1)
 
 pub card-at-spec : {M : Type 1} → statement M
 card-at-spec =

@@ -20,7 +20,8 @@ add-result-2 c = search needs
 
 returns : tie.Need-returns
 returns c =
-    let fits = card-whole (now (c .before .before .args .book)) (c .before .before .args .at) (c .before .before .pre .1) in
+    let args = c .before .before .args in
+    let fits = card-whole (now (args .book)) (args .at) (c .before .before .pre .1) in
     (omega (arith, c .load16 .ensures .0), omega (arith, c .load16 .ensures .0, fits))
 
 pub next-place-spec : {M : Type 1} → statement M

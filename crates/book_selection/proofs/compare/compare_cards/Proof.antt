@@ -17,10 +17,15 @@ abbrev μ-loop : tie.MeasureT-loop
 μ-loop book places count limits cache spans covering work₀ hidden₀ m₀ work redundant m = count - m
 
 loop-holds : tie.Need-loop-holds Inv-loop μ-loop
-loop-holds c = (omega arith, (c .before .before .before .pre .1 .1, none-compared (c .before .before .before .args .limits) (now (c .before .before .before .args .book)) (c .before .before .before .args .covering)))
+loop-holds c =
+    let args = c .before .before .before .args in
+    (omega arith, (c .before .before .before .pre .1 .1, none-compared (args .limits) (now (args .book)) (args .covering)))
 
 compare-card-requires : tie.Need-compare-card-requires Inv-loop μ-loop
-compare-card-requires c κs = (c .before .before .before .before .before .before .pre .0, (c .before .before .before .before .before .before .pre .1 .0, (c .before .loop-test .taken, (c .before .before .loop .inv .1 .1, c .before .before .loop .inv .1 .0))))
+compare-card-requires c κs =
+    let pre = c .before .before .before .before .before .before .pre in
+    let loop = c .before .before .loop in
+    (pre .0, (pre .1 .0, (c .before .loop-test .taken, (loop .inv .1 .1, loop .inv .1 .0))))
 
 add-m : tie.Need-add-m Inv-loop μ-loop
 add-m c = omega (arith, c .before .before .before .before .loop-test .taken, c .before .before .before .before .before .before .before .before .before .pre .1 .0 .taken .cards-read .places-are .most)
@@ -29,15 +34,18 @@ loop-less : tie.Need-loop-less Inv-loop μ-loop
 loop-less c = omega (arith, c .before .before .before .before .loop-test .taken)
 
 loop-again : tie.Need-loop-again Inv-loop μ-loop
-loop-again c = (omega (arith, c .before .before .before .before .loop-test .taken), (c .before .before .compare-card .ensures .1 ∙ c .before .before .before .before .before .loop .inv .1 .0, c .before .before .compare-card .ensures .0))
+loop-again c =
+    let compare-card = c .before .before .compare-card in
+    (omega (arith, c .before .before .before .before .loop-test .taken), (compare-card .ensures .1 ∙ c .before .before .before .before .before .loop .inv .1 .0, compare-card .ensures .0))
 
 same-length : tie.Need-same-length Inv-loop μ-loop
 same-length c = c .before .loop .inv .1 .0 ∙ sym (c .before .before .before .before .before .pre .1 .1)
 
 returns : tie.Need-returns Inv-loop μ-loop
 returns c =
-    let end : c .before .loop .m ≡ c .before .before .before .before .before .args .count = omega (arith, c .before .loop .inv .0, c .loop-test .left) in
-    (subst (λ k. Compared (c .before .before .before .before .before .args .limits) (now (c .before .before .before .before .before .args .book)) (c .before .before .before .before .before .args .covering) k (c .before .loop .redundant)) end (c .before .loop .inv .1 .1), c .before .loop .inv .1 .0 ∙ sym (c .before .before .before .before .before .pre .1 .1))
+    let args = c .before .before .before .before .before .args in
+    let end : c .before .loop .m ≡ args .count = omega (arith, c .before .loop .inv .0, c .loop-test .left) in
+    (subst (λ k. Compared (args .limits) (now (args .book)) (args .covering) k (c .before .loop .redundant)) end (c .before .loop .inv .1 .1), c .before .loop .inv .1 .0 ∙ sym (c .before .before .before .before .before .pre .1 .1))
 
 pub compare-cards-spec : {M : Type 1} → statement M
 compare-cards-spec =

@@ -23,7 +23,9 @@ place-requires : tie.Need-place-requires
 place-requires c κs = search needs
 
 slice-aggregate-low : tie.Need-slice-aggregate-low
-slice-aggregate-low c = sym (length-take-le (c .before .place .result) (now (c .before .before .before .before .args .work)) (omega (arith, c .before .place .ensures, c .before .before .before .before .pre .1 .0 .room, c .before .before .before .before .pre .1 .0 .first-fits)))
+slice-aggregate-low c =
+    let pre = c .before .before .before .before .pre in
+    sym (length-take-le (c .before .place .result) (now (c .before .before .before .before .args .work)) (omega (arith, c .before .place .ensures, pre .1 .0 .room, pre .1 .0 .first-fits)))
 
 place-requires-2 : tie.Need-place-requires-2
 place-requires-2 c κs = search needs
@@ -41,21 +43,42 @@ part-high-end : tie.Need-part-high-end
 part-high-end c = search needs
 
 fill-links-requires : tie.Need-fill-links-requires
-fill-links-requires c κs = ((subst (λ t. Checked t (c .before .before .before .before .before .before .before .args .pair .second)) (sym (second-part (c .before .before .before .before .before .before .before .args .limits) (c .before .before .before .before .before .before .before .args .pair) (now (c .before .before .before .before .before .before .before .args .work)) (c .before .before .before .before .before .half-size .result) (c .before .before .place2 .result) (c .before .before .before .before .before .half-size .ensures) (c .before .before .place2 .ensures))) (c .before .before .before .before .before .before .before .pre .1 .0 .second-checked)), blank 512 512 refl)
+fill-links-requires c κs =
+    let args = c .before .before .before .before .before .before .before .args in
+    let half-size = c .before .before .before .before .before .half-size in
+    let place2 = c .before .before .place2 in
+    ((subst (λ t. Checked t (args .pair .second)) (sym (second-part (args .limits) (args .pair) (now (args .work)) (half-size .result) (place2 .result) (half-size .ensures) (place2 .ensures))) (c .before .before .before .before .before .before .before .pre .1 .0 .second-checked)), blank 512 512 refl)
 
 mark-redundant-requires : tie.Need-mark-redundant-requires
-mark-redundant-requires c κs = (record { checked = (subst (λ t. Checked t (c .before .before .before .before .before .before .before .before .before .args .pair .second)) (sym (second-part (c .before .before .before .before .before .before .before .before .before .args .limits) (c .before .before .before .before .before .before .before .before .before .args .pair) (now (c .before .before .before .before .before .before .before .before .before .args .work)) (c .before .before .before .before .before .before .before .half-size .result) (c .before .before .before .before .place2 .result) (c .before .before .before .before .before .before .before .half-size .ensures) (c .before .before .before .before .place2 .ensures))) (c .before .before .before .before .before .before .before .before .before .pre .1 .0 .second-checked)); linked = c .before .fill-links .ensures }, ((subst (λ t. LinkedTable t (c .before .before .before .before .before .before .before .before .before .args .pair .first) (now (c .before .before .before .before .before .before .before .before .before .args .links))) (sym (first-part (c .before .before .before .before .before .before .before .before .before .args .limits) (c .before .before .before .before .before .before .before .before .before .args .pair) (now (c .before .before .before .before .before .before .before .before .before .args .work)) (c .before .before .before .before .before .before .place .result) (c .before .before .before .before .before .before .place .ensures))) (c .before .before .before .before .before .before .before .before .before .pre .1 .1 .0)), c .before .before .before .before .before .before .before .before .before .pre .1 .1 .1 .0))
+mark-redundant-requires c κs =
+    let args = c .before .before .before .before .before .before .before .before .before .args in
+    let pre = c .before .before .before .before .before .before .before .before .before .pre in
+    let half-size = c .before .before .before .before .before .before .before .half-size in
+    let place = c .before .before .before .before .before .before .place in
+    let place2 = c .before .before .before .before .place2 in
+    (record { checked = (subst (λ t. Checked t (args .pair .second)) (sym (second-part (args .limits) (args .pair) (now (args .work)) (half-size .result) (place2 .result) (half-size .ensures) (place2 .ensures))) (pre .1 .0 .second-checked)); linked = c .before .fill-links .ensures }, ((subst (λ t. LinkedTable t (args .pair .first) (now (args .links))) (sym (first-part (args .limits) (args .pair) (now (args .work)) (place .result) (place .ensures))) (pre .1 .1 .0)), pre .1 .1 .1 .0))
 
 mark-redundant-requires-2 : tie.Need-mark-redundant-requires-2
-mark-redundant-requires-2 c κs = ((subst (λ t. LinkedTable t (c .before .before .before .before .before .before .before .before .before .before .before .args .pair .first) (now (c .before .before .before .before .before .before .before .before .before .before .before .args .links))) (sym (first-part (c .before .before .before .before .before .before .before .before .before .before .before .args .limits) (c .before .before .before .before .before .before .before .before .before .before .before .args .pair) (now (c .before .before .before .before .before .before .before .before .before .before .before .args .work)) (c .before .before .before .before .before .before .before .before .place .result) (c .before .before .before .before .before .before .before .before .place .ensures))) (c .before .before .before .before .before .before .before .before .before .before .before .pre .1 .1 .0)), (record { checked = (subst (λ t. Checked t (c .before .before .before .before .before .before .before .before .before .before .before .args .pair .second)) (sym (second-part (c .before .before .before .before .before .before .before .before .before .before .before .args .limits) (c .before .before .before .before .before .before .before .before .before .before .before .args .pair) (now (c .before .before .before .before .before .before .before .before .before .before .before .args .work)) (c .before .before .before .before .before .before .before .before .before .half-size .result) (c .before .before .before .before .before .before .place2 .result) (c .before .before .before .before .before .before .before .before .before .half-size .ensures) (c .before .before .before .before .before .before .place2 .ensures))) (c .before .before .before .before .before .before .before .before .before .before .before .pre .1 .0 .second-checked)); linked = c .before .before .before .fill-links .ensures }, c .before .before .before .before .before .before .before .before .before .before .before .pre .1 .1 .1 .1))
+mark-redundant-requires-2 c κs =
+    let args = c .before .before .before .before .before .before .before .before .before .before .before .args in
+    let pre = c .before .before .before .before .before .before .before .before .before .before .before .pre in
+    let half-size = c .before .before .before .before .before .before .before .before .before .half-size in
+    let place = c .before .before .before .before .before .before .before .before .place in
+    let place2 = c .before .before .before .before .before .before .place2 in
+    ((subst (λ t. LinkedTable t (args .pair .first) (now (args .links))) (sym (first-part (args .limits) (args .pair) (now (args .work)) (place .result) (place .ensures))) (pre .1 .1 .0)), (record { checked = (subst (λ t. Checked t (args .pair .second)) (sym (second-part (args .limits) (args .pair) (now (args .work)) (half-size .result) (place2 .result) (half-size .ensures) (place2 .ensures))) (pre .1 .0 .second-checked)); linked = c .before .before .before .fill-links .ensures }, pre .1 .1 .1 .1))
 
 returns : tie.Need-returns
 returns c =
+    let args = c .before .before .before .before .before .before .before .before .before .before .before .before .args in
+    let half-size = c .before .before .before .before .before .before .before .before .before .before .half-size in
+    let place = c .before .before .before .before .before .before .before .before .before .place in
+    let place2 = c .before .before .before .before .before .before .before .place2 in
+    let mark-redundant = c .before .before .mark-redundant in
     of-parts
-    (λ s t. WithEach (c .before .before .before .before .before .before .before .before .before .before .before .before .args .redundant) (c .before .before .before .before .before .before .before .before .before .before .before .before .args .m) (rowMaps t s (c .before .before .before .before .before .before .before .before .before .before .before .before .args .limits .depth) 0 0) (c .before .before .before .before .before .before .before .before .before .before .before .before .args .n) (rowMaps s t (c .before .before .before .before .before .before .before .before .before .before .before .before .args .limits .depth) 0 0) (c .mark-redundant2 .result))
-    (firstIn (c .before .before .before .before .before .before .before .before .before .before .before .before .args .pair) (now (c .before .before .before .before .before .before .before .before .before .before .before .before .args .work))) (take (c .before .before .before .before .before .before .before .before .before .place .result) (now (c .before .before .before .before .before .before .before .before .before .before .before .before .args .work))) (secondIn (c .before .before .before .before .before .before .before .before .before .before .before .before .args .limits) (c .before .before .before .before .before .before .before .before .before .before .before .before .args .pair) (now (c .before .before .before .before .before .before .before .before .before .before .before .before .args .work))) (take (c .before .before .before .before .before .before .before .before .before .before .half-size .result + c .before .before .before .before .before .before .before .place2 .result - c .before .before .before .before .before .before .before .before .before .before .half-size .result) (drop (c .before .before .before .before .before .before .before .before .before .before .half-size .result) (now (c .before .before .before .before .before .before .before .before .before .before .before .before .args .work)))) (sym (first-part (c .before .before .before .before .before .before .before .before .before .before .before .before .args .limits) (c .before .before .before .before .before .before .before .before .before .before .before .before .args .pair) (now (c .before .before .before .before .before .before .before .before .before .before .before .before .args .work)) (c .before .before .before .before .before .before .before .before .before .place .result) (c .before .before .before .before .before .before .before .before .before .place .ensures))) (sym (second-part (c .before .before .before .before .before .before .before .before .before .before .before .before .args .limits) (c .before .before .before .before .before .before .before .before .before .before .before .before .args .pair) (now (c .before .before .before .before .before .before .before .before .before .before .before .before .args .work)) (c .before .before .before .before .before .before .before .before .before .before .half-size .result) (c .before .before .before .before .before .before .before .place2 .result) (c .before .before .before .before .before .before .before .before .before .before .half-size .ensures) (c .before .before .before .before .before .before .before .place2 .ensures)))
-    (with-each (c .before .before .before .before .before .before .before .before .before .before .before .before .args .redundant) (c .before .before .before .before .before .before .before .before .before .before .before .before .args .m) (rowMaps (take (c .before .before .before .before .before .before .before .before .before .before .half-size .result + c .before .before .before .before .before .before .before .place2 .result - c .before .before .before .before .before .before .before .before .before .before .half-size .result) (drop (c .before .before .before .before .before .before .before .before .before .before .half-size .result) (now (c .before .before .before .before .before .before .before .before .before .before .before .before .args .work)))) (take (c .before .before .before .before .before .before .before .before .before .place .result) (now (c .before .before .before .before .before .before .before .before .before .before .before .before .args .work))) (c .before .before .before .before .before .before .before .before .before .before .before .before .args .limits .depth) 0 0) (c .before .before .mark-redundant .result) (c .before .before .before .before .before .before .before .before .before .before .before .before .args .n) (rowMaps (take (c .before .before .before .before .before .before .before .before .before .place .result) (now (c .before .before .before .before .before .before .before .before .before .before .before .before .args .work))) (take (c .before .before .before .before .before .before .before .before .before .before .half-size .result + c .before .before .before .before .before .before .before .place2 .result - c .before .before .before .before .before .before .before .before .before .before .half-size .result) (drop (c .before .before .before .before .before .before .before .before .before .before .half-size .result) (now (c .before .before .before .before .before .before .before .before .before .before .before .before .args .work)))) (c .before .before .before .before .before .before .before .before .before .before .before .before .args .limits .depth) 0 0) (c .mark-redundant2 .result)
-    (c .before .before .mark-redundant .ensures) (c .mark-redundant2 .ensures))
+    (λ s t. WithEach (args .redundant) (args .m) (rowMaps t s (args .limits .depth) 0 0) (args .n) (rowMaps s t (args .limits .depth) 0 0) (c .mark-redundant2 .result))
+    (firstIn (args .pair) (now (args .work))) (take (place .result) (now (args .work))) (secondIn (args .limits) (args .pair) (now (args .work))) (take (half-size .result + place2 .result - half-size .result) (drop (half-size .result) (now (args .work)))) (sym (first-part (args .limits) (args .pair) (now (args .work)) (place .result) (place .ensures))) (sym (second-part (args .limits) (args .pair) (now (args .work)) (half-size .result) (place2 .result) (half-size .ensures) (place2 .ensures)))
+    (with-each (args .redundant) (args .m) (rowMaps (take (half-size .result + place2 .result - half-size .result) (drop (half-size .result) (now (args .work)))) (take (place .result) (now (args .work))) (args .limits .depth) 0 0) (mark-redundant .result) (args .n) (rowMaps (take (place .result) (now (args .work))) (take (half-size .result + place2 .result - half-size .result) (drop (half-size .result) (now (args .work)))) (args .limits .depth) 0 0) (c .mark-redundant2 .result)
+    (mark-redundant .ensures) (c .mark-redundant2 .ensures))
 
 pub compare-halves-spec : {M : Type 1} → statement M
 compare-halves-spec =

@@ -23,31 +23,43 @@ loop-holds c =
     (omega (arith, p .0 .1), ((λ _. p .1 .0 .1), (p .1 .1 .0, p .1 .1 .1)))
 
 compare-with-requires : tie.Need-compare-with-requires Inv-loop μ-loop
-compare-with-requires c κs = (c .before .before .before .before .before .before .pre .0, (c .before .before .before .before .before .before .pre .1 .0, ((c .before .before .before .before .before .before .pre .1 .1 .0 .0, omega (arith, c .before .loop-test .taken, c .before .before .before .before .before .before .pre .1 .1 .0 .0)), c .before .before .loop .inv .1 .1 .1)))
+compare-with-requires c κs =
+    let pre = c .before .before .before .before .before .before .pre in
+    (pre .0, (pre .1 .0, ((pre .1 .1 .0 .0, omega (arith, c .before .loop-test .taken, pre .1 .1 .0 .0)), c .before .before .loop .inv .1 .1 .1)))
 
 add-next-undecided : tie.Need-add-next-undecided Inv-loop μ-loop
-add-next-undecided c = omega (arith, c .before .before .before .before .loop-test .taken, c .before .before .before .before .before .before .before .before .before .pre .1 .1 .0 .0, c .before .before .before .before .before .before .before .before .before .pre .1 .0 .taken .cards-read .places-are .most)
+add-next-undecided c =
+    let pre = c .before .before .before .before .before .before .before .before .before .pre in
+    omega (arith, c .before .before .before .before .loop-test .taken, pre .1 .1 .0 .0, pre .1 .0 .taken .cards-read .places-are .most)
 
 next-undecided-requires : tie.Need-next-undecided-requires Inv-loop μ-loop
-next-undecided-requires c κs = (omega (arith, c .before .before .before .before .before .before .before .before .before .pre .1 .1 .0 .0, c .before .before .before .before .before .before .before .before .before .pre .1 .0 .taken .cards-read .places-are .most), (omega (arith, c .before .before .before .before .loop-test .taken), omega (arith, c .before .before .before .before .before .before .before .before .before .pre .1 .1 .0 .0, c .before .before .before .before .before .before .before .before .before .pre .1 .0 .taken .cards-read .places-are .most)))
+next-undecided-requires c κs =
+    let pre = c .before .before .before .before .before .before .before .before .before .pre in
+    (omega (arith, pre .1 .1 .0 .0, pre .1 .0 .taken .cards-read .places-are .most), (omega (arith, c .before .before .before .before .loop-test .taken), omega (arith, pre .1 .1 .0 .0, pre .1 .0 .taken .cards-read .places-are .most)))
 
 loop-less : tie.Need-loop-less Inv-loop μ-loop
 loop-less c = omega (arith, c .next-undecided .ensures .0 .0, c .before .before .before .before .before .loop-test .taken)
 
 loop-again : tie.Need-loop-again Inv-loop μ-loop
 loop-again c =
+    let args = c .before .before .before .before .before .before .before .before .before .before .args in
+    let pre = c .before .before .before .before .before .before .before .before .before .before .pre in
+    let loop = c .before .before .before .before .before .before .loop in
+    let loop-test = c .before .before .before .before .before .loop-test in
+    let compare-with = c .before .before .before .compare-with in
     let found = c .next-undecided .ensures in
     let pair =
-    pair-compared (c .before .before .before .before .before .before .before .before .before .before .args .limits) (now (c .before .before .before .before .before .before .before .before .before .before .args .book)) (c .before .before .before .before .before .before .before .before .before .before .args .covering) (c .before .before .before .before .before .before .before .before .before .before .args .m) (c .before .before .before .before .before .before .loop .word) (c .before .before .before .before .before .before .loop .n) (c .before .before .before .compare-with .result) (c .before .before .before .before .before .before .loop .inv .1 .1 .0) (c .before .before .before .before .before .loop-test .taken) (omega (arith, c .before .before .before .before .before .before .before .before .before .before .pre .1 .1 .0 .0, c .before .before .before .before .before .before .before .before .before .before .pre .1 .0 .taken .cards-read .counted)) (c .before .before .before .before .before .before .before .before .before .before .pre .1 .1 .1 .0 .0) (c .before .before .before .before .before .before .loop .inv .1 .0 (c .before .before .before .before .before .loop-test .taken)) (c .before .before .before .compare-with .ensures .0) in
-    (found .0 .1, (found .1 .1, (row-skipped (c .before .before .before .before .before .before .before .before .before .before .args .limits) (now (c .before .before .before .before .before .before .before .before .before .before .args .book)) (c .before .before .before .before .before .before .before .before .before .before .args .covering) (c .before .before .before .before .before .before .before .before .before .before .args .m) (c .before .before .before .compare-with .result) (c .before .before .before .before .before .before .loop .n + 1) (c .next-undecided .result) (found .1 .0) pair, c .before .before .before .compare-with .ensures .1)))
+    pair-compared (args .limits) (now (args .book)) (args .covering) (args .m) (loop .word) (loop .n) (compare-with .result) (loop .inv .1 .1 .0) (loop-test .taken) (omega (arith, pre .1 .1 .0 .0, pre .1 .0 .taken .cards-read .counted)) (pre .1 .1 .1 .0 .0) (loop .inv .1 .0 (loop-test .taken)) (compare-with .ensures .0) in
+    (found .0 .1, (found .1 .1, (row-skipped (args .limits) (now (args .book)) (args .covering) (args .m) (compare-with .result) (loop .n + 1) (c .next-undecided .result) (found .1 .0) pair, compare-with .ensures .1)))
 
 same-length : tie.Need-same-length Inv-loop μ-loop
 same-length c = c .before .loop .inv .1 .1 .1 .long ∙ sym (c .before .before .before .before .before .pre .1 .1 .1 .1 .1 .long)
 
 returns : tie.Need-returns Inv-loop μ-loop
 returns c =
-    let end : c .before .loop .n ≡ c .before .before .before .before .before .args .m = omega (arith, c .before .loop .inv .0, c .loop-test .left) in (
-      row-ended (c .before .before .before .before .before .args .limits) (now (c .before .before .before .before .before .args .book)) (c .before .before .before .before .before .args .covering) (c .before .before .before .before .before .args .m) (c .before .loop .word) (subst (λ k. ComparedTo (c .before .before .before .before .before .args .limits) (now (c .before .before .before .before .before .args .book)) (c .before .before .before .before .before .args .covering) (c .before .before .before .before .before .args .m) k (c .before .loop .word)) end (c .before .loop .inv .1 .1 .0)),
+    let args = c .before .before .before .before .before .args in
+    let end : c .before .loop .n ≡ args .m = omega (arith, c .before .loop .inv .0, c .loop-test .left) in (
+      row-ended (args .limits) (now (args .book)) (args .covering) (args .m) (c .before .loop .word) (subst (λ k. ComparedTo (args .limits) (now (args .book)) (args .covering) (args .m) k (c .before .loop .word)) end (c .before .loop .inv .1 .1 .0)),
       c .before .loop .inv .1 .1 .1 .long ∙ sym (c .before .before .before .before .before .pre .1 .1 .1 .1 .1 .long),
     )
 

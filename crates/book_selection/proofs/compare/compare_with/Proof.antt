@@ -19,16 +19,29 @@ part-load-end : tie.Need-part-load-end
 part-load-end c = search needs
 
 load-requires : tie.Need-load-requires
-load-requires c κs = (c .before .before .before .before .before .pre .0, (c .before .before .before .before .before .pre .1 .0, (c .before .before .before .before .before .pre .1 .1 .0 .1, upper-long (c .before .before .before .before .before .args .limits) (now (c .before .before .before .before .before .args .book)) (now (c .before .before .before .before .before .args .places)) (c .before .before .before .before .before .args .count) (c .before .before .before .before .before .pre .1 .0 .taken) (c .before .before .before .before .before .pre .0) (c .before .half-size .result) (c .before .half-size .ensures) (c .before .before .before .before .before .args .m) (c .before .before .before .before .before .args .a) (c .before .before .before .before .before .pre .1 .1 .0 .0) (now (c .before .before .before .before .before .args .links)) (now (c .before .before .before .before .before .args .work)) (c .before .before .before .before .before .pre .1 .1 .1) (c .before .before .before .before .before .args .n) (c .before .before .before .before .before .pre .1 .1 .0 .1))))
+load-requires c κs =
+    let pre = c .before .before .before .before .before .pre in
+    let args = c .before .before .before .before .before .args in
+    (pre .0, (pre .1 .0, (pre .1 .1 .0 .1, upper-long (args .limits) (now (args .book)) (now (args .places)) (args .count) (pre .1 .0 .taken) (pre .0) (c .before .half-size .result) (c .before .half-size .ensures) (args .m) (args .a) (pre .1 .1 .0 .0) (now (args .links)) (now (args .work)) (pre .1 .1 .1) (args .n) (pre .1 .1 .0 .1))))
 
 compare-halves-requires : tie.Need-compare-halves-requires
-compare-halves-requires c κs = (c .before .before .before .before .before .before .before .before .before .pre .0, (upper-in (c .before .before .before .before .before .before .before .before .before .args .limits) (now (c .before .before .before .before .before .before .before .before .before .args .book)) (now (c .before .before .before .before .before .before .before .before .before .args .places)) (c .before .before .before .before .before .before .before .before .before .args .count) (c .before .before .before .before .before .before .before .before .before .pre .1 .0 .taken) (c .before .before .before .before .before .before .before .before .before .pre .0) (c .before .before .before .before .before .half-size .result) (c .before .before .before .before .before .half-size .ensures) (c .before .before .before .before .before .before .before .before .before .args .m) (c .before .before .before .before .before .before .before .before .before .args .a) (c .before .before .before .before .before .before .before .before .before .pre .1 .1 .0 .0) (now (c .before .before .before .before .before .before .before .before .before .args .links)) (now (c .before .before .before .before .before .before .before .before .before .args .work)) (c .before .before .before .before .before .before .before .before .before .pre .1 .1 .1) (c .before .before .before .before .before .before .before .before .before .args .n) (c .before .before .before .before .before .before .before .before .before .pre .1 .1 .0 .1) (c .before .before .before .load .result) (c .before .before .before .load .last .1 .1 .1 .1 .1 .1 .1 .0) (c .before .before .before .load .ensures), (upper-kept (c .before .before .before .before .before .before .before .before .before .args .limits) (now (c .before .before .before .before .before .before .before .before .before .args .book)) (now (c .before .before .before .before .before .before .before .before .before .args .places)) (c .before .before .before .before .before .before .before .before .before .args .count) (c .before .before .before .before .before .before .before .before .before .pre .1 .0 .taken) (c .before .before .before .before .before .before .before .before .before .pre .0) (c .before .before .before .before .before .half-size .result) (c .before .before .before .before .before .half-size .ensures) (c .before .before .before .before .before .before .before .before .before .args .m) (c .before .before .before .before .before .before .before .before .before .args .a) (c .before .before .before .before .before .before .before .before .before .pre .1 .1 .0 .0) (now (c .before .before .before .before .before .before .before .before .before .args .links)) (now (c .before .before .before .before .before .before .before .before .before .args .work)) (c .before .before .before .before .before .before .before .before .before .pre .1 .1 .1) (c .before .before .before .before .before .before .before .before .before .args .n) (c .before .before .before .before .before .before .before .before .before .pre .1 .1 .0 .1) (c .before .before .before .load .result) (c .before .before .before .load .last .1 .1 .1 .1 .1 .1 .1 .0) (c .before .before .before .load .ensures) .linked, (omega (arith, c .before .before .before .before .before .before .before .before .before .pre .1 .0 .taken .cards-read .places-are .most, c .before .before .before .before .before .before .before .before .before .pre .1 .1 .0), omega (arith, c .before .before .before .before .before .before .before .before .before .pre .1 .0 .taken .cards-read .places-are .most, c .before .before .before .before .before .before .before .before .before .pre .1 .1 .0)))))
+compare-halves-requires c κs =
+    let pre = c .before .before .before .before .before .before .before .before .before .pre in
+    let args = c .before .before .before .before .before .before .before .before .before .args in
+    let half-size = c .before .before .before .before .before .half-size in
+    let load = c .before .before .before .load in
+    (pre .0, (upper-in (args .limits) (now (args .book)) (now (args .places)) (args .count) (pre .1 .0 .taken) (pre .0) (half-size .result) (half-size .ensures) (args .m) (args .a) (pre .1 .1 .0 .0) (now (args .links)) (now (args .work)) (pre .1 .1 .1) (args .n) (pre .1 .1 .0 .1) (load .result) (load .last .1 .1 .1 .1 .1 .1 .1 .0) (load .ensures), (upper-kept (args .limits) (now (args .book)) (now (args .places)) (args .count) (pre .1 .0 .taken) (pre .0) (half-size .result) (half-size .ensures) (args .m) (args .a) (pre .1 .1 .0 .0) (now (args .links)) (now (args .work)) (pre .1 .1 .1) (args .n) (pre .1 .1 .0 .1) (load .result) (load .last .1 .1 .1 .1 .1 .1 .1 .0) (load .ensures) .linked, (omega (arith, pre .1 .0 .taken .cards-read .places-are .most, pre .1 .1 .0), omega (arith, pre .1 .0 .taken .cards-read .places-are .most, pre .1 .1 .0)))))
 
 same-length : tie.Need-same-length
 same-length c = search needs
 
 returns : tie.Need-returns
-returns c = (upper-compared (c .before .before .before .before .before .before .before .before .before .before .args .limits) (now (c .before .before .before .before .before .before .before .before .before .before .args .book)) (now (c .before .before .before .before .before .before .before .before .before .before .args .places)) (c .before .before .before .before .before .before .before .before .before .before .args .count) (c .before .before .before .before .before .before .before .before .before .before .pre .1 .0 .taken) (c .before .before .before .before .before .before .before .before .before .before .pre .0) (c .before .before .before .before .before .before .half-size .result) (c .before .before .before .before .before .before .half-size .ensures) (c .before .before .before .before .before .before .before .before .before .before .args .m) (c .before .before .before .before .before .before .before .before .before .before .args .a) (c .before .before .before .before .before .before .before .before .before .before .pre .1 .1 .0 .0) (now (c .before .before .before .before .before .before .before .before .before .before .args .links)) (now (c .before .before .before .before .before .before .before .before .before .before .args .work)) (c .before .before .before .before .before .before .before .before .before .before .pre .1 .1 .1) (c .before .before .before .before .before .before .before .before .before .before .args .n) (c .before .before .before .before .before .before .before .before .before .before .pre .1 .1 .0 .1) (c .before .before .before .before .load .result) (c .before .before .before .before .load .last .1 .1 .1 .1 .1 .1 .1 .0) (c .before .before .before .before .load .ensures) (c .before .before .before .before .before .before .before .before .before .before .args .redundant) (c .compare-halves .result) (c .compare-halves .ensures), upper-kept (c .before .before .before .before .before .before .before .before .before .before .args .limits) (now (c .before .before .before .before .before .before .before .before .before .before .args .book)) (now (c .before .before .before .before .before .before .before .before .before .before .args .places)) (c .before .before .before .before .before .before .before .before .before .before .args .count) (c .before .before .before .before .before .before .before .before .before .before .pre .1 .0 .taken) (c .before .before .before .before .before .before .before .before .before .before .pre .0) (c .before .before .before .before .before .before .half-size .result) (c .before .before .before .before .before .before .half-size .ensures) (c .before .before .before .before .before .before .before .before .before .before .args .m) (c .before .before .before .before .before .before .before .before .before .before .args .a) (c .before .before .before .before .before .before .before .before .before .before .pre .1 .1 .0 .0) (now (c .before .before .before .before .before .before .before .before .before .before .args .links)) (now (c .before .before .before .before .before .before .before .before .before .before .args .work)) (c .before .before .before .before .before .before .before .before .before .before .pre .1 .1 .1) (c .before .before .before .before .before .before .before .before .before .before .args .n) (c .before .before .before .before .before .before .before .before .before .before .pre .1 .1 .0 .1) (c .before .before .before .before .load .result) (c .before .before .before .before .load .last .1 .1 .1 .1 .1 .1 .1 .0) (c .before .before .before .before .load .ensures))
+returns c =
+    let args = c .before .before .before .before .before .before .before .before .before .before .args in
+    let pre = c .before .before .before .before .before .before .before .before .before .before .pre in
+    let half-size = c .before .before .before .before .before .before .half-size in
+    let load = c .before .before .before .before .load in
+    (upper-compared (args .limits) (now (args .book)) (now (args .places)) (args .count) (pre .1 .0 .taken) (pre .0) (half-size .result) (half-size .ensures) (args .m) (args .a) (pre .1 .1 .0 .0) (now (args .links)) (now (args .work)) (pre .1 .1 .1) (args .n) (pre .1 .1 .0 .1) (load .result) (load .last .1 .1 .1 .1 .1 .1 .1 .0) (load .ensures) (args .redundant) (c .compare-halves .result) (c .compare-halves .ensures), upper-kept (args .limits) (now (args .book)) (now (args .places)) (args .count) (pre .1 .0 .taken) (pre .0) (half-size .result) (half-size .ensures) (args .m) (args .a) (pre .1 .1 .0 .0) (now (args .links)) (now (args .work)) (pre .1 .1 .1) (args .n) (pre .1 .1 .0 .1) (load .result) (load .last .1 .1 .1 .1 .1 .1 .1 .0) (load .ensures))
 
 pub compare-with-spec : {M : Type 1} → statement M
 compare-with-spec =

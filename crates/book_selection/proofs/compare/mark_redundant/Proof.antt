@@ -11,7 +11,9 @@ has-card-requires : tie.Need-has-card-requires
 has-card-requires c κs = search needs
 
 returns : tie.Need-returns
-returns c = with-there (c .before .before .before .before .args .redundant) (c .before .before .before .before .args .k) (rowMaps (now (c .before .before .before .before .args .first)) (now (c .before .before .before .before .args .second)) (c .before .before .before .before .args .depth) 0 0) (sym (c .before .has-card .ensures) ∙ c .if1 .taken)
+returns c =
+    let args = c .before .before .before .before .args in
+    with-there (args .redundant) (args .k) (rowMaps (now (args .first)) (now (args .second)) (args .depth) 0 0) (sym (c .before .has-card .ensures) ∙ c .if1 .taken)
 
 table-covers-requires : tie.Need-table-covers-requires
 table-covers-requires c κs = search needs
@@ -20,10 +22,14 @@ with-card-requires : tie.Need-with-card-requires
 with-card-requires c κs = search needs
 
 returns-2 : tie.Need-returns-2
-returns-2 c = with-more (c .before .before .before .before .before .before .before .args .redundant) (c .before .before .before .before .before .before .before .args .k) (rowMaps (now (c .before .before .before .before .before .before .before .args .first)) (now (c .before .before .before .before .before .before .before .args .second)) (c .before .before .before .before .before .before .before .args .depth) 0 0) (c .with-card .result) (sym (c .before .before .table-covers .ensures) ∙ c .before .if2 .taken) (c .with-card .ensures)
+returns-2 c =
+    let args = c .before .before .before .before .before .before .before .args in
+    with-more (args .redundant) (args .k) (rowMaps (now (args .first)) (now (args .second)) (args .depth) 0 0) (c .with-card .result) (sym (c .before .before .table-covers .ensures) ∙ c .before .if2 .taken) (c .with-card .ensures)
 
 returns-3 : tie.Need-returns-3
-returns-3 c = with-none (c .before .before .before .before .before .before .args .redundant) (c .before .before .before .before .before .before .args .k) (rowMaps (now (c .before .before .before .before .before .before .args .first)) (now (c .before .before .before .before .before .before .args .second)) (c .before .before .before .before .before .before .args .depth) 0 0) (sym (c .before .table-covers .ensures) ∙ c .if2 .left)
+returns-3 c =
+    let args = c .before .before .before .before .before .before .args in
+    with-none (args .redundant) (args .k) (rowMaps (now (args .first)) (now (args .second)) (args .depth) 0 0) (sym (c .before .table-covers .ensures) ∙ c .if2 .left)
 
 pub mark-redundant-spec : {M : Type 1} → statement M
 mark-redundant-spec =

@@ -18,7 +18,9 @@ loop-holds : tie.Need-loop-holds Inv-loop μ-loop
 loop-holds c = ((omega arith, c .pre .1 .0), λ k a b. absurd (omega arith))
 
 is-undecided-requires : tie.Need-is-undecided-requires Inv-loop μ-loop
-is-undecided-requires c κs = (c .before .before .pre .0, omega (arith, c .loop-test .taken, c .before .before .pre .1 .1))
+is-undecided-requires c κs =
+    let pre = c .before .before .pre in
+    (pre .0, omega (arith, c .loop-test .taken, pre .1 .1))
 
 returns : tie.Need-returns Inv-loop μ-loop
 returns c =

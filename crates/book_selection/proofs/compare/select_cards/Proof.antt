@@ -20,10 +20,14 @@ same-length : tie.Need-same-length
 same-length c = search needs
 
 returns : tie.Need-returns
-returns c = (
-  selected-bits (c .before .before .before .before .before .before .before .before .before .before .before .before .args .limits) (now (c .before .before .before .before .before .before .before .before .before .before .before .before .args .book)) (c .before .before .before .before .before .before .before .before .before .before .before .before .args .covering) (c .before .before .before .before .before .before .before .before .before .before .before .before .args .count) (c .before .before .before .before .before .before .before .compare-cards .result) (c .without .result) (c .before .before .before .before .before .before .before .before .before .before .before .before .pre .1 .1 .0) (c .before .before .before .before .before .before .before .compare-cards .ensures .0) (c .without .ensures),
-  cleared _ (c .before .before .before .clear .last .0) _ (workSize (c .before .before .before .before .before .before .before .before .before .before .before .before .args .limits)) refl (c .before .before .before .before .before .before .before .compare-cards .ensures .1 ∙ c .before .before .before .before .before .before .before .before .before .before .before .before .pre .1 .1 .1) (c .before .before .before .clear .ensures),
-)
+returns c =
+    let args = c .before .before .before .before .before .before .before .before .before .before .before .before .args in
+    let pre = c .before .before .before .before .before .before .before .before .before .before .before .before .pre in
+    let compare-cards = c .before .before .before .before .before .before .before .compare-cards in
+    let clear = c .before .before .before .clear in (
+      selected-bits (args .limits) (now (args .book)) (args .covering) (args .count) (compare-cards .result) (c .without .result) (pre .1 .1 .0) (compare-cards .ensures .0) (c .without .ensures),
+      cleared _ (clear .last .0) _ (workSize (args .limits)) refl (compare-cards .ensures .1 ∙ pre .1 .1 .1) (clear .ensures),
+    )
 
 pub select-cards-spec : {M : Type 1} → statement M
 select-cards-spec =

@@ -36,10 +36,15 @@ element-copy-out-start : tie.Need-element-copy-out-start
 element-copy-out-start c = search needs
 
 place-requires : tie.Need-place-requires
-place-requires c κs = let fits = cached-few (c .before .before .before .before .before .before .before .args .limits) (card (now (c .before .before .before .before .before .before .before .args .book)) (c .before .before .before .before .before .before .before .args .k)) (now (c .before .before .before .before .before .before .before .args .cache)) (getD (now (c .before .before .before .before .before .before .before .args .spans)) (c .before .before .before .before .before .before .before .args .k) 0) (getD (now (c .before .before .before .before .before .before .before .args .spans)) (mostCards + c .before .before .before .before .before .before .before .args .k) 0) (c .before .before .before .before .before .before .before .pre .1 .0 .at) (c .before .before .before .before .before .before .before .pre .1 .0 .cache-is .tables (c .before .before .before .before .before .before .before .args .k) (omega (arith, c .before .before .before .before .before .before .before .pre .1 .0 .taken .cards-read .places-are .most, c .before .before .before .before .before .before .before .pre .1 .1 .0)) (c .before .before .if1 .left)) in (omega (arith, fits, c .before .before .before .before .before .before .before .pre .0 .0), omega arith)
+place-requires c κs =
+    let args = c .before .before .before .before .before .before .before .args in
+    let pre = c .before .before .before .before .before .before .before .pre in
+    let fits = cached-few (args .limits) (card (now (args .book)) (args .k)) (now (args .cache)) (getD (now (args .spans)) (args .k) 0) (getD (now (args .spans)) (mostCards + args .k) 0) (pre .1 .0 .at) (pre .1 .0 .cache-is .tables (args .k) (omega (arith, pre .1 .0 .taken .cards-read .places-are .most, pre .1 .1 .0)) (c .before .before .if1 .left)) in (omega (arith, fits, pre .0 .0), omega arith)
 
 add-copy-in : tie.Need-add-copy-in
-add-copy-in c = let one = (c .before .before .before .before .before .before .before .before .pre .1 .0 .cache-is .tables (c .before .before .before .before .before .before .before .before .args .k) (omega (arith, c .before .before .before .before .before .before .before .before .pre .1 .0 .taken .cards-read .places-are .most, c .before .before .before .before .before .before .before .before .pre .1 .1 .0)) (c .before .before .before .if1 .left)) in omega (arith, one .ends, c .before .before .before .before .before .before .before .before .pre .1 .0 .cache-is .long, c .place .ensures)
+add-copy-in c =
+    let pre = c .before .before .before .before .before .before .before .before .pre in
+    let one = (pre .1 .0 .cache-is .tables (c .before .before .before .before .before .before .before .before .args .k) (omega (arith, pre .1 .0 .taken .cards-read .places-are .most, pre .1 .1 .0)) (c .before .before .before .if1 .left)) in omega (arith, one .ends, pre .1 .0 .cache-is .long, c .place .ensures)
 
 sub-copy-in : tie.Need-sub-copy-in
 sub-copy-in c = search needs
@@ -48,24 +53,32 @@ part-copy-in-start : tie.Need-part-copy-in-start
 part-copy-in-start c = search needs
 
 part-copy-in-end : tie.Need-part-copy-in-end
-part-copy-in-end c = let one = (c .before .before .before .before .before .before .before .before .pre .1 .0 .cache-is .tables (c .before .before .before .before .before .before .before .before .args .k) (omega (arith, c .before .before .before .before .before .before .before .before .pre .1 .0 .taken .cards-read .places-are .most, c .before .before .before .before .before .before .before .before .pre .1 .1 .0)) (c .before .before .before .if1 .left)) in omega (arith, one .ends, c .before .before .before .before .before .before .before .before .pre .1 .0 .cache-is .long, c .place .ensures)
+part-copy-in-end c =
+    let pre = c .before .before .before .before .before .before .before .before .pre in
+    let one = (pre .1 .0 .cache-is .tables (c .before .before .before .before .before .before .before .before .args .k) (omega (arith, pre .1 .0 .taken .cards-read .places-are .most, pre .1 .1 .0)) (c .before .before .before .if1 .left)) in omega (arith, one .ends, pre .1 .0 .cache-is .long, c .place .ensures)
 
 copy-in-requires : tie.Need-copy-in-requires
 copy-in-requires c κs =
-    let fits = cached-few (c .before .before .before .before .before .before .before .before .before .args .limits) (card (now (c .before .before .before .before .before .before .before .before .before .args .book)) (c .before .before .before .before .before .before .before .before .before .args .k)) (now (c .before .before .before .before .before .before .before .before .before .args .cache)) (getD (now (c .before .before .before .before .before .before .before .before .before .args .spans)) (c .before .before .before .before .before .before .before .before .before .args .k) 0) (getD (now (c .before .before .before .before .before .before .before .before .before .args .spans)) (mostCards + c .before .before .before .before .before .before .before .before .before .args .k) 0) (c .before .before .before .before .before .before .before .before .before .pre .1 .0 .at) (c .before .before .before .before .before .before .before .before .before .pre .1 .0 .cache-is .tables (c .before .before .before .before .before .before .before .before .before .args .k) (omega (arith, c .before .before .before .before .before .before .before .before .before .pre .1 .0 .taken .cards-read .places-are .most, c .before .before .before .before .before .before .before .before .before .pre .1 .1 .0)) (c .before .before .before .before .if1 .left)) in
-    let one = (c .before .before .before .before .before .before .before .before .before .pre .1 .0 .cache-is .tables (c .before .before .before .before .before .before .before .before .before .args .k) (omega (arith, c .before .before .before .before .before .before .before .before .before .pre .1 .0 .taken .cards-read .places-are .most, c .before .before .before .before .before .before .before .before .before .pre .1 .1 .0)) (c .before .before .before .before .if1 .left)) in
+    let args = c .before .before .before .before .before .before .before .before .before .args in
+    let pre = c .before .before .before .before .before .before .before .before .before .pre in
+    let if1 = c .before .before .before .before .if1 in
+    let fits = cached-few (args .limits) (card (now (args .book)) (args .k)) (now (args .cache)) (getD (now (args .spans)) (args .k) 0) (getD (now (args .spans)) (mostCards + args .k) 0) (pre .1 .0 .at) (pre .1 .0 .cache-is .tables (args .k) (omega (arith, pre .1 .0 .taken .cards-read .places-are .most, pre .1 .1 .0)) (if1 .left)) in
+    let one = (pre .1 .0 .cache-is .tables (args .k) (omega (arith, pre .1 .0 .taken .cards-read .places-are .most, pre .1 .1 .0)) (if1 .left)) in
     let n = c .before .place in
-    let rest = length-drop (getD (now (c .before .before .before .before .before .before .before .before .before .args .spans)) (c .before .before .before .before .before .before .before .before .before .args .k) 0) (now (c .before .before .before .before .before .before .before .before .before .args .cache)) in
-    let long = length-take-le ((getD (now (c .before .before .before .before .before .before .before .before .before .args .spans)) (c .before .before .before .before .before .before .before .before .before .args .k) 0) + n .result - (getD (now (c .before .before .before .before .before .before .before .before .before .args .spans)) (c .before .before .before .before .before .before .before .before .before .args .k) 0)) (drop (getD (now (c .before .before .before .before .before .before .before .before .before .args .spans)) (c .before .before .before .before .before .before .before .before .before .args .k) 0) (now (c .before .before .before .before .before .before .before .before .before .args .cache))) (omega (arith, one .ends, c .before .before .before .before .before .before .before .before .before .pre .1 .0 .cache-is .long, n .ensures, rest)) in
-    omega (arith, long, fits, n .ensures, c .before .before .before .before .before .before .before .before .before .pre .1 .1 .1)
+    let rest = length-drop (getD (now (args .spans)) (args .k) 0) (now (args .cache)) in
+    let long = length-take-le ((getD (now (args .spans)) (args .k) 0) + n .result - (getD (now (args .spans)) (args .k) 0)) (drop (getD (now (args .spans)) (args .k) 0) (now (args .cache))) (omega (arith, one .ends, pre .1 .0 .cache-is .long, n .ensures, rest)) in
+    omega (arith, long, fits, n .ensures, pre .1 .1 .1)
 
 same-length-2 : tie.Need-same-length-2
 same-length-2 c = search needs
 
 returns-2 : tie.Need-returns-2
 returns-2 c =
+    let args = c .before .before .before .before .before .before .before .before .before .before .before .before .args in
+    let pre = c .before .before .before .before .before .before .before .before .before .before .before .before .pre in
+    let copy-in = c .before .before .copy-in in
     let n = c .before .before .before .before .place in
-    cached-tabled (c .before .before .before .before .before .before .before .before .before .before .before .before .args .limits) (card (now (c .before .before .before .before .before .before .before .before .before .before .before .before .args .book)) (c .before .before .before .before .before .before .before .before .before .before .before .before .args .k)) (now (c .before .before .before .before .before .before .before .before .before .before .before .before .args .cache)) (getD (now (c .before .before .before .before .before .before .before .before .before .before .before .before .args .spans)) (c .before .before .before .before .before .before .before .before .before .before .before .before .args .k) 0) (getD (now (c .before .before .before .before .before .before .before .before .before .before .before .before .args .spans)) (mostCards + c .before .before .before .before .before .before .before .before .before .before .before .before .args .k) 0) (c .before .before .before .before .before .before .before .before .before .before .before .before .pre .1 .0 .at) (c .before .before .before .before .before .before .before .before .before .before .before .before .pre .1 .0 .cache-is .tables (c .before .before .before .before .before .before .before .before .before .before .before .before .args .k) (omega (arith, c .before .before .before .before .before .before .before .before .before .before .before .before .pre .1 .0 .taken .cards-read .places-are .most, c .before .before .before .before .before .before .before .before .before .before .before .before .pre .1 .1 .0)) (c .before .before .before .before .before .before .before .if1 .left)) (now (c .before .before .before .before .before .before .before .before .before .before .before .before .args .out)) (c .before .before .copy-in .last .0) (n .result) (n .ensures) (c .before .before .before .before .before .before .before .before .before .before .before .before .pre .1 .0 .cache-is .long) (c .before .before .before .before .before .before .before .before .before .before .before .before .pre .1 .1 .1) (c .before .before .copy-in .ensures)
+    cached-tabled (args .limits) (card (now (args .book)) (args .k)) (now (args .cache)) (getD (now (args .spans)) (args .k) 0) (getD (now (args .spans)) (mostCards + args .k) 0) (pre .1 .0 .at) (pre .1 .0 .cache-is .tables (args .k) (omega (arith, pre .1 .0 .taken .cards-read .places-are .most, pre .1 .1 .0)) (c .before .before .before .before .before .before .before .if1 .left)) (now (args .out)) (copy-in .last .0) (n .result) (n .ensures) (pre .1 .0 .cache-is .long) (pre .1 .1 .1) (copy-in .ensures)
 
 pub load-spec : {M : Type 1} → statement M
 load-spec =

@@ -21,10 +21,15 @@ returns : tie.Need-returns
 returns c = ((λ limits book so table. so), refl)
 
 slice-aggregate-copy-in : tie.Need-slice-aggregate-copy-in
-slice-aggregate-copy-in c = sym (length-take-le (c .before .before .before .place .result) (now (c .before .before .before .before .before .before .args .scratch)) (omega (arith, c .before .before .before .place .ensures, c .before .before .before .before .before .before .pre .1 .0)))
+slice-aggregate-copy-in c =
+    let place = c .before .before .before .place in
+    sym (length-take-le (place .result) (now (c .before .before .before .before .before .before .args .scratch)) (omega (arith, place .ensures, c .before .before .before .before .before .before .pre .1 .0)))
 
 copy-in-requires : tie.Need-copy-in-requires
-copy-in-requires c κs = let long = (length-take-le (c .before .before .before .place .result) (now (c .before .before .before .before .before .before .args .scratch)) (omega (arith, c .before .before .before .place .ensures, c .before .before .before .before .before .before .pre .1 .0))) in omega (arith, long, c .before .before .if1 .left, c .before .before .before .before .before .before .pre .1 .1 .1 .0)
+copy-in-requires c κs =
+    let pre = c .before .before .before .before .before .before .pre in
+    let place = c .before .before .before .place in
+    let long = (length-take-le (place .result) (now (c .before .before .before .before .before .before .args .scratch)) (omega (arith, place .ensures, pre .1 .0))) in omega (arith, long, c .before .before .if1 .left, pre .1 .1 .1 .0)
 
 mul-spans : tie.Need-mul-spans
 mul-spans c = search needs
@@ -49,12 +54,17 @@ same-length c = search needs
 
 returns-2 : tie.Need-returns-2
 returns-2 c =
-    let long = (length-take-le (c .before .before .before .before .before .before .place .result) (now (c .before .before .before .before .before .before .before .before .before .args .scratch)) (omega (arith, c .before .before .before .before .before .before .place .ensures, c .before .before .before .before .before .before .before .before .before .pre .1 .0))) in
-    let put-there = c .before .before .copy-in .ensures in (
+    let args = c .before .before .before .before .before .before .before .before .before .args in
+    let pre = c .before .before .before .before .before .before .before .before .before .pre in
+    let place = c .before .before .before .before .before .before .place in
+    let if1 = c .before .before .before .before .before .if1 in
+    let copy-in = c .before .before .copy-in in
+    let long = (length-take-le (place .result) (now (args .scratch)) (omega (arith, place .ensures, pre .1 .0))) in
+    let put-there = copy-in .ensures in (
       (λ limits book so table.
-          cached-more limits book (now (c .before .before .before .before .before .before .before .before .before .args .cache)) (now (c .before .before .before .before .before .before .before .before .before .args .spans)) (c .before .before .before .before .before .before .before .before .before .args .at) so (now (c .before .before .before .before .before .before .before .before .before .args .scratch)) (c .before .before .before .before .before .before .before .before .before .args .m) (c .before .before .before .before .before .before .before .before .before .args .k) (c .before .before .before .before .before .before .place .result) (c .before .before .copy-in .last .0) (c .before .before .before .before .before .before .before .before .before .pre .1 .1 .0) table (c .before .before .before .before .before .before .place .ensures)
-          (omega (arith, c .before .before .before .before .before .before .place .ensures, c .before .before .before .before .before .before .before .before .before .pre .1 .0)) (omega (arith, c .before .before .before .before .before .if1 .left, c .before .before .before .before .before .before .before .before .before .pre .1 .1 .1 .0)) put-there),
-      ap length put-there ∙ length-put (now (c .before .before .before .before .before .before .before .before .before .args .cache)) (c .before .before .before .before .before .before .before .before .before .args .at) (take (c .before .before .before .before .before .before .place .result) (now (c .before .before .before .before .before .before .before .before .before .args .scratch))) (omega (arith, long, c .before .before .before .before .before .if1 .left, c .before .before .before .before .before .before .before .before .before .pre .1 .1 .1 .0)),
+          cached-more limits book (now (args .cache)) (now (args .spans)) (args .at) so (now (args .scratch)) (args .m) (args .k) (place .result) (copy-in .last .0) (pre .1 .1 .0) table (place .ensures)
+          (omega (arith, place .ensures, pre .1 .0)) (omega (arith, if1 .left, pre .1 .1 .1 .0)) put-there),
+      ap length put-there ∙ length-put (now (args .cache)) (args .at) (take (place .result) (now (args .scratch))) (omega (arith, long, if1 .left, pre .1 .1 .1 .0)),
     )
 
 pub store-spec : {M : Type 1} → statement M

@@ -28,11 +28,12 @@ same-length-2 c = search needs
 
 returns-2 : tie.Need-returns-2
 returns-2 c =
+    let if1 = c .before .before .before .before .before .if1 in
     let start = c .before .before .before .before .before .before .before .before .before .before .before .before .before .before in
     let built = c .before .before .before .before .before .before .before .before .before .before .build in
     let done = c .before .before .finish in
-    tabled-rows (start .args .limits) (now (start .args .picture)) (now (start .args .out)) (built .result) (built .last .1 .1 .1 .0) (done .last .1 .0) (built .ensures) (c .before .before .before .before .before .if1 .left)
-    (omega (arith, built .ensures .same, built .ensures .fewer, c .before .before .before .before .before .if1 .left, start .pre .1 .1)) (done .ensures .1)
+    tabled-rows (start .args .limits) (now (start .args .picture)) (now (start .args .out)) (built .result) (built .last .1 .1 .1 .0) (done .last .1 .0) (built .ensures) (if1 .left)
+    (omega (arith, built .ensures .same, built .ensures .fewer, if1 .left, start .pre .1 .1)) (done .ensures .1)
 
 pub tabulate-spec : {M : Type 1} → statement M
 tabulate-spec =

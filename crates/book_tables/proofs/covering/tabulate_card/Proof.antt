@@ -59,10 +59,11 @@ same-length c = search needs
 
 returns : tie.Need-returns
 returns c =
+    let tabulate = c .before .before .tabulate in
     let start = c .before .before .before .before .before .before .before .before .before in
     let a = start .args in
     let is = place-part (now (a .book)) (now (a .places)) (a .count) (start .pre .1 .0 .places-are) (a .k) (start .pre .1 .1 .0) in
-    subst (λ s. Tabled (a .limits) s (now (a .out)) (c .before .before .tabulate .result) (c .before .before .tabulate .last .1 .1 .0)) is (c .before .before .tabulate .ensures)
+    subst (λ s. Tabled (a .limits) s (now (a .out)) (tabulate .result) (tabulate .last .1 .1 .0)) is (tabulate .ensures)
 
 pub tabulate-card-spec : {M : Type 1} → statement M
 tabulate-card-spec =

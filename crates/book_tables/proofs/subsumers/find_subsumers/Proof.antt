@@ -15,33 +15,67 @@ slice-aggregate-tabulate : tie.Need-slice-aggregate-tabulate
 slice-aggregate-tabulate c = search needs
 
 tabulate-requires : tie.Need-tabulate-requires
-tabulate-requires c κs = (c .before .before .before .before .pre .0, (c .before .before .before .before .pre .1 .0, omega (arith, c .before .before .before .before .pre .0 .0)))
+tabulate-requires c κs =
+    let pre = c .before .before .before .before .pre in
+    (pre .0, (pre .1 .0, omega (arith, pre .0 .0)))
 
 returns : tie.Need-returns
-returns c = (case-many (c .before .before .before .before .before .before .before .args .limits) (now (c .before .before .before .before .before .before .before .args .case)) (now (c .before .before .before .before .before .before .before .args .book)) (c .before .before .before .before .before .before .before .args .count) (none-many (c .before .before .before .before .before .before .before .args .limits) (now (c .before .before .before .before .before .before .before .args .case)) _ (c .before .before .tabulate .result) (c .before .before .tabulate .last .1 .1 .0) (c .before .before .before .before .before .before .before .pre .0) (c .before .before .tabulate .ensures) (c .if1 .taken)), tt)
+returns c =
+    let args = c .before .before .before .before .before .before .before .args in
+    let tabulate = c .before .before .tabulate in
+    (case-many (args .limits) (now (args .case)) (now (args .book)) (args .count) (none-many (args .limits) (now (args .case)) _ (tabulate .result) (tabulate .last .1 .1 .0) (c .before .before .before .before .before .before .before .pre .0) (tabulate .ensures) (c .if1 .taken)), tt)
 
 place-requires : tie.Need-place-requires
-place-requires c κs = let fits = tabled-fits (c .before .before .before .before .before .before .before .args .limits) (now (c .before .before .before .before .before .before .before .args .case)) _ (c .before .before .tabulate .result) (c .before .before .tabulate .last .1 .1 .0) (c .before .before .before .before .before .before .before .pre .0) (c .before .before .tabulate .ensures) (some-few (c .before .before .before .before .before .before .before .args .limits) (now (c .before .before .before .before .before .before .before .args .case)) _ (c .before .before .tabulate .result) (c .before .before .tabulate .last .1 .1 .0) (c .before .before .before .before .before .before .before .pre .0) (c .before .before .tabulate .ensures) (c .if1 .left)) in (omega (arith, fits, c .before .before .before .before .before .before .before .pre .0), omega arith)
+place-requires c κs =
+    let args = c .before .before .before .before .before .before .before .args in
+    let pre = c .before .before .before .before .before .before .before .pre in
+    let tabulate = c .before .before .tabulate in
+    let fits = tabled-fits (args .limits) (now (args .case)) _ (tabulate .result) (tabulate .last .1 .1 .0) (pre .0) (tabulate .ensures) (some-few (args .limits) (now (args .case)) _ (tabulate .result) (tabulate .last .1 .1 .0) (pre .0) (tabulate .ensures) (c .if1 .left)) in (omega (arith, fits, pre .0), omega arith)
 
 array-share-prefix-scratch : tie.Need-array-share-prefix-scratch
-array-share-prefix-scratch c = let fits = tabled-fits (c .before .before .before .before .before .before .before .before .args .limits) (now (c .before .before .before .before .before .before .before .before .args .case)) _ (c .before .before .before .tabulate .result) (c .before .before .before .tabulate .last .1 .1 .0) (c .before .before .before .before .before .before .before .before .pre .0) (c .before .before .before .tabulate .ensures) (some-few (c .before .before .before .before .before .before .before .before .args .limits) (now (c .before .before .before .before .before .before .before .before .args .case)) _ (c .before .before .before .tabulate .result) (c .before .before .before .tabulate .last .1 .1 .0) (c .before .before .before .before .before .before .before .before .pre .0) (c .before .before .before .tabulate .ensures) (c .before .if1 .left)) in omega (arith, fits, c .place .ensures, c .before .before .before .tabulate .ensures .same, c .before .before .before .before .before .before .before .before .pre .0 .0)
+array-share-prefix-scratch c =
+    let args = c .before .before .before .before .before .before .before .before .args in
+    let pre = c .before .before .before .before .before .before .before .before .pre in
+    let tabulate = c .before .before .before .tabulate in
+    let fits = tabled-fits (args .limits) (now (args .case)) _ (tabulate .result) (tabulate .last .1 .1 .0) (pre .0) (tabulate .ensures) (some-few (args .limits) (now (args .case)) _ (tabulate .result) (tabulate .last .1 .1 .0) (pre .0) (tabulate .ensures) (c .before .if1 .left)) in omega (arith, fits, c .place .ensures, tabulate .ensures .same, pre .0 .0)
 
 slice-aggregate-table : tie.Need-slice-aggregate-table
 slice-aggregate-table c =
-    let fits = tabled-fits (c .before .before .before .before .before .before .before .before .before .args .limits) (now (c .before .before .before .before .before .before .before .before .before .args .case)) _ (c .before .before .before .before .tabulate .result) (c .before .before .before .before .tabulate .last .1 .1 .0) (c .before .before .before .before .before .before .before .before .before .pre .0) (c .before .before .before .before .tabulate .ensures) (some-few (c .before .before .before .before .before .before .before .before .before .args .limits) (now (c .before .before .before .before .before .before .before .before .before .args .case)) _ (c .before .before .before .before .tabulate .result) (c .before .before .before .before .tabulate .last .1 .1 .0) (c .before .before .before .before .before .before .before .before .before .pre .0) (c .before .before .before .before .tabulate .ensures) (c .before .before .if1 .left)) in
-    sym (length-take-le (c .before .place .result) (c .before .before .before .before .tabulate .last .1 .1 .0) (omega (arith, fits, (c .before .place .ensures), c .before .before .before .before .tabulate .ensures .same, c .before .before .before .before .before .before .before .before .before .pre .0 .0)))
+    let args = c .before .before .before .before .before .before .before .before .before .args in
+    let pre = c .before .before .before .before .before .before .before .before .before .pre in
+    let tabulate = c .before .before .before .before .tabulate in
+    let fits = tabled-fits (args .limits) (now (args .case)) _ (tabulate .result) (tabulate .last .1 .1 .0) (pre .0) (tabulate .ensures) (some-few (args .limits) (now (args .case)) _ (tabulate .result) (tabulate .last .1 .1 .0) (pre .0) (tabulate .ensures) (c .before .before .if1 .left)) in
+    sym (length-take-le (c .before .place .result) (tabulate .last .1 .1 .0) (omega (arith, fits, (c .before .place .ensures), tabulate .ensures .same, pre .0 .0)))
 
 fill-links-requires : tie.Need-fill-links-requires
-fill-links-requires c κs = (tabled-checked (c .before .before .before .before .before .before .before .before .before .before .args .limits) (now (c .before .before .before .before .before .before .before .before .before .before .args .case)) _ (c .before .before .before .before .before .tabulate .result) (c .before .before .before .before .before .tabulate .last .1 .1 .0) (c .before .before .before .before .before .before .before .before .before .before .pre .0) (c .before .before .before .before .before .tabulate .ensures) (some-few (c .before .before .before .before .before .before .before .before .before .before .args .limits) (now (c .before .before .before .before .before .before .before .before .before .before .args .case)) _ (c .before .before .before .before .before .tabulate .result) (c .before .before .before .before .before .tabulate .last .1 .1 .0) (c .before .before .before .before .before .before .before .before .before .before .pre .0) (c .before .before .before .before .before .tabulate .ensures) (c .before .before .before .if1 .left)) (c .before .before .place .result) (c .before .before .place .ensures), blank 512 512 refl)
+fill-links-requires c κs =
+    let args = c .before .before .before .before .before .before .before .before .before .before .args in
+    let pre = c .before .before .before .before .before .before .before .before .before .before .pre in
+    let tabulate = c .before .before .before .before .before .tabulate in
+    let place = c .before .before .place in
+    (tabled-checked (args .limits) (now (args .case)) _ (tabulate .result) (tabulate .last .1 .1 .0) (pre .0) (tabulate .ensures) (some-few (args .limits) (now (args .case)) _ (tabulate .result) (tabulate .last .1 .1 .0) (pre .0) (tabulate .ensures) (c .before .before .before .if1 .left)) (place .result) (place .ensures), blank 512 512 refl)
 
 test-cards-requires : tie.Need-test-cards-requires
-test-cards-requires c κs = (c .before .before .before .before .before .before .before .before .before .before .before .before .before .before .pre .0, (c .before .before .before .before .before .before .before .before .before .before .before .before .before .before .pre .1 .1 .0, (tabled-linked (c .before .before .before .before .before .before .before .before .before .before .before .before .before .before .args .limits) (now (c .before .before .before .before .before .before .before .before .before .before .before .before .before .before .args .case)) _ (c .before .before .before .before .before .before .before .before .before .tabulate .result) (c .before .before .before .before .before .before .before .before .before .tabulate .last .1 .1 .0) (c .before .before .before .before .before .before .before .before .before .before .before .before .before .before .pre .0) (c .before .before .before .before .before .before .before .before .before .tabulate .ensures) (some-few (c .before .before .before .before .before .before .before .before .before .before .before .before .before .before .args .limits) (now (c .before .before .before .before .before .before .before .before .before .before .before .before .before .before .args .case)) _ (c .before .before .before .before .before .before .before .before .before .tabulate .result) (c .before .before .before .before .before .before .before .before .before .tabulate .last .1 .1 .0) (c .before .before .before .before .before .before .before .before .before .before .before .before .before .before .pre .0) (c .before .before .before .before .before .before .before .before .before .tabulate .ensures) (c .before .before .before .before .before .before .before .if1 .left)) (c .before .before .before .before .before .before .place .result) (c .before .before .before .before .before .before .place .ensures) (c .before .before .before .fill-links .last .1 .1 .0) (c .before .before .before .fill-links .ensures), c .before .before .before .before .before .before .before .before .before .before .before .before .before .before .pre .1 .1 .1)))
+test-cards-requires c κs =
+    let pre = c .before .before .before .before .before .before .before .before .before .before .before .before .before .before .pre in
+    let args = c .before .before .before .before .before .before .before .before .before .before .before .before .before .before .args in
+    let tabulate = c .before .before .before .before .before .before .before .before .before .tabulate in
+    let place = c .before .before .before .before .before .before .place in
+    let fill-links = c .before .before .before .fill-links in
+    (pre .0, (pre .1 .1 .0, (tabled-linked (args .limits) (now (args .case)) _ (tabulate .result) (tabulate .last .1 .1 .0) (pre .0) (tabulate .ensures) (some-few (args .limits) (now (args .case)) _ (tabulate .result) (tabulate .last .1 .1 .0) (pre .0) (tabulate .ensures) (c .before .before .before .before .before .before .before .if1 .left)) (place .result) (place .ensures) (fill-links .last .1 .1 .0) (fill-links .ensures), pre .1 .1 .1)))
 
 same-length : tie.Need-same-length
 same-length c = search needs
 
 returns-2 : tie.Need-returns-2
-returns-2 c = (case-tested (c .before .before .before .before .before .before .before .before .before .before .before .before .before .before .before .before .before .args .limits) (now (c .before .before .before .before .before .before .before .before .before .before .before .before .before .before .before .before .before .args .case)) (now (c .before .before .before .before .before .before .before .before .before .before .before .before .before .before .before .before .before .args .book)) (c .before .before .before .before .before .before .before .before .before .before .before .before .before .before .before .before .before .args .count) (c .before .before .before .before .before .before .before .before .before .before .before .before .before .before .before .before .before .pre .0) (some-few (c .before .before .before .before .before .before .before .before .before .before .before .before .before .before .before .before .before .args .limits) (now (c .before .before .before .before .before .before .before .before .before .before .before .before .before .before .before .before .before .args .case)) _ (c .before .before .before .before .before .before .before .before .before .before .before .before .tabulate .result) (c .before .before .before .before .before .before .before .before .before .before .before .before .tabulate .last .1 .1 .0) (c .before .before .before .before .before .before .before .before .before .before .before .before .before .before .before .before .before .pre .0) (c .before .before .before .before .before .before .before .before .before .before .before .before .tabulate .ensures) (c .before .before .before .before .before .before .before .before .before .before .if1 .left)) (take (c .before .before .before .before .before .before .before .before .before .place .result) (c .before .before .before .before .before .before .before .before .before .before .before .before .tabulate .last .1 .1 .0)) (tabled-file (c .before .before .before .before .before .before .before .before .before .before .before .before .before .before .before .before .before .args .limits) (now (c .before .before .before .before .before .before .before .before .before .before .before .before .before .before .before .before .before .args .case)) _ (c .before .before .before .before .before .before .before .before .before .before .before .before .tabulate .result) (c .before .before .before .before .before .before .before .before .before .before .before .before .tabulate .last .1 .1 .0) (c .before .before .before .before .before .before .before .before .before .before .before .before .before .before .before .before .before .pre .0) (c .before .before .before .before .before .before .before .before .before .before .before .before .tabulate .ensures) (some-few (c .before .before .before .before .before .before .before .before .before .before .before .before .before .before .before .before .before .args .limits) (now (c .before .before .before .before .before .before .before .before .before .before .before .before .before .before .before .before .before .args .case)) _ (c .before .before .before .before .before .before .before .before .before .before .before .before .tabulate .result) (c .before .before .before .before .before .before .before .before .before .before .before .before .tabulate .last .1 .1 .0) (c .before .before .before .before .before .before .before .before .before .before .before .before .before .before .before .before .before .pre .0) (c .before .before .before .before .before .before .before .before .before .before .before .before .tabulate .ensures) (c .before .before .before .before .before .before .before .before .before .before .if1 .left)) (c .before .before .before .before .before .before .before .before .before .place .result) (c .before .before .before .before .before .before .before .before .before .place .ensures)) (c .before .before .test-cards .result) (c .before .before .test-cards .ensures .0), c .before .before .test-cards .ensures .1)
+returns-2 c =
+    let args = c .before .before .before .before .before .before .before .before .before .before .before .before .before .before .before .before .before .args in
+    let pre = c .before .before .before .before .before .before .before .before .before .before .before .before .before .before .before .before .before .pre in
+    let tabulate = c .before .before .before .before .before .before .before .before .before .before .before .before .tabulate in
+    let if1 = c .before .before .before .before .before .before .before .before .before .before .if1 in
+    let place = c .before .before .before .before .before .before .before .before .before .place in
+    let test-cards = c .before .before .test-cards in
+    (case-tested (args .limits) (now (args .case)) (now (args .book)) (args .count) (pre .0) (some-few (args .limits) (now (args .case)) _ (tabulate .result) (tabulate .last .1 .1 .0) (pre .0) (tabulate .ensures) (if1 .left)) (take (place .result) (tabulate .last .1 .1 .0)) (tabled-file (args .limits) (now (args .case)) _ (tabulate .result) (tabulate .last .1 .1 .0) (pre .0) (tabulate .ensures) (some-few (args .limits) (now (args .case)) _ (tabulate .result) (tabulate .last .1 .1 .0) (pre .0) (tabulate .ensures) (if1 .left)) (place .result) (place .ensures)) (test-cards .result) (test-cards .ensures .0), test-cards .ensures .1)
 
 pub find-subsumers-spec : {M : Type 1} → statement M
 find-subsumers-spec =

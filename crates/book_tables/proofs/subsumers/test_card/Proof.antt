@@ -23,30 +23,50 @@ same-length : tie.Need-same-length
 same-length c = search needs
 
 returns : tie.Need-returns
-returns c = (test-many (c .before .before .before .before .before .before .before .before .before .args .limits) (now (c .before .before .before .before .before .before .before .before .before .args .table)) (now (c .before .before .before .before .before .before .before .before .before .args .book)) (c .before .before .before .before .before .before .before .before .before .args .count) (c .before .before .before .before .before .before .before .before .before .args .k) (none-many (c .before .before .before .before .before .before .before .before .before .args .limits) (card (now (c .before .before .before .before .before .before .before .before .before .args .book)) (c .before .before .before .before .before .before .before .before .before .args .k)) (now (c .before .before .before .before .before .before .before .before .before .args .scratch)) (c .before .before .before .tabulate-card .result) (c .before .before .before .tabulate-card .last .1 .1 .1 .1 .1 .0) (c .before .before .before .before .before .before .before .before .before .pre .0) (c .before .before .before .tabulate-card .ensures) (c .if1 .taken)), (c .before .before .before .tabulate-card .ensures .same, refl))
+returns c =
+    let args = c .before .before .before .before .before .before .before .before .before .args in
+    let tabulate-card = c .before .before .before .tabulate-card in
+    (test-many (args .limits) (now (args .table)) (now (args .book)) (args .count) (args .k) (none-many (args .limits) (card (now (args .book)) (args .k)) (now (args .scratch)) (tabulate-card .result) (tabulate-card .last .1 .1 .1 .1 .1 .0) (c .before .before .before .before .before .before .before .before .before .pre .0) (tabulate-card .ensures) (c .if1 .taken)), (tabulate-card .ensures .same, refl))
 
 covers-case-requires : tie.Need-covers-case-requires
 covers-case-requires c κs =
-    let fits = tabled-fits (c .before .before .before .before .before .before .before .before .before .before .args .limits) (card (now (c .before .before .before .before .before .before .before .before .before .before .args .book)) (c .before .before .before .before .before .before .before .before .before .before .args .k)) (now (c .before .before .before .before .before .before .before .before .before .before .args .scratch)) (c .before .before .before .before .tabulate-card .result) (c .before .before .before .before .tabulate-card .last .1 .1 .1 .1 .1 .0) (c .before .before .before .before .before .before .before .before .before .before .pre .0) (c .before .before .before .before .tabulate-card .ensures) (some-few (c .before .before .before .before .before .before .before .before .before .before .args .limits) (card (now (c .before .before .before .before .before .before .before .before .before .before .args .book)) (c .before .before .before .before .before .before .before .before .before .before .args .k)) (now (c .before .before .before .before .before .before .before .before .before .before .args .scratch)) (c .before .before .before .before .tabulate-card .result) (c .before .before .before .before .tabulate-card .last .1 .1 .1 .1 .1 .0) (c .before .before .before .before .before .before .before .before .before .before .pre .0) (c .before .before .before .before .tabulate-card .ensures) (c .before .if1 .left)) in
-    (c .before .before .before .before .before .before .before .before .before .before .pre .0, (omega (arith, fits), (omega (arith, fits, c .before .before .before .before .tabulate-card .ensures .same, c .before .before .before .before .before .before .before .before .before .before .pre .1 .1 .1 .1 .0), (tabled-checked (c .before .before .before .before .before .before .before .before .before .before .args .limits) (card (now (c .before .before .before .before .before .before .before .before .before .before .args .book)) (c .before .before .before .before .before .before .before .before .before .before .args .k)) (now (c .before .before .before .before .before .before .before .before .before .before .args .scratch)) (c .before .before .before .before .tabulate-card .result) (c .before .before .before .before .tabulate-card .last .1 .1 .1 .1 .1 .0) (c .before .before .before .before .before .before .before .before .before .before .pre .0) (c .before .before .before .before .tabulate-card .ensures) (some-few (c .before .before .before .before .before .before .before .before .before .before .args .limits) (card (now (c .before .before .before .before .before .before .before .before .before .before .args .book)) (c .before .before .before .before .before .before .before .before .before .before .args .k)) (now (c .before .before .before .before .before .before .before .before .before .before .args .scratch)) (c .before .before .before .before .tabulate-card .result) (c .before .before .before .before .tabulate-card .last .1 .1 .1 .1 .1 .0) (c .before .before .before .before .before .before .before .before .before .before .pre .0) (c .before .before .before .before .tabulate-card .ensures) (c .before .if1 .left)) («place» (c .before .before .before .before .tabulate-card .result) endSize) refl, c .before .before .before .before .before .before .before .before .before .before .pre .1 .1 .1 .0))))
+    let args = c .before .before .before .before .before .before .before .before .before .before .args in
+    let pre = c .before .before .before .before .before .before .before .before .before .before .pre in
+    let tabulate-card = c .before .before .before .before .tabulate-card in
+    let fits = tabled-fits (args .limits) (card (now (args .book)) (args .k)) (now (args .scratch)) (tabulate-card .result) (tabulate-card .last .1 .1 .1 .1 .1 .0) (pre .0) (tabulate-card .ensures) (some-few (args .limits) (card (now (args .book)) (args .k)) (now (args .scratch)) (tabulate-card .result) (tabulate-card .last .1 .1 .1 .1 .1 .0) (pre .0) (tabulate-card .ensures) (c .before .if1 .left)) in
+    (pre .0, (omega (arith, fits), (omega (arith, fits, tabulate-card .ensures .same, pre .1 .1 .1 .1 .0), (tabled-checked (args .limits) (card (now (args .book)) (args .k)) (now (args .scratch)) (tabulate-card .result) (tabulate-card .last .1 .1 .1 .1 .1 .0) (pre .0) (tabulate-card .ensures) (some-few (args .limits) (card (now (args .book)) (args .k)) (now (args .scratch)) (tabulate-card .result) (tabulate-card .last .1 .1 .1 .1 .1 .0) (pre .0) (tabulate-card .ensures) (c .before .if1 .left)) («place» (tabulate-card .result) endSize) refl, pre .1 .1 .1 .0))))
 
 same-length-2 : tie.Need-same-length-2
 same-length-2 c = search needs
 
 returns-2 : tie.Need-returns-2
-returns-2 c = (test-not (c .before .before .before .before .before .before .before .before .before .before .before .before .args .limits) (now (c .before .before .before .before .before .before .before .before .before .before .before .before .args .table)) (now (c .before .before .before .before .before .before .before .before .before .before .before .before .args .book)) (c .before .before .before .before .before .before .before .before .before .before .before .before .args .count) (now (c .before .before .before .before .before .before .before .before .before .before .before .before .args .cache)) (now (c .before .before .before .before .before .before .before .before .before .before .before .before .args .spans)) (c .before .before .before .before .before .before .before .before .before .before .before .before .args .subsumers) (c .before .before .before .before .before .before .before .before .before .before .before .before .args .k) (c .before .before .before .before .before .before .before .before .before .before .before .before .pre .1 .1 .1 .1 .1) (c .before .before .before .before .before .before .before .before .before .before .before .before .pre .1 .1 .0) (some-few (c .before .before .before .before .before .before .before .before .before .before .before .before .args .limits) (card (now (c .before .before .before .before .before .before .before .before .before .before .before .before .args .book)) (c .before .before .before .before .before .before .before .before .before .before .before .before .args .k)) (now (c .before .before .before .before .before .before .before .before .before .before .before .before .args .scratch)) (c .before .before .before .before .before .before .tabulate-card .result) (c .before .before .before .before .before .before .tabulate-card .last .1 .1 .1 .1 .1 .0) (c .before .before .before .before .before .before .before .before .before .before .before .before .pre .0) (c .before .before .before .before .before .before .tabulate-card .ensures) (c .before .before .before .if1 .left)) (c .before .covers-case .result) (take («place» (c .before .before .before .before .before .before .tabulate-card .result) endSize) (c .before .before .before .before .before .before .tabulate-card .last .1 .1 .1 .1 .1 .0)) (c .before .covers-case .ensures) (tabled-file (c .before .before .before .before .before .before .before .before .before .before .before .before .args .limits) (card (now (c .before .before .before .before .before .before .before .before .before .before .before .before .args .book)) (c .before .before .before .before .before .before .before .before .before .before .before .before .args .k)) (now (c .before .before .before .before .before .before .before .before .before .before .before .before .args .scratch)) (c .before .before .before .before .before .before .tabulate-card .result) (c .before .before .before .before .before .before .tabulate-card .last .1 .1 .1 .1 .1 .0) (c .before .before .before .before .before .before .before .before .before .before .before .before .pre .0) (c .before .before .before .before .before .before .tabulate-card .ensures) (some-few (c .before .before .before .before .before .before .before .before .before .before .before .before .args .limits) (card (now (c .before .before .before .before .before .before .before .before .before .before .before .before .args .book)) (c .before .before .before .before .before .before .before .before .before .before .before .before .args .k)) (now (c .before .before .before .before .before .before .before .before .before .before .before .before .args .scratch)) (c .before .before .before .before .before .before .tabulate-card .result) (c .before .before .before .before .before .before .tabulate-card .last .1 .1 .1 .1 .1 .0) (c .before .before .before .before .before .before .before .before .before .before .before .before .pre .0) (c .before .before .before .before .before .before .tabulate-card .ensures) (c .before .before .before .if1 .left)) («place» (c .before .before .before .before .before .before .tabulate-card .result) endSize) refl) (not-true _ (c .if2 .taken)), (c .before .before .before .before .before .before .tabulate-card .ensures .same, refl))
+returns-2 c =
+    let args = c .before .before .before .before .before .before .before .before .before .before .before .before .args in
+    let pre = c .before .before .before .before .before .before .before .before .before .before .before .before .pre in
+    let tabulate-card = c .before .before .before .before .before .before .tabulate-card in
+    let if1 = c .before .before .before .if1 in
+    (test-not (args .limits) (now (args .table)) (now (args .book)) (args .count) (now (args .cache)) (now (args .spans)) (args .subsumers) (args .k) (pre .1 .1 .1 .1 .1) (pre .1 .1 .0) (some-few (args .limits) (card (now (args .book)) (args .k)) (now (args .scratch)) (tabulate-card .result) (tabulate-card .last .1 .1 .1 .1 .1 .0) (pre .0) (tabulate-card .ensures) (if1 .left)) (c .before .covers-case .result) (take («place» (tabulate-card .result) endSize) (tabulate-card .last .1 .1 .1 .1 .1 .0)) (c .before .covers-case .ensures) (tabled-file (args .limits) (card (now (args .book)) (args .k)) (now (args .scratch)) (tabulate-card .result) (tabulate-card .last .1 .1 .1 .1 .1 .0) (pre .0) (tabulate-card .ensures) (some-few (args .limits) (card (now (args .book)) (args .k)) (now (args .scratch)) (tabulate-card .result) (tabulate-card .last .1 .1 .1 .1 .1 .0) (pre .0) (tabulate-card .ensures) (if1 .left)) («place» (tabulate-card .result) endSize) refl) (not-true _ (c .if2 .taken)), (tabulate-card .ensures .same, refl))
 
 store-requires : tie.Need-store-requires
 store-requires c κs =
-    let fits = tabled-fits (c .before .before .before .before .before .before .before .before .before .before .before .before .before .before .before .args .limits) (card (now (c .before .before .before .before .before .before .before .before .before .before .before .before .before .before .before .args .book)) (c .before .before .before .before .before .before .before .before .before .before .before .before .before .before .before .args .k)) (now (c .before .before .before .before .before .before .before .before .before .before .before .before .before .before .before .args .scratch)) (c .before .before .before .before .before .before .before .before .before .tabulate-card .result) (c .before .before .before .before .before .before .before .before .before .tabulate-card .last .1 .1 .1 .1 .1 .0) (c .before .before .before .before .before .before .before .before .before .before .before .before .before .before .before .pre .0) (c .before .before .before .before .before .before .before .before .before .tabulate-card .ensures) (some-few (c .before .before .before .before .before .before .before .before .before .before .before .before .before .before .before .args .limits) (card (now (c .before .before .before .before .before .before .before .before .before .before .before .before .before .before .before .args .book)) (c .before .before .before .before .before .before .before .before .before .before .before .before .before .before .before .args .k)) (now (c .before .before .before .before .before .before .before .before .before .before .before .before .before .before .before .args .scratch)) (c .before .before .before .before .before .before .before .before .before .tabulate-card .result) (c .before .before .before .before .before .before .before .before .before .tabulate-card .last .1 .1 .1 .1 .1 .0) (c .before .before .before .before .before .before .before .before .before .before .before .before .before .before .before .pre .0) (c .before .before .before .before .before .before .before .before .before .tabulate-card .ensures) (c .before .before .before .before .before .before .if1 .left)) in
-    let so = c .before .before .before .before .before .before .before .before .before .before .before .before .before .before .before .pre .1 .1 .1 .1 .1 in
-    (omega (arith, fits, c .before .before .before .before .before .before .before .before .before .before .before .before .before .before .before .pre .0 .0), (omega (arith, fits, c .before .before .before .before .before .before .before .before .before .tabulate-card .ensures .same, c .before .before .before .before .before .before .before .before .before .before .before .before .before .before .before .pre .1 .1 .1 .1 .0), (omega (arith, c .before .before .before .before .before .before .before .before .before .before .before .before .before .before .before .pre .1 .1 .0, c .before .before .before .before .before .before .before .before .before .before .before .before .before .before .before .pre .1 .0 .places-are .most), (so .cache-is .long, so .cache-is .spanned))))
+    let args = c .before .before .before .before .before .before .before .before .before .before .before .before .before .before .before .args in
+    let pre = c .before .before .before .before .before .before .before .before .before .before .before .before .before .before .before .pre in
+    let tabulate-card = c .before .before .before .before .before .before .before .before .before .tabulate-card in
+    let fits = tabled-fits (args .limits) (card (now (args .book)) (args .k)) (now (args .scratch)) (tabulate-card .result) (tabulate-card .last .1 .1 .1 .1 .1 .0) (pre .0) (tabulate-card .ensures) (some-few (args .limits) (card (now (args .book)) (args .k)) (now (args .scratch)) (tabulate-card .result) (tabulate-card .last .1 .1 .1 .1 .1 .0) (pre .0) (tabulate-card .ensures) (c .before .before .before .before .before .before .if1 .left)) in
+    let so = pre .1 .1 .1 .1 .1 in
+    (omega (arith, fits, pre .0 .0), (omega (arith, fits, tabulate-card .ensures .same, pre .1 .1 .1 .1 .0), (omega (arith, pre .1 .1 .0, pre .1 .0 .places-are .most), (so .cache-is .long, so .cache-is .spanned))))
 
 bit-requires : tie.Need-bit-requires
 bit-requires c κs = search needs
 
 add-t31 : tie.Need-add-t31
-add-t31 c = let fits = test-fits (c .before .before .before .before .before .before .before .before .before .before .before .before .before .before .before .before .before .before .before .before .args .limits) (now (c .before .before .before .before .before .before .before .before .before .before .before .before .before .before .before .before .before .before .before .before .args .table)) (now (c .before .before .before .before .before .before .before .before .before .before .before .before .before .before .before .before .before .before .before .before .args .book)) (c .before .before .before .before .before .before .before .before .before .before .before .before .before .before .before .before .before .before .before .before .args .count) (now (c .before .before .before .before .before .before .before .before .before .before .before .before .before .before .before .before .before .before .before .before .args .cache)) (now (c .before .before .before .before .before .before .before .before .before .before .before .before .before .before .before .before .before .before .before .before .args .spans)) (c .before .before .before .before .before .before .before .before .before .before .before .before .before .before .before .before .before .before .before .before .args .subsumers) (c .before .before .before .before .before .before .before .before .before .before .before .before .before .before .before .before .before .before .before .before .args .k) (c .before .before .before .before .before .before .before .before .before .before .before .before .before .before .before .before .before .before .before .before .pre .1 .1 .1 .1 .1) (c .before .before .before .before .before .before .before .before .before .before .before .before .before .before .before .before .before .before .before .before .pre .1 .1 .0) (some-few (c .before .before .before .before .before .before .before .before .before .before .before .before .before .before .before .before .before .before .before .before .args .limits) (card (now (c .before .before .before .before .before .before .before .before .before .before .before .before .before .before .before .before .before .before .before .before .args .book)) (c .before .before .before .before .before .before .before .before .before .before .before .before .before .before .before .before .before .before .before .before .args .k)) (now (c .before .before .before .before .before .before .before .before .before .before .before .before .before .before .before .before .before .before .before .before .args .scratch)) (c .before .before .before .before .before .before .before .before .before .before .before .before .before .before .tabulate-card .result) (c .before .before .before .before .before .before .before .before .before .before .before .before .before .before .tabulate-card .last .1 .1 .1 .1 .1 .0) (c .before .before .before .before .before .before .before .before .before .before .before .before .before .before .before .before .before .before .before .before .pre .0) (c .before .before .before .before .before .before .before .before .before .before .before .before .before .before .tabulate-card .ensures) (c .before .before .before .before .before .before .before .before .before .before .before .if1 .left)) (c .before .before .before .before .before .before .before .before .before .covers-case .result) (take («place» (c .before .before .before .before .before .before .before .before .before .before .before .before .before .before .tabulate-card .result) endSize) (c .before .before .before .before .before .before .before .before .before .before .before .before .before .before .tabulate-card .last .1 .1 .1 .1 .1 .0)) (c .before .before .before .before .before .before .before .before .before .covers-case .ensures) (tabled-file (c .before .before .before .before .before .before .before .before .before .before .before .before .before .before .before .before .before .before .before .before .args .limits) (card (now (c .before .before .before .before .before .before .before .before .before .before .before .before .before .before .before .before .before .before .before .before .args .book)) (c .before .before .before .before .before .before .before .before .before .before .before .before .before .before .before .before .before .before .before .before .args .k)) (now (c .before .before .before .before .before .before .before .before .before .before .before .before .before .before .before .before .before .before .before .before .args .scratch)) (c .before .before .before .before .before .before .before .before .before .before .before .before .before .before .tabulate-card .result) (c .before .before .before .before .before .before .before .before .before .before .before .before .before .before .tabulate-card .last .1 .1 .1 .1 .1 .0) (c .before .before .before .before .before .before .before .before .before .before .before .before .before .before .before .before .before .before .before .before .pre .0) (c .before .before .before .before .before .before .before .before .before .before .before .before .before .before .tabulate-card .ensures) (some-few (c .before .before .before .before .before .before .before .before .before .before .before .before .before .before .before .before .before .before .before .before .args .limits) (card (now (c .before .before .before .before .before .before .before .before .before .before .before .before .before .before .before .before .before .before .before .before .args .book)) (c .before .before .before .before .before .before .before .before .before .before .before .before .before .before .before .before .before .before .before .before .args .k)) (now (c .before .before .before .before .before .before .before .before .before .before .before .before .before .before .before .before .before .before .before .before .args .scratch)) (c .before .before .before .before .before .before .before .before .before .before .before .before .before .before .tabulate-card .result) (c .before .before .before .before .before .before .before .before .before .before .before .before .before .before .tabulate-card .last .1 .1 .1 .1 .1 .0) (c .before .before .before .before .before .before .before .before .before .before .before .before .before .before .before .before .before .before .before .before .pre .0) (c .before .before .before .before .before .before .before .before .before .before .before .before .before .before .tabulate-card .ensures) (c .before .before .before .before .before .before .before .before .before .before .before .if1 .left)) («place» (c .before .before .before .before .before .before .before .before .before .before .before .before .before .before .tabulate-card .result) endSize) refl) (not-false _ (c .before .before .before .before .before .before .before .before .if2 .left)) (c .before .bit .result) (c .before .bit .ensures) (c .before .before .before .before .before .before .before .before .before .before .before .before .before .before .before .before .before .before .before .before .pre .1 .0 .places-are .most) in omega (arith, fits)
+add-t31 c =
+    let args = c .before .before .before .before .before .before .before .before .before .before .before .before .before .before .before .before .before .before .before .before .args in
+    let pre = c .before .before .before .before .before .before .before .before .before .before .before .before .before .before .before .before .before .before .before .before .pre in
+    let tabulate-card = c .before .before .before .before .before .before .before .before .before .before .before .before .before .before .tabulate-card in
+    let if1 = c .before .before .before .before .before .before .before .before .before .before .before .if1 in
+    let covers-case = c .before .before .before .before .before .before .before .before .before .covers-case in
+    let fits = test-fits (args .limits) (now (args .table)) (now (args .book)) (args .count) (now (args .cache)) (now (args .spans)) (args .subsumers) (args .k) (pre .1 .1 .1 .1 .1) (pre .1 .1 .0) (some-few (args .limits) (card (now (args .book)) (args .k)) (now (args .scratch)) (tabulate-card .result) (tabulate-card .last .1 .1 .1 .1 .1 .0) (pre .0) (tabulate-card .ensures) (if1 .left)) (covers-case .result) (take («place» (tabulate-card .result) endSize) (tabulate-card .last .1 .1 .1 .1 .1 .0)) (covers-case .ensures) (tabled-file (args .limits) (card (now (args .book)) (args .k)) (now (args .scratch)) (tabulate-card .result) (tabulate-card .last .1 .1 .1 .1 .1 .0) (pre .0) (tabulate-card .ensures) (some-few (args .limits) (card (now (args .book)) (args .k)) (now (args .scratch)) (tabulate-card .result) (tabulate-card .last .1 .1 .1 .1 .1 .0) (pre .0) (tabulate-card .ensures) (if1 .left)) («place» (tabulate-card .result) endSize) refl) (not-false _ (c .before .before .before .before .before .before .before .before .if2 .left)) (c .before .bit .result) (c .before .bit .ensures) (pre .1 .0 .places-are .most) in omega (arith, fits)
 
 same-length-3 : tie.Need-same-length-3
 same-length-3 c = search needs
@@ -56,11 +76,16 @@ same-length-4 c = search needs
 
 returns-3 : tie.Need-returns-3
 returns-3 c =
+    let pre = c .before .before .before .before .before .before .before .before .before .before .before .before .before .before .before .before .before .before .before .before .pre in
+    let args = c .before .before .before .before .before .before .before .before .before .before .before .before .before .before .before .before .before .before .before .before .args in
+    let tabulate-card = c .before .before .before .before .before .before .before .before .before .before .before .before .before .before .tabulate-card in
+    let if1 = c .before .before .before .before .before .before .before .before .before .before .before .if1 in
+    let covers-case = c .before .before .before .before .before .before .before .before .before .covers-case in
     let store = c .before .before .before .before .store in
-    let so = c .before .before .before .before .before .before .before .before .before .before .before .before .before .before .before .before .before .before .before .before .pre .1 .1 .1 .1 .1 in (
-      test-covers (c .before .before .before .before .before .before .before .before .before .before .before .before .before .before .before .before .before .before .before .before .args .limits) (now (c .before .before .before .before .before .before .before .before .before .before .before .before .before .before .before .before .before .before .before .before .args .table)) (now (c .before .before .before .before .before .before .before .before .before .before .before .before .before .before .before .before .before .before .before .before .args .book)) (c .before .before .before .before .before .before .before .before .before .before .before .before .before .before .before .before .before .before .before .before .args .count) (now (c .before .before .before .before .before .before .before .before .before .before .before .before .before .before .before .before .before .before .before .before .args .cache)) (now (c .before .before .before .before .before .before .before .before .before .before .before .before .before .before .before .before .before .before .before .before .args .spans)) (c .before .before .before .before .before .before .before .before .before .before .before .before .before .before .before .before .before .before .before .before .args .subsumers) (c .before .before .before .before .before .before .before .before .before .before .before .before .before .before .before .before .before .before .before .before .args .k) (c .before .before .before .before .before .before .before .before .before .before .before .before .before .before .before .before .before .before .before .before .pre .1 .1 .1 .1 .1) (c .before .before .before .before .before .before .before .before .before .before .before .before .before .before .before .before .before .before .before .before .pre .1 .1 .0) (some-few (c .before .before .before .before .before .before .before .before .before .before .before .before .before .before .before .before .before .before .before .before .args .limits) (card (now (c .before .before .before .before .before .before .before .before .before .before .before .before .before .before .before .before .before .before .before .before .args .book)) (c .before .before .before .before .before .before .before .before .before .before .before .before .before .before .before .before .before .before .before .before .args .k)) (now (c .before .before .before .before .before .before .before .before .before .before .before .before .before .before .before .before .before .before .before .before .args .scratch)) (c .before .before .before .before .before .before .before .before .before .before .before .before .before .before .tabulate-card .result) (c .before .before .before .before .before .before .before .before .before .before .before .before .before .before .tabulate-card .last .1 .1 .1 .1 .1 .0) (c .before .before .before .before .before .before .before .before .before .before .before .before .before .before .before .before .before .before .before .before .pre .0) (c .before .before .before .before .before .before .before .before .before .before .before .before .before .before .tabulate-card .ensures) (c .before .before .before .before .before .before .before .before .before .before .before .if1 .left)) (c .before .before .before .before .before .before .before .before .before .covers-case .result) (take («place» (c .before .before .before .before .before .before .before .before .before .before .before .before .before .before .tabulate-card .result) endSize) (c .before .before .before .before .before .before .before .before .before .before .before .before .before .before .tabulate-card .last .1 .1 .1 .1 .1 .0)) (c .before .before .before .before .before .before .before .before .before .covers-case .ensures) (tabled-file (c .before .before .before .before .before .before .before .before .before .before .before .before .before .before .before .before .before .before .before .before .args .limits) (card (now (c .before .before .before .before .before .before .before .before .before .before .before .before .before .before .before .before .before .before .before .before .args .book)) (c .before .before .before .before .before .before .before .before .before .before .before .before .before .before .before .before .before .before .before .before .args .k)) (now (c .before .before .before .before .before .before .before .before .before .before .before .before .before .before .before .before .before .before .before .before .args .scratch)) (c .before .before .before .before .before .before .before .before .before .before .before .before .before .before .tabulate-card .result) (c .before .before .before .before .before .before .before .before .before .before .before .before .before .before .tabulate-card .last .1 .1 .1 .1 .1 .0) (c .before .before .before .before .before .before .before .before .before .before .before .before .before .before .before .before .before .before .before .before .pre .0) (c .before .before .before .before .before .before .before .before .before .before .before .before .before .before .tabulate-card .ensures) (some-few (c .before .before .before .before .before .before .before .before .before .before .before .before .before .before .before .before .before .before .before .before .args .limits) (card (now (c .before .before .before .before .before .before .before .before .before .before .before .before .before .before .before .before .before .before .before .before .args .book)) (c .before .before .before .before .before .before .before .before .before .before .before .before .before .before .before .before .before .before .before .before .args .k)) (now (c .before .before .before .before .before .before .before .before .before .before .before .before .before .before .before .before .before .before .before .before .args .scratch)) (c .before .before .before .before .before .before .before .before .before .before .before .before .before .before .tabulate-card .result) (c .before .before .before .before .before .before .before .before .before .before .before .before .before .before .tabulate-card .last .1 .1 .1 .1 .1 .0) (c .before .before .before .before .before .before .before .before .before .before .before .before .before .before .before .before .before .before .before .before .pre .0) (c .before .before .before .before .before .before .before .before .before .before .before .before .before .before .tabulate-card .ensures) (c .before .before .before .before .before .before .before .before .before .before .before .if1 .left)) («place» (c .before .before .before .before .before .before .before .before .before .before .before .before .before .before .tabulate-card .result) endSize) refl) (not-false _ (c .before .before .before .before .before .before .before .before .if2 .left)) (c .before .bit .result) (c .before .bit .ensures) (store .last .1 .1 .1 .1 .0) (store .last .1 .1 .1 .1 .1 .0) (store .result)
-          (store .ensures .0 (c .before .before .before .before .before .before .before .before .before .before .before .before .before .before .before .before .before .before .before .before .args .limits) (now (c .before .before .before .before .before .before .before .before .before .before .before .before .before .before .before .before .before .before .before .before .args .book)) (so .cache-is) (tabled-at (c .before .before .before .before .before .before .before .before .before .before .before .before .before .before .before .before .before .before .before .before .args .limits) (card (now (c .before .before .before .before .before .before .before .before .before .before .before .before .before .before .before .before .before .before .before .before .args .book)) (c .before .before .before .before .before .before .before .before .before .before .before .before .before .before .before .before .before .before .before .before .args .k)) (now (c .before .before .before .before .before .before .before .before .before .before .before .before .before .before .before .before .before .before .before .before .args .scratch)) (c .before .before .before .before .before .before .before .before .before .before .before .before .before .before .tabulate-card .result) (c .before .before .before .before .before .before .before .before .before .before .before .before .before .before .tabulate-card .last .1 .1 .1 .1 .1 .0) (c .before .before .before .before .before .before .before .before .before .before .before .before .before .before .tabulate-card .ensures) (some-few (c .before .before .before .before .before .before .before .before .before .before .before .before .before .before .before .before .before .before .before .before .args .limits) (card (now (c .before .before .before .before .before .before .before .before .before .before .before .before .before .before .before .before .before .before .before .before .args .book)) (c .before .before .before .before .before .before .before .before .before .before .before .before .before .before .before .before .before .before .before .before .args .k)) (now (c .before .before .before .before .before .before .before .before .before .before .before .before .before .before .before .before .before .before .before .before .args .scratch)) (c .before .before .before .before .before .before .before .before .before .before .before .before .before .before .tabulate-card .result) (c .before .before .before .before .before .before .before .before .before .before .before .before .before .before .tabulate-card .last .1 .1 .1 .1 .1 .0) (c .before .before .before .before .before .before .before .before .before .before .before .before .before .before .before .before .before .before .before .before .pre .0) (c .before .before .before .before .before .before .before .before .before .before .before .before .before .before .tabulate-card .ensures) (c .before .before .before .before .before .before .before .before .before .before .before .if1 .left)))),
-      (c .before .before .before .before .before .before .before .before .before .before .before .before .before .before .tabulate-card .ensures .same, store .ensures .1),
+    let so = pre .1 .1 .1 .1 .1 in (
+      test-covers (args .limits) (now (args .table)) (now (args .book)) (args .count) (now (args .cache)) (now (args .spans)) (args .subsumers) (args .k) (pre .1 .1 .1 .1 .1) (pre .1 .1 .0) (some-few (args .limits) (card (now (args .book)) (args .k)) (now (args .scratch)) (tabulate-card .result) (tabulate-card .last .1 .1 .1 .1 .1 .0) (pre .0) (tabulate-card .ensures) (if1 .left)) (covers-case .result) (take («place» (tabulate-card .result) endSize) (tabulate-card .last .1 .1 .1 .1 .1 .0)) (covers-case .ensures) (tabled-file (args .limits) (card (now (args .book)) (args .k)) (now (args .scratch)) (tabulate-card .result) (tabulate-card .last .1 .1 .1 .1 .1 .0) (pre .0) (tabulate-card .ensures) (some-few (args .limits) (card (now (args .book)) (args .k)) (now (args .scratch)) (tabulate-card .result) (tabulate-card .last .1 .1 .1 .1 .1 .0) (pre .0) (tabulate-card .ensures) (if1 .left)) («place» (tabulate-card .result) endSize) refl) (not-false _ (c .before .before .before .before .before .before .before .before .if2 .left)) (c .before .bit .result) (c .before .bit .ensures) (store .last .1 .1 .1 .1 .0) (store .last .1 .1 .1 .1 .1 .0) (store .result)
+          (store .ensures .0 (args .limits) (now (args .book)) (so .cache-is) (tabled-at (args .limits) (card (now (args .book)) (args .k)) (now (args .scratch)) (tabulate-card .result) (tabulate-card .last .1 .1 .1 .1 .1 .0) (tabulate-card .ensures) (some-few (args .limits) (card (now (args .book)) (args .k)) (now (args .scratch)) (tabulate-card .result) (tabulate-card .last .1 .1 .1 .1 .1 .0) (pre .0) (tabulate-card .ensures) (if1 .left)))),
+      (tabulate-card .ensures .same, store .ensures .1),
     )
 
 pub test-card-spec : {M : Type 1} → statement M

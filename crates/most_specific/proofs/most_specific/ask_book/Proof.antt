@@ -15,7 +15,9 @@ has-form-requires : tie.Need-has-form-requires
 has-form-requires c κs = search needs
 
 returns : tie.Need-returns
-returns c = (form-refused (c .before .before .before .before .before .before .before .before .args .limits) (now (c .before .before .before .before .before .before .before .before .args .case)) (now (c .before .before .before .before .before .before .before .before .args .book)) (mostSpecificCards (c .before .before .before .before .before .before .before .before .args .limits) (now (c .before .before .before .before .before .before .before .before .args .case)) (now (c .before .before .before .before .before .before .before .before .args .book))) (sym (c .before .has-form .ensures) ∙ not-true _ (c .if1 .taken)), refl)
+returns c =
+    let args = c .before .before .before .before .before .before .before .before .args in
+    (form-refused (args .limits) (now (args .case)) (now (args .book)) (mostSpecificCards (args .limits) (now (args .case)) (now (args .book))) (sym (c .before .has-form .ensures) ∙ not-true _ (c .if1 .taken)), refl)
 
 read-cards-requires : tie.Need-read-cards-requires
 read-cards-requires c κs = search needs
@@ -24,7 +26,12 @@ enum-told : tie.Need-enum-told
 enum-told c = search needs
 
 select-requires : tie.Need-select-requires
-select-requires c κs = (c .before .before .before .before .before .before .before .before .before .before .before .before .before .before .pre .0, (c .before .before .before .before .before .before .before .before .before .before .before .before .before .before .pre .1 .0, (cards-readable (c .before .before .before .before .before .before .before .before .before .before .before .before .before .before .args .limits) (now (c .before .before .before .before .before .before .before .before .before .before .before .before .before .before .args .case)) (now (c .before .before .before .before .before .before .before .before .before .before .before .before .before .before .args .book)) (mostSpecificCards (c .before .before .before .before .before .before .before .before .before .before .before .before .before .before .args .limits) (now (c .before .before .before .before .before .before .before .before .before .before .before .before .before .before .args .case)) (now (c .before .before .before .before .before .before .before .before .before .before .before .before .before .before .args .book))) (sym (c .before .before .before .before .before .before .before .has-form .ensures) ∙ not-false _ (c .before .before .before .before .before .before .if1 .left)) (c .before .before .before .before .before .before .before .before .before .find-cards .result) (c .before .before .before .before .before .before .before .before .before .find-cards .ensures .0) (c .before .before .before .before .read-cards .result) (c .before .before .before .before .read-cards .ensures) _ (c .before .before .before .before .before .before .before .before .before .find-cards .ensures .1) (c .before .before .enum-told .given .1), c .before .before .before .before .before .before .before .before .before .before .before .before .before .before .pre .1 .1)))
+select-requires c κs =
+    let pre = c .before .before .before .before .before .before .before .before .before .before .before .before .before .before .pre in
+    let args = c .before .before .before .before .before .before .before .before .before .before .before .before .before .before .args in
+    let find-cards = c .before .before .before .before .before .before .before .before .before .find-cards in
+    let read-cards = c .before .before .before .before .read-cards in
+    (pre .0, (pre .1 .0, (cards-readable (args .limits) (now (args .case)) (now (args .book)) (mostSpecificCards (args .limits) (now (args .case)) (now (args .book))) (sym (c .before .before .before .before .before .before .before .has-form .ensures) ∙ not-false _ (c .before .before .before .before .before .before .if1 .left)) (find-cards .result) (find-cards .ensures .0) (read-cards .result) (read-cards .ensures) _ (find-cards .ensures .1) (c .before .before .enum-told .given .1), pre .1 .1)))
 
 enum-known-refusal : tie.Need-enum-known-refusal
 enum-known-refusal c = search needs
@@ -34,11 +41,18 @@ same-length c = search needs
 
 returns-2 : tie.Need-returns-2
 returns-2 c =
+    let args = c .before .before .before .before .before .before .before .before .before .before .before .before .before .before .before .before .before .args in
+    let find-cards = c .before .before .before .before .before .before .before .before .before .before .before .before .find-cards in
+    let read-cards = c .before .before .before .before .before .before .before .read-cards in
     let chosen = c .before .before .select in
-    (cards-passed (c .before .before .before .before .before .before .before .before .before .before .before .before .before .before .before .before .before .args .limits) (now (c .before .before .before .before .before .before .before .before .before .before .before .before .before .before .before .before .before .args .case)) (now (c .before .before .before .before .before .before .before .before .before .before .before .before .before .before .before .before .before .args .book)) (mostSpecificCards (c .before .before .before .before .before .before .before .before .before .before .before .before .before .before .before .before .before .args .limits) (now (c .before .before .before .before .before .before .before .before .before .before .before .before .before .before .before .before .before .args .case)) (now (c .before .before .before .before .before .before .before .before .before .before .before .before .before .before .before .before .before .args .book))) (sym (c .before .before .before .before .before .before .before .before .before .before .has-form .ensures) ∙ not-false _ (c .before .before .before .before .before .before .before .before .before .if1 .left)) (c .before .before .before .before .before .before .before .before .before .before .before .before .find-cards .result) (c .before .before .before .before .before .before .before .before .before .before .before .before .find-cards .ensures .0) (c .before .before .before .before .before .before .before .read-cards .result) (c .before .before .before .before .before .before .before .read-cards .ensures) (c .before .before .before .before .before .enum-told .given .1) (chosen .result) (chosen .ensures .0), chosen .ensures .1)
+    (cards-passed (args .limits) (now (args .case)) (now (args .book)) (mostSpecificCards (args .limits) (now (args .case)) (now (args .book))) (sym (c .before .before .before .before .before .before .before .before .before .before .has-form .ensures) ∙ not-false _ (c .before .before .before .before .before .before .before .before .before .if1 .left)) (find-cards .result) (find-cards .ensures .0) (read-cards .result) (read-cards .ensures) (c .before .before .before .before .before .enum-told .given .1) (chosen .result) (chosen .ensures .0), chosen .ensures .1)
 
 returns-3 : tie.Need-returns-3
-returns-3 c = (cards-refused (c .before .before .before .before .before .before .before .before .before .before .before .before .before .args .limits) (now (c .before .before .before .before .before .before .before .before .before .before .before .before .before .args .case)) (now (c .before .before .before .before .before .before .before .before .before .before .before .before .before .args .book)) (mostSpecificCards (c .before .before .before .before .before .before .before .before .before .before .before .before .before .args .limits) (now (c .before .before .before .before .before .before .before .before .before .before .before .before .before .args .case)) (now (c .before .before .before .before .before .before .before .before .before .before .before .before .before .args .book))) (sym (c .before .before .before .before .before .before .has-form .ensures) ∙ not-false _ (c .before .before .before .before .before .if1 .left)) (c .before .before .before .before .before .before .before .before .find-cards .result) (c .before .before .before .before .before .before .before .before .find-cards .ensures .0) (c .before .before .before .read-cards .result) (c .before .before .before .read-cards .ensures) (c .before .refusal .given .0 .0) (c .before .refusal .given .1), refl)
+returns-3 c =
+    let args = c .before .before .before .before .before .before .before .before .before .before .before .before .before .args in
+    let find-cards = c .before .before .before .before .before .before .before .before .find-cards in
+    let read-cards = c .before .before .before .read-cards in
+    (cards-refused (args .limits) (now (args .case)) (now (args .book)) (mostSpecificCards (args .limits) (now (args .case)) (now (args .book))) (sym (c .before .before .before .before .before .before .has-form .ensures) ∙ not-false _ (c .before .before .before .before .before .if1 .left)) (find-cards .result) (find-cards .ensures .0) (read-cards .result) (read-cards .ensures) (c .before .refusal .given .0 .0) (c .before .refusal .given .1), refl)
 
 pub ask-book-spec : {M : Type 1} → statement M
 ask-book-spec =

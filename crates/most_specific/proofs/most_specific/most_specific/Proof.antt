@@ -13,7 +13,9 @@ add-if1 : tie.Need-add-if1
 add-if1 c = search needs
 
 returns : tie.Need-returns
-returns c = short-call (c .before .before .before .before .before .args .limits) (now (c .before .before .before .before .before .args .case)) (now (c .before .before .before .before .before .args .book)) (now (c .before .before .before .before .before .args .work)) (omega (arith, c .before .half-size .ensures, c .if1 .taken))
+returns c =
+    let args = c .before .before .before .before .before .args in
+    short-call (args .limits) (now (args .case)) (now (args .book)) (now (args .work)) (omega (arith, c .before .half-size .ensures, c .if1 .taken))
 
 read-requires : tie.Need-read-requires
 read-requires c κs = search needs
@@ -22,7 +24,12 @@ enum-told : tie.Need-enum-told
 enum-told c = search needs
 
 ask-book-requires : tie.Need-ask-book-requires
-ask-book-requires c κs = (c .before .before .before .before .before .before .before .before .before .pre, (case-readable (c .before .before .before .before .before .before .before .before .before .args .limits) (now (c .before .before .before .before .before .before .before .before .before .args .case)) (now (c .before .before .before .before .before .before .before .before .before .args .book)) (now (c .before .before .before .before .before .before .before .before .before .args .work)) (omega (arith, c .before .before .before .before .before .half-size .ensures, c .before .before .before .before .if1 .left)) (c .before .before .before .read .result) (c .before .before .before .read .ensures) (c .before .enum-told .given .0 .0) (c .before .enum-told .given .1), omega (arith, c .before .before .before .before .before .half-size .ensures, c .before .before .before .before .if1 .left)))
+ask-book-requires c κs =
+    let args = c .before .before .before .before .before .before .before .before .before .args in
+    let half-size = c .before .before .before .before .before .half-size in
+    let if1 = c .before .before .before .before .if1 in
+    let read = c .before .before .before .read in
+    (c .before .before .before .before .before .before .before .before .before .pre, (case-readable (args .limits) (now (args .case)) (now (args .book)) (now (args .work)) (omega (arith, half-size .ensures, if1 .left)) (read .result) (read .ensures) (c .before .enum-told .given .0 .0) (c .before .enum-told .given .1), omega (arith, half-size .ensures, if1 .left)))
 
 enum-known-refusal : tie.Need-enum-known-refusal
 enum-known-refusal c = search needs
@@ -32,11 +39,17 @@ same-length c = search needs
 
 returns-2 : tie.Need-returns-2
 returns-2 c =
+    let args = c .before .before .before .before .before .before .before .before .before .before .before .before .args in
+    let read = c .before .before .before .before .before .before .read in
+    let enum-told = c .before .before .before .before .enum-told in
     let asked = c .before .before .ask-book in
-    case-passed (c .before .before .before .before .before .before .before .before .before .before .before .before .args .limits) (now (c .before .before .before .before .before .before .before .before .before .before .before .before .args .case)) (now (c .before .before .before .before .before .before .before .before .before .before .before .before .args .book)) (now (c .before .before .before .before .before .before .before .before .before .before .before .before .args .work)) (omega (arith, c .before .before .before .before .before .before .before .before .half-size .ensures, c .before .before .before .before .before .before .before .if1 .left)) (c .before .before .before .before .before .before .read .result) (c .before .before .before .before .before .before .read .ensures) (c .before .before .before .before .enum-told .given .0 .0) (c .before .before .before .before .enum-told .given .1) (asked .result) (asked .last .1 .1 .1 .0) (asked .ensures)
+    case-passed (args .limits) (now (args .case)) (now (args .book)) (now (args .work)) (omega (arith, c .before .before .before .before .before .before .before .before .half-size .ensures, c .before .before .before .before .before .before .before .if1 .left)) (read .result) (read .ensures) (enum-told .given .0 .0) (enum-told .given .1) (asked .result) (asked .last .1 .1 .1 .0) (asked .ensures)
 
 returns-3 : tie.Need-returns-3
-returns-3 c = case-refused (c .before .before .before .before .before .before .before .before .before .args .limits) (now (c .before .before .before .before .before .before .before .before .before .args .case)) (now (c .before .before .before .before .before .before .before .before .before .args .book)) (now (c .before .before .before .before .before .before .before .before .before .args .work)) (omega (arith, c .before .before .before .before .before .half-size .ensures, c .before .before .before .before .if1 .left)) (c .before .before .before .read .result) (c .before .before .before .read .ensures) (c .before .refusal .given .0 .0) (c .before .refusal .given .1)
+returns-3 c =
+    let args = c .before .before .before .before .before .before .before .before .before .args in
+    let read = c .before .before .before .read in
+    case-refused (args .limits) (now (args .case)) (now (args .book)) (now (args .work)) (omega (arith, c .before .before .before .before .before .half-size .ensures, c .before .before .before .before .if1 .left)) (read .result) (read .ensures) (c .before .refusal .given .0 .0) (c .before .refusal .given .1)
 
 pub most-specific-spec : {M : Type 1} → statement M
 most-specific-spec =

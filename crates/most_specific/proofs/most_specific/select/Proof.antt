@@ -18,7 +18,9 @@ slice-aggregate-find-subsumers : tie.Need-slice-aggregate-find-subsumers
 slice-aggregate-find-subsumers c = search needs
 
 find-subsumers-requires : tie.Need-find-subsumers-requires
-find-subsumers-requires c κs = (c .before .before .before .before .before .pre .0, (c .before .before .before .before .before .pre .1 .0, (c .before .before .before .before .before .pre .1 .1 .0, blank 64 64 refl)))
+find-subsumers-requires c κs =
+    let pre = c .before .before .before .before .before .pre in
+    (pre .0, (pre .1 .0, (pre .1 .1 .0, blank 64 64 refl)))
 
 enum-known-covering : tie.Need-enum-known-covering
 enum-known-covering c = search needs
@@ -36,16 +38,23 @@ slice-relend-prefix-select-cards : tie.Need-slice-relend-prefix-select-cards
 slice-relend-prefix-select-cards c = search needs
 
 slice-aggregate-select-cards-2 : tie.Need-slice-aggregate-select-cards-2
-slice-aggregate-select-cards-2 c = sym (length-take-le (c .before .before .before .half-size .result + c .before .before .before .half-size .result) (now (c .before .before .before .before .before .before .before .before .before .before .before .before .before .before .args .work)) (omega (arith, c .before .before .before .half-size .ensures, c .before .before .before .before .before .before .before .before .before .before .before .before .before .before .pre .1 .1 .1)))
+slice-aggregate-select-cards-2 c =
+    let half-size = c .before .before .before .half-size in
+    sym (length-take-le (half-size .result + half-size .result) (now (c .before .before .before .before .before .before .before .before .before .before .before .before .before .before .args .work)) (omega (arith, half-size .ensures, c .before .before .before .before .before .before .before .before .before .before .before .before .before .before .pre .1 .1 .1)))
 
 select-cards-requires : tie.Need-select-cards-requires
 select-cards-requires c κs =
-    let lent = length-take-le (c .before .before .before .half-size .result + c .before .before .before .half-size .result) (now (c .before .before .before .before .before .before .before .before .before .before .before .before .before .before .args .work)) (omega (arith, c .before .before .before .half-size .ensures, c .before .before .before .before .before .before .before .before .before .before .before .before .before .before .pre .1 .1 .1)) in
-    let cache = subst (λ r. CachedAfter r (c .before .before .before .before .before .before .before .before .before .before .before .before .before .before .args .limits) (now (c .before .before .before .before .before .before .before .before .before .before .before .before .before .before .args .book)) (c .before .before .before .before .before .before .before .before .find-subsumers .last .1 .1 .1 .1 .1 .0) (c .before .before .before .before .before .before .before .before .find-subsumers .last .1 .1 .1 .1 .1 .1 .0)) (c .before .before .before .before .before .covering .given .1) (c .before .before .before .before .before .before .before .before .find-subsumers .ensures .1) in (
-      c .before .before .before .before .before .before .before .before .before .before .before .before .before .before .pre .0,
+    let args = c .before .before .before .before .before .before .before .before .before .before .before .before .before .before .args in
+    let pre = c .before .before .before .before .before .before .before .before .before .before .before .before .before .before .pre in
+    let find-subsumers = c .before .before .before .before .before .before .before .before .find-subsumers in
+    let covering = c .before .before .before .before .before .covering in
+    let half-size = c .before .before .before .half-size in
+    let lent = length-take-le (half-size .result + half-size .result) (now (args .work)) (omega (arith, half-size .ensures, pre .1 .1 .1)) in
+    let cache = subst (λ r. CachedAfter r (args .limits) (now (args .book)) (find-subsumers .last .1 .1 .1 .1 .1 .0) (find-subsumers .last .1 .1 .1 .1 .1 .1 .0)) (covering .given .1) (find-subsumers .ensures .1) in (
+      pre .0,
       (
-        record { taken = found-taken (c .before .before .before .before .before .before .before .before .before .before .before .before .before .before .args .limits) (now (c .before .before .before .before .before .before .before .before .before .before .before .before .before .before .args .case)) (now (c .before .before .before .before .before .before .before .before .before .before .before .before .before .before .args .book)) (c .before .before .before .before .before .before .before .before .before .before .before .before .before .before .args .count) (c .before .before .before .before .before .before .before .before .before .before .before .before .before .before .pre .1 .1 .0 .counted) (c .before .before .before .before .before .before .before .before .find-subsumers .result) (c .before .before .before .before .before .before .before .before .find-subsumers .ensures .0) (c .before .before .before .before .before .covering .given .0 .0) (c .before .before .before .before .before .covering .given .1) (now (c .before .before .before .before .before .before .before .before .before .before .before .before .before .before .args .places)) (c .before .before .before .before .before .before .before .before .before .before .before .before .before .before .pre .1 .1 .0); at = cache .0; cache-is = cache .1 },
-        (covering-inside (c .before .before .before .before .before .before .before .before .before .before .before .before .before .before .args .limits) (now (c .before .before .before .before .before .before .before .before .before .before .before .before .before .before .args .case)) (now (c .before .before .before .before .before .before .before .before .before .before .before .before .before .before .args .book)) (c .before .before .before .before .before .before .before .before .before .before .before .before .before .before .args .count) (c .before .before .before .before .before .covering .given .0 .0) (c .before .before .before .before .before .before .before .before .before .before .before .before .before .before .pre .1 .1 .0 .counted) (found-is (c .before .before .before .before .before .before .before .before .before .before .before .before .before .before .args .limits) (now (c .before .before .before .before .before .before .before .before .before .before .before .before .before .before .args .case)) (now (c .before .before .before .before .before .before .before .before .before .before .before .before .before .before .args .book)) (c .before .before .before .before .before .before .before .before .before .before .before .before .before .before .args .count) (c .before .before .before .before .before .before .before .before .before .before .before .before .before .before .pre .1 .1 .0 .counted) (c .before .before .before .before .before .before .before .before .find-subsumers .result) (c .before .before .before .before .before .before .before .before .find-subsumers .ensures .0) (c .before .before .before .before .before .covering .given .0 .0) (c .before .before .before .before .before .covering .given .1)), lent ∙ omega (arith, c .before .before .before .half-size .ensures)),
+        record { taken = found-taken (args .limits) (now (args .case)) (now (args .book)) (args .count) (pre .1 .1 .0 .counted) (find-subsumers .result) (find-subsumers .ensures .0) (covering .given .0 .0) (covering .given .1) (now (args .places)) (pre .1 .1 .0); at = cache .0; cache-is = cache .1 },
+        (covering-inside (args .limits) (now (args .case)) (now (args .book)) (args .count) (covering .given .0 .0) (pre .1 .1 .0 .counted) (found-is (args .limits) (now (args .case)) (now (args .book)) (args .count) (pre .1 .1 .0 .counted) (find-subsumers .result) (find-subsumers .ensures .0) (covering .given .0 .0) (covering .given .1)), lent ∙ omega (arith, half-size .ensures)),
       ),
     )
 
@@ -56,13 +65,22 @@ same-length : tie.Need-same-length
 same-length c = search needs
 
 returns : tie.Need-returns
-returns c = (
-  found-answer (c .before .before .before .before .before .before .before .before .before .before .before .before .before .before .before .before .before .args .limits) (now (c .before .before .before .before .before .before .before .before .before .before .before .before .before .before .before .before .before .args .case)) (now (c .before .before .before .before .before .before .before .before .before .before .before .before .before .before .before .before .before .args .book)) (c .before .before .before .before .before .before .before .before .before .before .before .before .before .before .before .before .before .args .count) (c .before .before .before .before .before .before .before .before .before .before .before .before .before .before .before .before .before .pre .1 .1 .0 .counted) (c .before .before .before .before .before .before .before .before .before .before .before .find-subsumers .result) (c .before .before .before .before .before .before .before .before .before .before .before .find-subsumers .ensures .0) (c .before .before .before .before .before .before .before .before .covering .given .0 .0) (c .before .before .before .before .before .before .before .before .covering .given .1) (c .before .before .select-cards .result) (selected-word (c .before .before .before .before .before .before .before .before .before .before .before .before .before .before .before .before .before .args .limits) (now (c .before .before .before .before .before .before .before .before .before .before .before .before .before .before .before .before .before .args .case)) (now (c .before .before .before .before .before .before .before .before .before .before .before .before .before .before .before .before .before .args .book)) (c .before .before .before .before .before .before .before .before .before .before .before .before .before .before .before .before .before .args .count) (c .before .before .before .before .before .before .before .before .covering .given .0 .0) (c .before .before .before .before .before .before .before .before .before .before .before .before .before .before .before .before .before .pre .1 .1 .0 .counted) (found-is (c .before .before .before .before .before .before .before .before .before .before .before .before .before .before .before .before .before .args .limits) (now (c .before .before .before .before .before .before .before .before .before .before .before .before .before .before .before .before .before .args .case)) (now (c .before .before .before .before .before .before .before .before .before .before .before .before .before .before .before .before .before .args .book)) (c .before .before .before .before .before .before .before .before .before .before .before .before .before .before .before .before .before .args .count) (c .before .before .before .before .before .before .before .before .before .before .before .before .before .before .before .before .before .pre .1 .1 .0 .counted) (c .before .before .before .before .before .before .before .before .before .before .before .find-subsumers .result) (c .before .before .before .before .before .before .before .before .before .before .before .find-subsumers .ensures .0) (c .before .before .before .before .before .before .before .before .covering .given .0 .0) (c .before .before .before .before .before .before .before .before .covering .given .1)) (c .before .before .select-cards .result) (c .before .before .select-cards .ensures .0)),
-  ap (λ l. l ++ drop (c .before .before .before .before .before .before .half-size .result + c .before .before .before .before .before .before .half-size .result) (now (c .before .before .before .before .before .before .before .before .before .before .before .before .before .before .before .before .before .args .work))) (c .before .before .select-cards .ensures .1) ∙ cleared-part (now (c .before .before .before .before .before .before .before .before .before .before .before .before .before .before .before .before .before .args .work)) (workSize (c .before .before .before .before .before .before .before .before .before .before .before .before .before .before .before .before .before .args .limits)) (c .before .before .before .before .before .before .half-size .result + c .before .before .before .before .before .before .half-size .result) (omega (arith, c .before .before .before .before .before .before .half-size .ensures)),
-)
+returns c =
+    let args = c .before .before .before .before .before .before .before .before .before .before .before .before .before .before .before .before .before .args in
+    let pre = c .before .before .before .before .before .before .before .before .before .before .before .before .before .before .before .before .before .pre in
+    let find-subsumers = c .before .before .before .before .before .before .before .before .before .before .before .find-subsumers in
+    let covering = c .before .before .before .before .before .before .before .before .covering in
+    let half-size = c .before .before .before .before .before .before .half-size in
+    let select-cards = c .before .before .select-cards in (
+      found-answer (args .limits) (now (args .case)) (now (args .book)) (args .count) (pre .1 .1 .0 .counted) (find-subsumers .result) (find-subsumers .ensures .0) (covering .given .0 .0) (covering .given .1) (select-cards .result) (selected-word (args .limits) (now (args .case)) (now (args .book)) (args .count) (covering .given .0 .0) (pre .1 .1 .0 .counted) (found-is (args .limits) (now (args .case)) (now (args .book)) (args .count) (pre .1 .1 .0 .counted) (find-subsumers .result) (find-subsumers .ensures .0) (covering .given .0 .0) (covering .given .1)) (select-cards .result) (select-cards .ensures .0)),
+      ap (λ l. l ++ drop (half-size .result + half-size .result) (now (args .work))) (select-cards .ensures .1) ∙ cleared-part (now (args .work)) (workSize (args .limits)) (half-size .result + half-size .result) (omega (arith, half-size .ensures)),
+    )
 
 returns-2 : tie.Need-returns-2
-returns-2 c = (found-refused (c .before .before .before .before .before .before .before .before .before .before .args .limits) (now (c .before .before .before .before .before .before .before .before .before .before .args .case)) (now (c .before .before .before .before .before .before .before .before .before .before .args .book)) (c .before .before .before .before .before .before .before .before .before .before .args .count) (c .before .before .before .before .before .before .before .before .before .before .pre .1 .1 .0 .counted) (c .before .before .before .before .find-subsumers .result) (c .before .before .before .before .find-subsumers .ensures .0) (c .before .refusal .given .0 .0) (c .before .refusal .given .1), refl)
+returns-2 c =
+    let args = c .before .before .before .before .before .before .before .before .before .before .args in
+    let find-subsumers = c .before .before .before .before .find-subsumers in
+    (found-refused (args .limits) (now (args .case)) (now (args .book)) (args .count) (c .before .before .before .before .before .before .before .before .before .before .pre .1 .1 .0 .counted) (find-subsumers .result) (find-subsumers .ensures .0) (c .before .refusal .given .0 .0) (c .before .refusal .given .1), refl)
 
 pub select-spec : {M : Type 1} → statement M
 select-spec =

@@ -24,7 +24,9 @@ none-requires : tie.Need-none-requires
 none-requires c κs = search needs
 
 add-requires : tie.Need-add-requires
-add-requires c κs = (c .before .before .before .before .before .before .before .before .before .pre .0, (c .before .before .before .before .before .fill-links .ensures, c .before .before .before .before .before .before .before .before .before .pre .0 .some))
+add-requires c κs =
+    let pre = c .before .before .before .before .before .before .before .before .before .pre in
+    (pre .0, (c .before .before .before .before .before .fill-links .ensures, pre .0 .some))
 
 graft-requires : tie.Need-graft-requires
 graft-requires c κs =

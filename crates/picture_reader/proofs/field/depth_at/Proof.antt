@@ -29,9 +29,10 @@ add-result c = search needs
 
 returns-2 : tie.Need-returns-2
 returns-2 c =
+    let pre = c .before .before .before .before .before .pre in
     let a = c .before .before .before .before .before .args in
-    let below : parentOf (now (a .s)) (a .n) < a .n = parent-below (a .n) (parentOf (now (a .s)) (a .n)) (c .before .before .before .if1 .left) (c .before .before .before .before .before .pre .1 .1) in
-    rw (c .wide .ensures .0, c .before .before .parent .ensures .0) (sym (depth-known (now (a .s)) (now (a .depths)) (a .n) (c .before .before .before .before .before .pre .1 .0) below))
+    let below : parentOf (now (a .s)) (a .n) < a .n = parent-below (a .n) (parentOf (now (a .s)) (a .n)) (c .before .before .before .if1 .left) (pre .1 .1) in
+    rw (c .wide .ensures .0, c .before .before .parent .ensures .0) (sym (depth-known (now (a .s)) (now (a .depths)) (a .n) (pre .1 .0) below))
 
 pub depth-at-spec : {M : Type 1} → statement M
 depth-at-spec =

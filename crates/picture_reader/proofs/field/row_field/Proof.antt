@@ -19,7 +19,9 @@ unfolding rowField
 returns-2 c = rw (sym (c .before .place .ensures)) (simp (lt-ltb _ _ (c .before .before .if1 .left), lt-leb _ _ (c .if2 .taken)))
 
 value-field-requires : tie.Need-value-field-requires
-value-field-requires c κs = (c .before .before .before .before .before .pre .0, ((omega (arith, c .before .before .before .before .before), omega (arith, c .before .place .ensures)), c .before .before .before .before .before .pre .1))
+value-field-requires c κs =
+    let pre = c .before .before .before .before .before .pre in
+    (pre .0, ((omega (arith, c .before .before .before .before .before), omega (arith, c .before .place .ensures)), pre .1))
 
 returns-3 : tie.Need-returns-3
 unfolding rowField

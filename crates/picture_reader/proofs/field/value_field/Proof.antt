@@ -28,7 +28,9 @@ unfolding valueField
 returns-3 c = simp (sym (c .before .before .before .before .before .kind-ok .ensures) ∙ not-false _ (c .before .before .before .before .if1 .left), sym (c .before .before .before .role-ok .ensures) ∙ not-false _ (c .before .before .if2 .left), sym (c .before .parent-ok .ensures) ∙ not-true _ (c .if3 .taken))
 
 depth-at-requires : tie.Need-depth-at-requires
-depth-at-requires c κs = (c .before .before .before .before .before .before .before .pre .1 .0, (c .before .before .before .before .before .before .before .pre .1 .1, sym (c .before .parent-ok .ensures) ∙ not-false _ (c .if3 .left)))
+depth-at-requires c κs =
+    let pre = c .before .before .before .before .before .before .before .pre in
+    (pre .1 .0, (pre .1 .1, sym (c .before .parent-ok .ensures) ∙ not-false _ (c .if3 .left)))
 
 returns-4 : tie.Need-returns-4
 unfolding valueField

@@ -36,8 +36,9 @@ close-requires-3 c κs = search needs
 
 returns : tie.Need-returns
 returns c =
-    let limits = c .before .before .before .before .before .before .before .before .args .limits in
-    let s = now (c .before .before .before .before .before .before .before .before .args .s) in
+    let args = c .before .before .before .before .before .before .before .before .args in
+    let limits = args .limits in
+    let s = now (args .s) in
     let short = c .before .before .before .before .before .before .before .before .pre .1 in
     sym
     (reading-second limits s _ (sym (c .before .before .before .before .before .field-at .ensures) ∙ c .before .before .before .enum-told .given .1)
@@ -45,10 +46,14 @@ returns c =
     ∙ rw (sym (c .before .field-at2 .ensures)) (sym (c .close .ensures)))
 
 returns-2 : tie.Need-returns-2
-returns-2 c = c .close2 .ensures ∙ rw (c .before .enum-told2 .given .1) (sym (reading-first (c .before .before .before .before .before .before .args .limits) (now (c .before .before .before .before .before .before .args .s)) ∙ rw (sym (c .before .before .before .field-at .ensures), c .before .enum-told2 .given .1)))
+returns-2 c =
+    let args = c .before .before .before .before .before .before .args in
+    c .close2 .ensures ∙ rw (c .before .enum-told2 .given .1) (sym (reading-first (args .limits) (now (args .s)) ∙ rw (sym (c .before .before .before .field-at .ensures), c .before .enum-told2 .given .1)))
 
 returns-3 : tie.Need-returns-3
-returns-3 c = c .close3 .ensures ∙ rw (c .before .enum-told3 .given .1) (sym (reading-first (c .before .before .before .before .before .before .args .limits) (now (c .before .before .before .before .before .before .args .s)) ∙ rw (sym (c .before .before .before .field-at .ensures), c .before .enum-told3 .given .1)))
+returns-3 c =
+    let args = c .before .before .before .before .before .before .args in
+    c .close3 .ensures ∙ rw (c .before .enum-told3 .given .1) (sym (reading-first (args .limits) (now (args .s)) ∙ rw (sym (c .before .before .before .field-at .ensures), c .before .enum-told3 .given .1)))
 
 pub scan-one-spec : {M : Type 1} → statement M
 scan-one-spec =

@@ -38,7 +38,8 @@ enum-known-field c = search needs
 -- the field is a row, with the depth that it was found at
 is-row : (c : tie.After-known-told Inv-loop μ-loop) → RowOk (c .before .before .before .before .before .before .before .args .limits) (now (c .before .before .before .before .before .before .before .args .s)) (c .before .before .before .before .before .loop .n) × (c .before .field .given .0 .0 ≡ depth (parentOf (now (c .before .before .before .before .before .before .before .args .s))) (c .before .before .before .before .before .loop .n))
 is-row c =
-    row-ok (c .before .before .before .before .before .before .before .args .limits) (now (c .before .before .before .before .before .before .before .args .s)) (c .before .before .before .before .before .loop .n) (c .before .field .given .0 .0) (sym (c .before .before .before .field-at .ensures) ∙ c .before .field .given .1)
+    let args = c .before .before .before .before .before .before .before .args in
+    row-ok (args .limits) (now (args .s)) (c .before .before .before .before .before .loop .n) (c .before .field .given .0 .0) (sym (c .before .before .before .field-at .ensures) ∙ c .before .field .given .1)
 
 array-write-depths : tie.Need-array-write-depths Inv-loop μ-loop
 array-write-depths c = omega (arith, is-row c .0 .few, c .before .before .before .before .before .before .before .pre .0)

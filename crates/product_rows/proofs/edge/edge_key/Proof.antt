@@ -20,9 +20,10 @@ add-result c = search needs
 
 returns : tie.Need-returns
 returns c =
+    let wide = c .before .before .wide in
     let a = c .before .before .before .before .before .args in
     let kind = c .before .kind in
-    key-all (now (a .t)) (a .e) (kind .result) (c .before .before .wide .result) (kind .ensures) (c .before .before .wide .ensures .0 ∙ c .before .before .before .role .ensures) (c .if1 .taken)
+    key-all (now (a .t)) (a .e) (kind .result) (wide .result) (kind .ensures) (wide .ensures .0 ∙ c .before .before .before .role .ensures) (c .if1 .taken)
 
 add-result-2 : tie.Need-add-result-2
 add-result-2 c = search needs
@@ -32,9 +33,10 @@ add-result-3 c = search needs
 
 returns-2 : tie.Need-returns-2
 returns-2 c =
+    let wide = c .before .before .wide in
     let a = c .before .before .before .before .before .args in
     let kind = c .before .kind in
-    key-some (now (a .t)) (a .e) (kind .result) (c .before .before .wide .result) (kind .ensures) (c .before .before .wide .ensures .0 ∙ c .before .before .before .role .ensures) (c .if1 .left)
+    key-some (now (a .t)) (a .e) (kind .result) (wide .result) (kind .ensures) (wide .ensures .0 ∙ c .before .before .before .role .ensures) (c .if1 .left)
 
 pub edge-key-spec : {M : Type 1} → statement M
 edge-key-spec =

@@ -29,8 +29,9 @@ wide-requires c κs = search needs
 
 role-requires : tie.Need-role-requires Inv-loop μ-loop
 role-requires c κs =
+    let loop-test = c .before .before .loop-test in
     let start = c .before .before .before .before .before in
-    (omega (arith, start .pre .0 .most, c .before .before .loop-test .taken), omega (arith, start .pre .0 .whole, c .before .before .loop-test .taken))
+    (omega (arith, start .pre .0 .most, loop-test .taken), omega (arith, start .pre .0 .whole, loop-test .taken))
 
 wide-requires-2 : tie.Need-wide-requires-2 Inv-loop μ-loop
 wide-requires-2 c κs = search needs
@@ -79,10 +80,12 @@ loop-less c = omega (arith, c .before .before .before .before .before .before .l
 
 loop-again : tie.Need-loop-again Inv-loop μ-loop
 loop-again c =
+    let wide = c .before .before .before .before .wide in
+    let wide2 = c .before .before .wide2 in
     let start = c .before .before .before .before .before .before .before .before .before in
     let a = start .args in
     let l = c .before .before .before .before .before .before .before .loop in
-    mask-next (now (a .s)) (a .rows) (l .j) (c .before .before .wide2 .result) (c .before .before .before .before .wide .result % 2) (c .before .bit .result) _ (l .masks) (c .before .before .before .before .before .before .loop-test .taken) (start .pre .0 .most) (c .before .before .wide2 .ensures .0 ∙ c .before .before .before .role .ensures) (small (c .before .before)) (ap (λ (n : ℕ). n % 2) (c .before .before .before .before .wide .ensures .0 ∙ c .before .before .before .before .before .kind .ensures)) refl (c .before .bit .ensures) (l .inv)
+    mask-next (now (a .s)) (a .rows) (l .j) (wide2 .result) (wide .result % 2) (c .before .bit .result) _ (l .masks) (c .before .before .before .before .before .before .loop-test .taken) (start .pre .0 .most) (wide2 .ensures .0 ∙ c .before .before .before .role .ensures) (small (c .before .before)) (ap (λ (n : ℕ). n % 2) (wide .ensures .0 ∙ c .before .before .before .before .before .kind .ensures)) refl (c .before .bit .ensures) (l .inv)
 
 returns : tie.Need-returns Inv-loop μ-loop
 returns c =

@@ -72,12 +72,13 @@ loop-less c =
 
 loop-again : tie.Need-loop-again Inv-loop μ-loop
 loop-again c =
+    let with = c .before .before .with in
     let st = c .before .before .before .before .before .before .before .before in
     let a = st .args in
     let l = c .before .before .before .before .loop in
     let z = c .before .before .before .loop-test .taken in
-    let w = c .before .before .with .ensures in
-    walk-next (now (a .s)) (a .rows) (a .c) (a .self) (l .j) (l .successors) (l .inv) (c .before .before .with .result) (c .wide2 .result) z (onward c) (st .pre .0 .most) (w .0) (w .1)
+    let w = with .ensures in
+    walk-next (now (a .s)) (a .rows) (a .c) (a .self) (l .j) (l .successors) (l .inv) (with .result) (c .wide2 .result) z (onward c) (st .pre .0 .most) (w .0) (w .1)
 
 returns : tie.Need-returns Inv-loop μ-loop
 returns c =
