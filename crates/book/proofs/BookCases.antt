@@ -16,7 +16,7 @@ use Rattle.table.specs.declared.layout.Limits.{Limits}
 use Rattle.picture.specs.Depth.{depth, depthIn}
 use Rattle.picture.specs.Questions.{endField, fieldAt, kindOk, lengthFor, parentOk, roleOk, rowField, tagOk, valueField}
 use Rattle.picture.specs.Read.{answerOf, readingOf, scanFrom}
-use Rattle.picture.specs.View.{rowCount, viewOf}
+use Rattle.picture.specs.Readable.{rowCount}
 use Rattle.picture.specs.declared.answer.Input.{Input}
 use Rattle.picture.specs.declared.answer.Input.the-variants.{Book, Buffer, Card, First}
 use Rattle.meaning.specs.Covering.{covers}
@@ -178,7 +178,7 @@ cases =
 
 pub all-pass : runAll cases ≡ cases
 unfolding be endsAt put zeros some depthIn depth tagOk lengthFor kindOk roleOk parentOk valueField rowField endField fieldAt
-    scanFrom readingOf answerOf rowCount viewOf mergedTree mergedCount normalTreeOf covers
+    scanFrom readingOf answerOf rowCount mergedTree mergedCount normalTreeOf covers
     fieldPlace card cardAt cardsFrom cardCount bookForm subsumesAnother mostSpecific cardWord mostSpecificCards
     askedFrom readAsked mergedAsked bookAsked mostSpecificAnswer mostSpecificWork
 all-pass = refl

@@ -17,7 +17,7 @@ use native.Mathlib.Omega.{arith}
 use Rattle.meaning.specs.NormalTable.{mergedCount}
 use Rattle.normal.specs.Call.{tooMany}
 use Rattle.picture.specs.Read.{answerOf, answered, readingOf}
-use Rattle.picture.specs.View.{Readable}
+use Rattle.picture.specs.Readable.{Readable}
 use Rattle.table.specs.Pick.{pick}
 use Rattle.picture.specs.declared.answer.Input.{Input}
 use Rattle.picture.specs.declared.answer.Refusal.{Refusal}

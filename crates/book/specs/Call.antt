@@ -20,7 +20,7 @@ use Rattle.table.specs.Pick.{pick}
 use Rattle.table.specs.Put.{put, zeros}
 use Rattle.table.specs.declared.layout.Limits.{Limits}
 use Rattle.picture.specs.Read.{answerOf}
-use Rattle.picture.specs.View.{Readable}
+use Rattle.picture.specs.Readable.{Readable}
 use Rattle.picture.specs.declared.answer.Answer.{Answer}
 use Rattle.picture.specs.declared.answer.Answer.the-variants as answer
 use Rattle.picture.specs.declared.answer.Input.{Input}

@@ -8,7 +8,7 @@ use mathlib.Core.Logic.{_⊎_}
 use mathlib.Core.Path.{_≡_}
 use Rattle.table.specs.declared.layout.Limits.{Limits}
 use Rattle.picture.specs.Read.{readingOf}
-use Rattle.picture.specs.View.{Readable}
+use Rattle.picture.specs.Readable.{Readable}
 use Rattle.picture.specs.declared.answer.Input.the-variants.{Book, Buffer, Card, First}
 use Rattle.picture.specs.declared.answer.Refusal.{Refusal}
 use Rattle.picture.specs.declared.read.Reading.the-variants as reading

@@ -21,7 +21,7 @@ use Rattle.normal_writer.proofs.Prefixes.{take-put}
 use Rattle.normal_writer.specs.Built.{Built}
 use Rattle.row_sets.specs.Rows.{Checked}
 use Rattle.normal_writer.specs.declared.node.Branch.{Branch}
-use Rattle.picture.specs.View.{Readable, rowCount}
+use Rattle.picture.specs.Readable.{Readable, rowCount}
 use Rattle.table.proofs.Bools.{by-test}
 use Rattle.table.proofs.Puts.{length-put}
 use Rattle.table.proofs.Rows.{length-endBytes}

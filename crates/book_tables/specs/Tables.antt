@@ -11,7 +11,7 @@ use mathlib.Core.Path.{_≡_}
 use Rattle.table.specs.Layout.{endSize, «place»}
 use Rattle.table.specs.Pick.{pick}
 use Rattle.table.specs.declared.layout.Limits.{Limits}
-use Rattle.picture.specs.View.{Readable}
+use Rattle.picture.specs.Readable.{Readable}
 use Rattle.meaning.specs.NormalTable.{mergedCount, normalFile}
 use Rattle.homomorphism_search.specs.Search.{rowMaps}
 use Rattle.workspace.specs.Prepare.{tableRows}

@@ -11,7 +11,7 @@ ghost use mathlib.Core.Path.{_≡_};
 ghost use Prim.Native.Nat.{ℕ, _≤_, _<_};
 ghost use lib.ListN.{length};
 ghost use Rattle.table.specs.Bounds.{Bounded, pictureSize};
-ghost use Rattle.picture.specs.View.{Readable};
+ghost use Rattle.picture.specs.Readable.{Readable};
 ghost use Rattle.homomorphism_search.specs.Search.{LinkedTable, rowMaps};
 ghost use Rattle.book.specs.Form.{card};
 ghost use Rattle.book_tables.specs.Tables.{CardsRead, Tabled};

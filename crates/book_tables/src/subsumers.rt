@@ -22,7 +22,7 @@ ghost use lib.ListN.{length, take};
 ghost use Rattle.table.specs.Bounds.{Bounded, pictureSize};
 ghost use Rattle.table.specs.Layout.{endSize, «place»};
 ghost use Rattle.table.specs.Links.{Zeros};
-ghost use Rattle.picture.specs.View.{Readable};
+ghost use Rattle.picture.specs.Readable.{Readable};
 ghost use Rattle.row_sets.specs.Rows.{Checked};
 ghost use Rattle.homomorphism_search.specs.Search.{LinkedTable, rowMaps};
 ghost use Rattle.book.specs.Call.{andThen, askedFrom, cardMerged, caseMerged, onAsked};

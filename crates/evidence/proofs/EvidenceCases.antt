@@ -11,7 +11,7 @@ use Rattle.table.specs.Range.{each}
 use Rattle.picture.specs.Depth.{depth, depthIn}
 use Rattle.picture.specs.Questions.{endField, fieldAt, kindOk, lengthFor, parentOk, roleOk, rowField, tagOk, valueField}
 use Rattle.picture.specs.Read.{answerOf, readingOf, scanFrom}
-use Rattle.picture.specs.View.{rowCount, viewOf}
+use Rattle.picture.specs.Readable.{rowCount}
 use Rattle.picture.specs.declared.answer.Input.the-variants.{Evidence}
 use Rattle.meaning.proofs.CasePictures.{allRow, empty, end, impossible, noneReached, root, row, someBoth, someEach, someReached, someRow}
 use Rattle.meaning.specs.NormalTable.{mergedCount, mergedTree, normalFile, normalTreeOf}
@@ -187,6 +187,6 @@ cases =
     ∷ []
 
 pub all-pass : runAll cases ≡ cases
-unfolding be beBytes rowOf endBytes endsAt depthIn depth tagOk lengthFor kindOk roleOk parentOk valueField rowField endField fieldAt scanFrom readingOf answerOf rowCount viewOf mergedTree mergedCount normalTreeOf normalFile
+unfolding be beBytes rowOf endBytes endsAt depthIn depth tagOk lengthFor kindOk roleOk parentOk valueField rowField endField fieldAt scanFrom readingOf answerOf rowCount mergedTree mergedCount normalTreeOf normalFile
     each individualCount individualHead refutationForm individualOk mapForm formOf rowAsked inOrder mapAsked refutationAsked checkAnswer evidenceAnswer mergedAsked prepareAnswer verifyAnswer
 all-pass = refl

@@ -13,7 +13,7 @@ use Rattle.ale.proofs.Subsumption.{normal-tree, tree-normal}
 use Rattle.ale.specs.ModelCheck.{fitsTest}
 use Rattle.ale.specs.PictureSignature.{pictureSignature}
 use Rattle.ale.specs.Tree.{Tree, exists, size}
-use Rattle.picture.specs.View.{Readable}
+use Rattle.picture.specs.Readable.{Readable}
 use Rattle.meaning.proofs.Normals.{normal-meaning-at, normal-table}
 use Rattle.meaning.proofs.Pictures.{picture-known}
 use Rattle.meaning.specs.Meaning.{pictureTable, pictureTree}

@@ -15,7 +15,7 @@ use Rattle.table.specs.Bounds.{Bounded}
 use Rattle.table.specs.Pick.{pick}
 use Rattle.table.specs.Range.{each}
 use Rattle.table.specs.declared.layout.Limits.{Limits}
-use Rattle.picture.specs.View.{rowCount, viewOf}
+use Rattle.picture.specs.Readable.{rowCount}
 use Rattle.meaning.specs.Meaning.{pictureTable, pictureTree}
 use Rattle.meaning.specs.NormalTable.{normalFile}
 use Rattle.countermodel.specs.Individual.{individualOk, refutationForm}
@@ -90,7 +90,7 @@ module _ (first second e : List ℕ) where
   pub check-read : (limits : Limits) (m : ℕ) (f : Form) → m ≡ rowCount second → f ≡ formOf limits m e →
       checkIn limits first second e
       ≡ onForm (pictureTable first) (pictureTable second) (rowTree (pictureTable first) 0) (rowTree (pictureTable second) 0) e f
-  unfolding checkIn checkAnswer viewOf
+  unfolding checkIn checkAnswer
   check-read limits m f k h =
       ap (onForm (pictureTable first) (pictureTable second) (rowTree (pictureTable first) 0) (rowTree (pictureTable second) 0) e)
       (ap (λ (n : ℕ). formOf limits n e) (sym k) ∙ sym h)

@@ -10,7 +10,6 @@ use mathlib.Core.Bool.{Bool, _&&_, and-false, and-true, false, not}
 use mathlib.Core.List.{List}
 use mathlib.Core.Path.{_∙_, _≡_, ap, sym}
 use native.Mathlib.Nat.{mod-eq-of-lt}
-use Rattle.picture.specs.View.{viewOf}
 use Rattle.table.specs.Fields.{excludedOf, impossibleOf, wantedOf}
 use Rattle.table.specs.Layout.{nameCount}
 use Rattle.table.specs.NameSet.{setOf, subset}
@@ -26,7 +25,6 @@ low-same set number (e, l) = ap (λ n. n % 2 ^ nameCount) (sym e) ∙ mod-eq-of-
 module _ (t : List ℕ) (w : ℕ) (label : Label) where
   pub row-label : (mark : ℕ) → Read (setOf (label .wanted)) (wantedOf t w) → Read (setOf (label .excluded)) (excludedOf t w) →
       label .bottom ≡ mark → mark ≡ impossibleOf t w → RowLabel t w label
-  unfolding viewOf
   row-label mark wants excludes same is =
       record {
         wanted-is = sym (low-same (setOf (label .wanted)) (wantedOf t w) wants);
@@ -38,7 +36,7 @@ module _ (t : List ℕ) (w : ℕ) (label : Label) where
     carried-label : labelCarried s t w u
         ≡ (subset (setOf (label .wanted)) (wantedOf s u % 2 ^ nameCount)
         && (subset (setOf (label .excluded)) (excludedOf s u % 2 ^ nameCount) && not (eqb (label .bottom) 1)))
-    unfolding labelCarried viewOf
+    unfolding labelCarried
     carried-label = rw (stands .wanted-is, stands .excluded-is, stands .bottom-is)
 
     pub carried-marked : label .bottom ≡ 1 → labelCarried s t w u ≡ false

@@ -30,7 +30,7 @@ use Rattle.ale.specs.Table.{Table, successorOf, successorRows, successors}
 use Rattle.ale.specs.Tree.{Forest, Kind, Tree, any, exists, forAll, sameKind}
 use Rattle.meaning.specs.Meaning.{kindAt, pictureTable}
 use Rattle.row_sets.specs.Rows.{Checked}
-use Rattle.picture.specs.View.{rowCount, viewOf}
+use Rattle.picture.specs.Readable.{rowCount}
 use Rattle.homomorphism_search.specs.Search.{edgeServed, firstFailing, forestAt, labelCarried, lowestImage, rowMaps, sameEdge, treeAt, unservedRow}
 use Rattle.homomorphism_search.proofs.Walks.{first-failing, first-filtered, firstOf}
 
@@ -52,7 +52,7 @@ role-same forAll r s = refl
 pub edge-bytes : (s t : List ℕ) (c v kind kind′ : ℕ) →
     (kindOf s v ≡ kindExists) ⊎ (kindOf s v ≡ kindForAll) → (kindOf t c ≡ kindExists) ⊎ (kindOf t c ≡ kindForAll) →
     kind ≡ kindOf s v → kind′ ≡ kindOf t c → sameEdge s t c v ≡ (eqb kind kind′ && eqb (roleOf s v) (roleOf t c))
-unfolding sameEdge viewOf
+unfolding sameEdge
 edge-bytes s t c v kind kind′ k l x y =
     simp (kind-same (kindOf s v) (kindOf t c) k l, role-same (kindAt (kindOf t c)) (roleOf s v) (roleOf t c), x, y)
 
@@ -98,7 +98,7 @@ below-served s t depth w u =
 
 module _ (s t : List ℕ) (w u : ℕ) where
   row-split : (depth : ℕ) → rowMaps s t depth w u ≡ (eqb (impossibleOf s u) 1 || (labelCarried s t w u && belowMaps s t depth w u))
-  unfolding rowMaps labelCarried viewOf
+  unfolding rowMaps labelCarried
   row-split zero = refl
   row-split (suc depth) = rw (below-served s t depth w u)
 
@@ -139,14 +139,14 @@ module _ (s t : List ℕ) (depth c v : ℕ) where
 
 pub lowest-along : (s t : List ℕ) (n depth c u : ℕ) → Checked s n →
     lowestImage s t depth c u ≡ firstOf (takes s t depth c) (filterBelow (childOf (parentOf s) u) n) n
-unfolding lowestImage sameEdge viewOf
+unfolding lowestImage sameEdge
 lowest-along s t n depth c u checked =
     rw (checked .counted)
     (first-filtered (childOf (parentOf s) u) (takes s t depth c) _
     (λ v. and-assoc (childOf (parentOf s) u v) (sameEdge s t c v) (rowMaps s t depth c v)) 0 (rowCount s) (rowCount s) (omega arith))
 
 pub served-lowest : (s t : List ℕ) (n depth u c : ℕ) → Checked s n → edgeServed s t depth u c ≡ not (eqb (lowestImage s t depth c u) n)
-unfolding edgeServed rowMaps sameEdge viewOf
+unfolding edgeServed rowMaps sameEdge
 served-lowest s t n depth u c checked =
     let k = (pictureTable t) .kind c in
     let r = (pictureTable t) .role c in
@@ -170,7 +170,7 @@ module _ (s t : List ℕ) (n depth u c found : ℕ) (is : found ≡ lowestImage 
 
 pub unserved-along : (s t : List ℕ) (n m depth w u : ℕ) → Checked s n → Checked t m →
     unservedRow s t depth w u ≡ firstOf (noImage s t n depth u) (filterBelow (childOf (parentOf t) w) m) 0
-unfolding unservedRow viewOf
+unfolding unservedRow
 unserved-along s t n m depth w u checked other =
     first-failing (edgeServed s t depth u) (noImage s t n depth u) (λ c. served-lowest s t n depth u c checked)
     (filterBelow (childOf (parentOf t) w) (rowCount t))

@@ -26,7 +26,6 @@ use Rattle.ale.specs.PictureSignature.{pictureSignature}
 use Rattle.ale.specs.Rows.{filterBelow, filterFrom, firstFrom}
 use Rattle.ale.specs.Table.{ParentsFirst, successorRows}
 use Rattle.meaning.specs.Meaning.{pictureTable}
-use Rattle.picture.specs.View.{viewOf}
 use Rattle.homomorphism_search.specs.Search.{LinkedTable, firstFailing}
 use Rattle.row_sets.specs.Rows.{Checked}
 
@@ -49,7 +48,6 @@ first-failing f q opposite (v ∷ s) =
 -- at first a walk has all rows that hang from row u ahead
 pub successors-ahead : (s links : List ℕ) (rows u : ℕ) → LinkedTable s rows links → u < rows →
     successorRows pictureSignature (pictureTable s) u ≡ ahead (parentOf s) rows u (getD links u 0)
-unfolding viewOf
 successors-ahead s links rows u table l =
     ap (λ m. filterBelow (childOf (parentOf s) u) m) (sym (table .checked .counted)) ∙ chain-first (parentOf s) rows u maxRows links (table .linked) l
 
@@ -94,5 +92,4 @@ walk-end {j = j} at z = at .rest ∙ rw (eq-eqb j 0 z)
 
 -- in a checked table every parent stands before its row
 pub checked-parents : {t : List ℕ} {rows : ℕ} → Checked t rows → ParentsFirst pictureSignature (pictureTable t)
-unfolding viewOf
 checked-parents checked y l later = checked .parents y later (rw (checked .counted) l)

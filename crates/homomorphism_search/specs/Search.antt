@@ -39,7 +39,7 @@ use Rattle.ale.specs.Rows.{firstFrom}
 use Rattle.ale.specs.Table.{successorRows, successors, treeOf}
 use Rattle.ale.specs.Tree.{Forest, Tree, any, sameKind}
 use Rattle.meaning.specs.Meaning.{pictureTable}
-use Rattle.picture.specs.View.{rowCount}
+use Rattle.picture.specs.Readable.{rowCount}
 use Rattle.row_sets.specs.Labels.{LabelIs}
 use Rattle.row_sets.specs.Rows.{Checked}
 use Rattle.row_sets.specs.declared.label.Label.{Label}

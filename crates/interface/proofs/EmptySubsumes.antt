@@ -33,7 +33,7 @@ use Rattle.meaning.specs.NormalTable.{mergedCount, mergedTree, normalFile, norm
 use Rattle.picture.specs.Depth.{depth, depthIn}
 use Rattle.picture.specs.Questions.{endField, fieldAt, kindOk, lengthFor, parentOk, roleOk, rowField, tagOk, valueField}
 use Rattle.picture.specs.Read.{answerOf, readingOf, scanFrom}
-use Rattle.picture.specs.View.{Readable, rowCount, viewOf}
+use Rattle.picture.specs.Readable.{Readable, rowCount}
 use Rattle.subsumption.proofs.Answers.{acceptable-result, yes-subsumes}
 use Rattle.meaning.specs.Covering.{Covers}
 use Rattle.subsumption.proofs.Writers.{verdict-covers}
@@ -54,17 +54,17 @@ abbrev q : Table pictureSignature
 q = pictureTable (normalFile benchLimits empty)
 
 empty-tree : pictureTree benchLimits empty ≡ top pictureSignature
-unfolding be beBytes endBytes rowCount viewOf
+unfolding be beBytes endBytes rowCount
 empty-tree = refl
 
 empty-rows : q .rows ≡ 1
-unfolding be beBytes rowOf endBytes rowCount viewOf mergedTree normalTreeOf normalFile
+unfolding be beBytes rowOf endBytes rowCount mergedTree normalTreeOf normalFile
 empty-rows = refl
 
 -- the label of its one row
 module _ (l : Label pictureSignature) where
   empty-label : T (labelWithin pictureSignature (q .label 0) l)
-  unfolding be beBytes rowOf endBytes rowCount viewOf mergedTree normalTreeOf normalFile
+  unfolding be beBytes rowOf endBytes rowCount mergedTree normalTreeOf normalFile
   empty-label = tt
 
 empty-readable : Readable benchLimits empty
@@ -76,11 +76,11 @@ unfolding be beBytes endBytes depthIn depth tagOk lengthFor kindOk roleOk parent
 empty-counted = refl
 
 empty-few : mergedCount benchLimits empty ≤ maxRows
-unfolding be beBytes endBytes rowCount viewOf mergedTree mergedCount
+unfolding be beBytes endBytes rowCount mergedTree mergedCount
 empty-few = omega arith
 
 empty-form : mapForm (q .rows) k1-map ≡ true
-unfolding be beBytes rowOf endBytes rowCount viewOf mergedTree normalTreeOf normalFile mapForm endsAt
+unfolding be beBytes rowOf endBytes rowCount mergedTree normalTreeOf normalFile mapForm endsAt
 empty-form = refl
 
 empty-image : imageOf k1-map 0 ≡ 0
@@ -107,7 +107,7 @@ module _ (first : List ℕ) (few : mergedCount benchLimits first ≤ maxRows) wh
 
   -- what is written where the verdict is yes
   empty-evidence : verdictOf benchLimits first empty ≡ true → evidenceOf benchLimits first empty ≡ k1-map
-  unfolding be beBytes rowOf endBytes rowCount viewOf mergedTree normalTreeOf normalFile evidenceOf mapOf lowestMap mapFile
+  unfolding be beBytes rowOf endBytes rowCount mergedTree normalTreeOf normalFile evidenceOf mapOf lowestMap mapFile
   empty-evidence yes-is = rw yes-is
 
   -- and so it is, as the empty row covers the picture

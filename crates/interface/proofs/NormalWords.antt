@@ -22,7 +22,7 @@ use mathlib.Core.Path.{_≡_, refl, subst, sym}
 use Rattle.table.specs.Bounds.{benchLimits, maxRows, pictureSize}
 use Rattle.table.specs.Put.{put}
 use Rattle.picture.specs.Read.{readingOf}
-use Rattle.picture.specs.View.{Readable}
+use Rattle.picture.specs.Readable.{Readable}
 use Rattle.picture.specs.declared.answer.Input.the-variants.{Buffer, First}
 use Rattle.picture.specs.declared.read.Reading.{Reading}
 use Rattle.picture.specs.declared.read.Reading.the-variants as reading

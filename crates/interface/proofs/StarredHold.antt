@@ -22,7 +22,7 @@ use Rattle.meaning.specs.NormalTable.{mergedCount, mergedTree, normalFile, norm
 use Rattle.picture.specs.Depth.{depth, depthIn}
 use Rattle.picture.specs.Questions.{endField, fieldAt, kindOk, lengthFor, parentOk, roleOk, rowField, tagOk, valueField}
 use Rattle.picture.specs.Read.{answerOf, readingOf, scanFrom}
-use Rattle.picture.specs.View.{rowCount, viewOf}
+use Rattle.picture.specs.Readable.{rowCount}
 use Rattle.subsumption.specs.Call.{verdictAnswer}
 use Rattle.subsumption.specs.Verdict.{evidenceOf, mapOf, refutationOf, verdictOf}
 use Rattle.table.specs.Bounds.{benchLimits, maxRows}
@@ -94,7 +94,7 @@ module _ (first second table : List ℕ) (is : lcsFile benchLimits first second 
       )
 
 pub starred-hold : AllHold starred
-unfolding be beBytes rowOf endBytes endsAt depthIn depth tagOk lengthFor kindOk roleOk parentOk valueField rowField endField fieldAt scanFrom readingOf answerOf validateWord rowCount viewOf mergedTree mergedCount normalTreeOf normalFile
+unfolding be beBytes rowOf endBytes endsAt depthIn depth tagOk lengthFor kindOk roleOk parentOk valueField rowField endField fieldAt scanFrom readingOf answerOf validateWord rowCount mergedTree mergedCount normalTreeOf normalFile
     each individualCount individualHead refutationForm individualOk mapForm formOf rowAsked inOrder mapAsked refutationAsked checkAnswer evidenceAnswer mergedAsked prepareAnswer verifyAnswer verifyWord
     covers verdictOf mapOf lowestMap mapFile refutationOf refutationFile individualBytes evidenceOf verdictAnswer
     lcsTree lcsCount lcsFile commonAnswer lcsAnswer lcsWord

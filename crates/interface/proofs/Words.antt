@@ -15,7 +15,7 @@ use Rattle.picture.specs.declared.answer.Answer.the-variants as answer
 use Rattle.picture.specs.declared.read.Reading.{Reading}
 use Rattle.picture.specs.declared.read.Reading.the-variants as reading
 use Rattle.picture.specs.Read.{readingOf, answered, answerOf}
-use Rattle.picture.specs.View.{Readable, rowCount}
+use Rattle.picture.specs.Readable.{Readable, rowCount}
 use Rattle.normal.specs.declared.normalize.Normalized.the-variants as normalized
 use Rattle.evidence.specs.declared.check.Verified.the-variants as verified
 use Rattle.lcs.specs.Call.{tooLarge}

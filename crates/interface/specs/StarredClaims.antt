@@ -30,7 +30,7 @@ use Rattle.table.specs.Layout.{kindExists, kindForAll, kindRoot, nameBytes, num
 use Rattle.table.specs.Number.{beBytes}
 use Rattle.table.specs.Put.{put}
 use Rattle.countermodel.specs.Layout.{individualLength, individualTag}
-use Rattle.picture.specs.View.{Readable}
+use Rattle.picture.specs.Readable.{Readable}
 use Rattle.meaning.specs.Covering.{Covers}
 use Rattle.meaning.specs.NormalTable.{mergedCount}
 use Rattle.workspace.specs.Prepare.{workSize}

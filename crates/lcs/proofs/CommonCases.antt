@@ -16,7 +16,7 @@ use Rattle.table.specs.declared.layout.Limits.{Limits}
 use Rattle.picture.specs.Depth.{depth, depthIn}
 use Rattle.picture.specs.Questions.{endField, fieldAt, kindOk, lengthFor, parentOk, roleOk, rowField, tagOk, valueField}
 use Rattle.picture.specs.Read.{answerOf, readingOf, scanFrom}
-use Rattle.picture.specs.View.{rowCount, viewOf}
+use Rattle.picture.specs.Readable.{rowCount}
 use Rattle.picture.specs.declared.answer.Input.{Input}
 use Rattle.picture.specs.declared.answer.Input.the-variants.{Buffer, First, Second}
 use Rattle.meaning.proofs.CasePictures.{allOf, allRow, empty, fourRows, impossible, noneReached, one, oneRow, picture, root, row, someRow, two}
@@ -180,6 +180,6 @@ cases =
 
 pub all-pass : runAll cases ≡ cases
 unfolding be beBytes rowOf endBytes put depthIn depth tagOk lengthFor kindOk roleOk parentOk valueField rowField endField fieldAt
-    scanFrom readingOf answerOf rowCount viewOf mergedTree mergedCount normalTreeOf normalFile mergedAsked prepareAnswer
+    scanFrom readingOf answerOf rowCount mergedTree mergedCount normalTreeOf normalFile mergedAsked prepareAnswer
     zeros halfOf halvesPut pairWork lcsTree lcsCount lcsFile commonAnswer lcsAnswer lcsResult
 all-pass = refl

@@ -32,7 +32,7 @@ use Rattle.meaning.specs.Covering.{Covers}
 use Rattle.meaning.specs.Meaning.{pictureTable, pictureTree}
 use Rattle.meaning.specs.NormalTable.{normalTreeOf}
 use Rattle.picture.specs.Read.{readingOf}
-use Rattle.picture.specs.View.{Readable}
+use Rattle.picture.specs.Readable.{Readable}
 use Rattle.picture.specs.declared.read.Reading.the-variants.{Rows}
 use Rattle.table.specs.Bounds.{Bounded, pictureSize}
 use Rattle.table.specs.Layout.{endSize, numberSize, place}

@@ -27,7 +27,7 @@ use Rattle.ale.specs.Tree.{RolesKnown, Tree, size}
 use Rattle.meaning.specs.Covering.{Covers}
 use Rattle.meaning.specs.NormalTable.{normalTreeOf}
 use Rattle.picture.specs.Read.{readingOf}
-use Rattle.picture.specs.View.{Readable}
+use Rattle.picture.specs.Readable.{Readable}
 use Rattle.picture.specs.declared.answer.Refusal.{Refusal}
 use Rattle.picture.specs.declared.read.Reading.the-variants.{Rows}
 use Rattle.table.proofs.Bools.{by-test}

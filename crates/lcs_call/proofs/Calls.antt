@@ -23,7 +23,7 @@ use Rattle.meaning.specs.File.{fileOf}
 use Rattle.meaning.specs.NormalTable.{normalFile, normalTreeOf}
 use Rattle.normal.specs.Call.{shortBuffer}
 use Rattle.normal_writer.specs.Grown.{prefix}
-use Rattle.picture.specs.View.{Readable}
+use Rattle.picture.specs.Readable.{Readable}
 use Rattle.table.specs.Bounds.{Bounded, pictureSize}
 use Rattle.table.specs.Fields.{endBytes}
 use Rattle.table.specs.Layout.{endSize, «place»}

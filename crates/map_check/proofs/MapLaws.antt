@@ -20,7 +20,7 @@ use native.Mathlib.Omega.{arith}
 use Rattle.ale.specs.PictureSignature.{pictureSignature}
 use Rattle.ale.specs.RowMap.{edgeAgrees, edgeJoins, labelAgrees}
 use Rattle.meaning.specs.Meaning.{pictureTable}
-use Rattle.picture.specs.View.{rowCount, viewOf}
+use Rattle.picture.specs.Readable.{rowCount}
 use Rattle.table.proofs.Bools.{both}
 use Rattle.table.proofs.Rows.{ends-parts}
 use Rattle.table.specs.Fields.{endsAt, impossibleOf, parentOf}
@@ -42,12 +42,11 @@ image-whole e m i form l = omega (arith, ends-parts e (imagePlace m) (both (ends
 
 module _ (first second : List ℕ) (v i : ℕ) where
   pub label-marked : impossibleOf first v ≡ 1 → labelAgrees pictureSignature (pictureTable first) (pictureTable second) i v ≡ true
-  unfolding viewOf
   label-marked e = simp (eq-eqb (impossibleOf first v) 1 e)
 
   pub label-else : (carried : Bool) → (impossibleOf first v ≡ 1 → ⊥) → carried ≡ labelCarried first second i v →
       carried ≡ labelAgrees pictureSignature (pictureTable first) (pictureTable second) i v
-  unfolding viewOf labelCarried
+  unfolding labelCarried
   label-else carried d told = told ∙ simp (ne-eqb (impossibleOf first v) 1 d)
 
 -- edges
@@ -57,25 +56,21 @@ module _ (first second : List ℕ) (i u v : ℕ) where
   edge-root e = simp (eq-eqb v 0 e)
 
   pub edge-elsewhere : (parentOf first v ≡ u → ⊥) → edgeJoins pictureSignature (pictureTable first) (pictureTable second) i u v ≡ false
-  unfolding viewOf
   edge-elsewhere d = simp (ne-eqb (parentOf first v) u d, and-false)
 
   pub edge-joined : (same : Bool) → (v ≡ 0 → ⊥) → parentOf first v ≡ u → same ≡ sameEdge first second i v →
       same ≡ edgeJoins pictureSignature (pictureTable first) (pictureTable second) i u v
-  unfolding viewOf sameEdge
+  unfolding sameEdge
   edge-joined same d e told = told ∙ simp (ne-eqb v 0 d, eq-eqb (parentOf first v) u e)
 
   pub edge-stays : v ≡ u → impossibleOf first u ≡ 1 → edgeAgrees pictureSignature (pictureTable first) (pictureTable second) i u v ≡ true
-  unfolding viewOf
   edge-stays e marked = simp (eq-eqb v u e, eq-eqb (impossibleOf first u) 1 marked)
 
   module _ (joined : Bool) (told : joined ≡ edgeJoins pictureSignature (pictureTable first) (pictureTable second) i u v) where
     pub edge-apart : (v ≡ u → ⊥) → joined ≡ edgeAgrees pictureSignature (pictureTable first) (pictureTable second) i u v
-    unfolding viewOf
     edge-apart d = told ∙ simp (ne-eqb v u d, and-false)
 
     pub edge-unmarked : (impossibleOf first u ≡ 1 → ⊥) → joined ≡ edgeAgrees pictureSignature (pictureTable first) (pictureTable second) i u v
-    unfolding viewOf
     edge-unmarked d = told ∙ simp (ne-eqb (impossibleOf first u) 1 d)
 
 -- the questions in order
@@ -85,17 +80,17 @@ pub row-read : (first second e : List ℕ) (n i v u : ℕ) (label edge : Bool) �
     edge ≡ edgeAgrees pictureSignature (pictureTable first) (pictureTable second) i u v →
     rowAsked (pictureTable first) (pictureTable second) (imageOf e) i
     ≡ ask 17 (ltb v n) (ask 18 (pick (eqb i 0) (eqb v 0) true) (ask 19 label (ask 20 (pick (eqb i 0) true edge) Yes)))
-unfolding rowAsked viewOf
+unfolding rowAsked
 row-read first second e n i v u label edge counted image image-above labelled edged = rw (labelled, edged, counted, image, image-above)
 
 module _ (first second e : List ℕ) where
   pub map-starts : (m : ℕ) → m ≡ rowCount second →
       mapAsked (pictureTable first) (pictureTable second) (imageOf e) ≡ inOrder (rowAsked (pictureTable first) (pictureTable second) (imageOf e)) (m - 0) 0
-  unfolding mapAsked viewOf
+  unfolding mapAsked
   map-starts m counted = rw (sub-zero, counted)
 
   image-inside : (n i : ℕ) → n ≡ rowCount first → rowAsked (pictureTable first) (pictureTable second) (imageOf e) i ≡ Yes → imageOf e i < n
-  unfolding rowAsked viewOf
+  unfolding rowAsked
   image-inside n i counted h = rw counted (ltb-true (imageOf e i) (rowCount first) (ask-yes 17 (ltb (imageOf e i) (rowCount first)) _ h .0))
 
   pub images-on : (n i : ℕ) (answer : Asked) → n ≡ rowCount first → answer ≡ rowAsked (pictureTable first) (pictureTable second) (imageOf e) i → answer ≡ Yes →

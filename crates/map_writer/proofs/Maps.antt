@@ -28,7 +28,6 @@ use Rattle.ale.specs.Table.{successorOf}
 use Rattle.ale.specs.Tree.{sameKind}
 use Rattle.meaning.specs.Meaning.{pictureTable}
 use Rattle.row_sets.specs.Rows.{Checked}
-use Rattle.picture.specs.View.{viewOf}
 use Rattle.table.proofs.Bools.{by-test, true-is}
 use Rattle.table.proofs.Tests.{and-same}
 use Rattle.table.specs.Fields.{impossibleOf, parentOf}
@@ -74,15 +73,12 @@ module _ {s t found : List ℕ} {n m : ℕ} (first : Checked s n) (second : Chec
 
   -- the rows of the tables are those that were counted
   first-row : (i : ℕ) → i < (pictureTable s) .rows → i < n
-  unfolding viewOf
   first-row i l = rw (first .counted) l
 
   first-some : 0 < (pictureTable s) .rows
-  unfolding viewOf
   first-some = rw (sym (first .counted)) (first .some)
 
   second-row : (i : ℕ) → i < m → i < (pictureTable t) .rows
-  unfolding viewOf
   second-row i l = rw (sym (second .counted)) l
 
   -- the ranks rise from a row to what hangs from it, in either table
@@ -93,7 +89,6 @@ module _ {s t found : List ℕ} {n m : ℕ} (first : Checked s n) (second : Chec
       mapped .first-shallow .ranked .rises u v l (and-left (successorOf pictureSignature (pictureTable s) u v) serves e)
 
   parent-above : (i : ℕ) → i < m → (i ≡ 0 → ⊥) → rankₜ (parentOf t i) < rankₜ i
-  unfolding viewOf
   parent-above i l later =
       mapped .second-shallow .ranked .rises (parentOf t i) i (second-row i l)
       (successor-intro pictureSignature (pictureTable t) (parentOf t i) i later refl)
@@ -139,21 +134,17 @@ module _ {s t found : List ℕ} {n m : ℕ} (first : Checked s n) (second : Chec
 
   module _ {i u : ℕ} (l : i < m) (later : i ≡ 0 → ⊥) (above : u ≡ imageRow s t (parentOf t i)) where
     image-step : imageRow s t i ≡ nextImage pictureSignature (pictureTable s) (pictureTable t) i u
-    unfolding viewOf
     image-step =
         rw above (image-next pictureSignature (pictureTable s) (pictureTable t) (checked-parents first) (checked-parents second) i (second-row i l) later)
 
     image-stays : impossibleOf s u ≡ 1 → u ≡ imageRow s t i
-    unfolding viewOf
     image-stays marked = sym (image-step ∙ simp (eq-eqb (impossibleOf s u) 1 marked))
 
     module _ (other : impossibleOf s u ≡ 1 → ⊥) where
       image-searched : (left : ℕ) → mapped .depth ≤ rankₜ i + left → mapped .depth ≤ rankₛ u + suc left → lowestImage s t left i u ≡ imageRow s t i
-      unfolding viewOf
       image-searched left h g = search-whole left i u h g ∙ sym (image-step ∙ simp (ne-eqb (impossibleOf s u) 1 other))
 
       image-above : rankₛ u < rankₛ (imageRow s t i)
-      unfolding viewOf
       image-above =
           let v = imageRow s t i in
           let bottom = eqb (impossibleOf s u) 1 in
@@ -164,7 +155,6 @@ module _ {s t found : List ℕ} {n m : ℕ} (first : Checked s n) (second : Chec
 
       reached-next : (left : ℕ) → mapped .depth ≤ rankₜ (parentOf t i) + left → mapped .depth ≤ rankₛ u + left →
           Found s t found left (parentOf t i) u → (getD found i 0 ≡ imageRow s t i) × Reached i (imageRow s t i)
-      unfolding viewOf
       reached-next zero h g f =
           let up = parent-above i l later in
           let cap = mapped .second-shallow .ranked .capped i (second-row i l) in
@@ -222,5 +212,5 @@ module _ {s t found : List ℕ} {n m : ℕ} (first : Checked s n) (second : Chec
         reached-next l later above other (r .left) (r .row-deep) (r .image-deep other) (r .below) .0
 
 pub lowestMap-counted : (s : List ℕ) {t : List ℕ} {m : ℕ} → Checked t m → lowestMap (pictureTable s) (pictureTable t) ≡ mapFile m (imageRow s t)
-unfolding lowestMap viewOf
+unfolding lowestMap
 lowestMap-counted s {t} checked = ap (λ (rows : ℕ). mapFile rows (imageRow s t)) (sym (checked .counted))

@@ -15,7 +15,7 @@ use Rattle.table.specs.NameSet.{has}
 use Rattle.table.specs.Number.{be, beBytes}
 use Rattle.ale.specs.PictureSignature.{pictureSignature}
 use Rattle.ale.specs.Tree.{Tree, cons, exists, forAll, nil, node}
-use Rattle.picture.specs.View.{rowCount, viewOf}
+use Rattle.picture.specs.Readable.{rowCount}
 use Rattle.meaning.specs.Meaning.{pictureTree, setAt}
 use Rattle.meaning.specs.NormalTable.{mergedCount, mergedTree, normalFile, normalTreeOf}
 
@@ -27,7 +27,7 @@ abbrev dropped : List ℕ
 dropped = empty ++ (rowOf 0 2 8 0 0 0 ++ endBytes)
 
 pub count-dropped : mergedCount benchLimits dropped ≡ 2
-unfolding be beBytes rowOf endBytes rowCount viewOf mergedTree mergedCount
+unfolding be beBytes rowOf endBytes rowCount mergedTree mergedCount
 count-dropped = refl
 
 -- a marked root with some r(some s{})
@@ -35,7 +35,7 @@ abbrev broken : List ℕ
 broken = rowOf 0 0 0 1 0 0 ++ (rowOf 0 1 8 0 0 0 ++ (rowOf 1 1 9 0 0 0 ++ endBytes))
 
 pub count-below : mergedCount benchLimits broken ≡ 3
-unfolding be beBytes rowOf endBytes rowCount viewOf mergedTree mergedCount
+unfolding be beBytes rowOf endBytes rowCount mergedTree mergedCount
 count-below = refl
 
 -- all r(some s{1}), some r{2}
@@ -43,7 +43,7 @@ abbrev copied : List ℕ
 copied = empty ++ (rowOf 0 2 8 0 0 0 ++ (rowOf 1 1 9 0 2 0 ++ (rowOf 0 1 8 0 4 0 ++ endBytes)))
 
 pub count-copied : mergedCount benchLimits copied ≡ 5
-unfolding be beBytes rowOf endBytes rowCount viewOf mergedTree mergedCount
+unfolding be beBytes rowOf endBytes rowCount mergedTree mergedCount
 count-copied = refl
 
 -- all r{3}, all r impossible: one all-successor, marked and without names
@@ -51,7 +51,7 @@ abbrev marks : List ℕ
 marks = empty ++ (rowOf 0 2 8 0 8 0 ++ (rowOf 0 2 8 1 0 0 ++ endBytes))
 
 pub normal-marks : normalFile benchLimits marks ≡ empty ++ (rowOf 0 2 8 1 0 0 ++ endBytes)
-unfolding be beBytes rowOf endBytes rowCount viewOf normalTreeOf normalFile
+unfolding be beBytes rowOf endBytes rowCount normalTreeOf normalFile
 normal-marks = refl
 
 -- some r{}, twice: equal ones are kept apart
@@ -59,7 +59,7 @@ abbrev twice : List ℕ
 twice = empty ++ (rowOf 0 1 8 0 0 0 ++ (rowOf 0 1 8 0 0 0 ++ endBytes))
 
 pub normal-some : normalFile benchLimits twice ≡ twice
-unfolding be beBytes rowOf endBytes rowCount viewOf normalTreeOf normalFile
+unfolding be beBytes rowOf endBytes rowCount normalTreeOf normalFile
 normal-some = refl
 
 -- {1}, some r{} below it, excluding 2, with all s impossible below that
@@ -67,5 +67,5 @@ abbrev said : List ℕ
 said = rowOf 0 0 0 0 2 0 ++ (rowOf 0 1 8 0 0 4 ++ (rowOf 1 2 9 1 0 0 ++ endBytes))
 
 pub means-names : pictureTree benchLimits said ≡ node (record { wanted = setAt 2; excluded = setAt 0; bottom = false }) (cons exists 8 (node (record { wanted = setAt 0; excluded = setAt 4; bottom = false }) (cons forAll 9 (node (record { wanted = setAt 0; excluded = setAt 0; bottom = true }) nil) nil)) nil)
-unfolding be beBytes rowOf endBytes rowCount viewOf
+unfolding be beBytes rowOf endBytes rowCount
 means-names = refl

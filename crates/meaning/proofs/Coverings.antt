@@ -9,7 +9,7 @@ use mathlib.Core.Path.{_∙_, _≡_, sym}
 use Rattle.ale.proofs.Concepts.{subsumed-concepts}
 use Rattle.ale.proofs.Subsumption.{subsumption-homomorphism}
 use Rattle.ale.specs.PictureSignature.{pictureSignature}
-use Rattle.picture.specs.View.{Readable}
+use Rattle.picture.specs.Readable.{Readable}
 use Rattle.table.proofs.Bools.{by-test, is-true, true-is}
 use Rattle.table.specs.declared.layout.Limits.{Limits}
 use Rattle.meaning.specs.Covering.{Covers, covers}

@@ -21,7 +21,6 @@ use Rattle.ale.specs.Encoding.{Row, tableOf}
 use Rattle.ale.specs.PictureSignature.{NameSet, below, pictureSignature}
 use Rattle.ale.specs.Table.{ParentsFirst, treeOf}
 use Rattle.ale.specs.Tree.{Kind, Label, exists, forAll}
-use Rattle.picture.specs.View.{viewOf}
 use Rattle.table.specs.Layout.{nameCount, numberSize}
 use Rattle.meaning.specs.File.{fileOf, kindCode, markCode}
 use Rattle.meaning.specs.Meaning.{kindAt, pictureTable, setAt}
@@ -56,7 +55,6 @@ parents-fit ws up few j l z = omega (arith, up j l z)
 
 module _ (ws : List (Row pictureSignature)) (fit : ParentsFit ws) where
   pub file-table : SameTable pictureSignature (pictureTable (fileOf ws)) (tableOf pictureSignature ws)
-  unfolding viewOf
   file-table =
       let n = rowCount-fileOf ws in
       record {

@@ -13,7 +13,7 @@ use native.Mathlib.Nat.{add-zero, zero-add}
 use native.Mathlib.Omega.{arith}
 use Rattle.ale.specs.Encoding.{Row, noRow}
 use Rattle.ale.specs.PictureSignature.{below, pictureSignature}
-use Rattle.picture.specs.View.{rowCount}
+use Rattle.picture.specs.Readable.{rowCount}
 use Rattle.table.proofs.Rows.{HoldsRow, Same, held-excluded, held-impossible, held-kind, held-length, held-parent, held-role, held-tag, held-wanted, length-endBytes, length-rowOf, same-after, same-first}
 use Rattle.table.specs.Fields.{endBytes, excludedOf, impossibleOf, kindOf, lengthOf, parentOf, roleOf, tagOf, wantedOf}
 use Rattle.table.specs.Layout.{endSize, numberSize, place, rowLength, rowSize, rowTag}

@@ -28,7 +28,7 @@ use Rattle.ale.specs.Structure.{SubsumedInAll}
 use Rattle.ale.specs.Table.{tree}
 use Rattle.ale.specs.Tree.{RolesKnown, exists, height, size}
 use Rattle.picture.specs.Read.{readingOf}
-use Rattle.picture.specs.View.{Readable}
+use Rattle.picture.specs.Readable.{Readable}
 use Rattle.table.specs.Bounds.{Bounded, pictureSize}
 use Rattle.table.specs.Layout.{endSize, numberSize, place}
 use Rattle.table.specs.declared.layout.Limits.{Limits}

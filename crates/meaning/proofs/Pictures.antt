@@ -17,7 +17,7 @@ use Rattle.ale.specs.Table.{KnownRoles, ParentsFirst, tree}
 use Rattle.ale.specs.Tree.{size}
 use Rattle.picture.proofs.Readables.{readable-depth, readable-depth-under, readable-parent, readable-role}
 use Rattle.picture.specs.Depth.{depth}
-use Rattle.picture.specs.View.{Readable, viewOf}
+use Rattle.picture.specs.Readable.{Readable}
 use Rattle.table.specs.Fields.{parentOf}
 use Rattle.table.specs.declared.layout.Limits.{Limits}
 use Rattle.meaning.specs.Meaning.{pictureTable, pictureTree}
@@ -25,15 +25,12 @@ use Rattle.meaning.specs.NormalTable.{mergedCount, mergedTree}
 
 module _ (limits : Limits) (s : List ℕ) (readable : Readable limits s) where
   pub picture-known : KnownRoles pictureSignature (pictureTable s)
-  unfolding viewOf
   picture-known j l = readable-role limits s readable j l
 
   pub picture-parents : ParentsFirst pictureSignature (pictureTable s)
-  unfolding viewOf
   picture-parents j l z = readable-parent limits s readable j z l
 
   pub picture-ranked : Ranked pictureSignature (pictureTable s) (depth (parentOf s)) (limits .depth)
-  unfolding viewOf
   picture-ranked =
       ranked-by-depth pictureSignature (pictureTable s) (depth (parentOf s)) (limits .depth)
       (λ j l z. omega (arith, readable-depth-under limits s readable j z l)) (readable-depth limits s readable)

@@ -30,7 +30,6 @@ use Rattle.ale.specs.Table.{ParentsFirst, successors}
 use Rattle.ale.specs.Tree.{Forest, Tree, any, exists, forAll}
 use Rattle.meaning.specs.Meaning.{pictureTable}
 use Rattle.row_sets.specs.Rows.{Checked}
-use Rattle.picture.specs.View.{viewOf}
 use Rattle.table.specs.Bounds.{maxRows}
 use Rattle.table.specs.Fields.{kindOf, parentOf, roleOf}
 use Rattle.table.specs.Layout.{kindForAll}
@@ -54,7 +53,7 @@ refutation-has e links n k r l = (omega (arith, r .all .most), omega (arith, r .
 
 module _ (t e reached : List ℕ) (n rows w i : ℕ) (refutation : Refutation e n reached) (checked : Checked t rows) where
   fits-split : fitsRow t w e i ≡ (satisfiesRow t w e i && belowFits t w e i)
-  unfolding fitsRow satisfiesRow belowFits viewOf
+  unfolding fitsRow satisfiesRow belowFits
   fits-split =
       ap₂ (fitsTest pictureSignature)
       (whole-step pictureSignature (pictureTable t) (checked-parents checked) w)
@@ -82,7 +81,7 @@ pub record BelowAt (t : List ℕ) (rows w : ℕ) (e : List ℕ) (i c : ℕ) : Ty
 
 module _ (t e links : List ℕ) (rows w i : ℕ) (checked : Checked t rows) (linked : Linked (parentOf t) rows maxRows links) where
   below-all : w < rows → belowFits t w e i ≡ belowFrom t rows w e i (getD links w 0)
-  unfolding belowFits belowFrom viewOf
+  unfolding belowFits belowFrom
   below-all l =
       ap (fitsRows t e i)
       (ap (λ m. filterBelow (childOf (parentOf t) w) m) (sym (checked .counted)) ∙ chain-first (parentOf t) rows w maxRows links linked l)
@@ -93,7 +92,7 @@ module _ (t e links : List ℕ) (rows w i : ℕ) (checked : Checked t rows) (lin
 
   module _ (c : ℕ) (z : c ≡ 0 → ⊥) (at : BelowAt t rows w e i c) where
     below-turn : belowFrom t rows w e i c ≡ (reachedFits t c e i && belowFrom t rows w e i (getD links (maxRows + c) 0))
-    unfolding belowFrom reachedFits viewOf
+    unfolding belowFrom reachedFits
     below-turn =
         ap (fitsRows t e i) (chain-next (parentOf t) rows w maxRows links linked c z (at .on))
 
@@ -143,7 +142,7 @@ pub record MeetsAt (every : Bool) (t : List ℕ) (c : ℕ) (e : List ℕ) (n i j
 
 module _ (every : Bool) (t e links : List ℕ) (n c i : ℕ) (refutation : Refutation e n links) where
   meets-all : i < n → every ≡ eqb (kindOf t c) kindForAll → reachedFits t c e i ≡ differs every (meetsFrom every t c e n i (getD links i 0))
-  unfolding reachedFits meetsFrom viewOf
+  unfolding reachedFits meetsFrom
   meets-all l k =
       rw (sym k)
       (restriction-differs pictureSignature every (roleOf t c) (fitsTest pictureSignature (rowTree (pictureTable t) c)) (reachedForest e i)
@@ -173,7 +172,7 @@ module _ (every : Bool) (t e links : List ℕ) (n c i : ℕ) (refutation : Refut
     decided s by r same asks e is h = rw (sym same, sym asks, eq-eqb s by e, sym is, differs-from every r, h)
 
     meets-turn : meetsFrom every t c e n i j ≡ (decides || meetsFrom every t c e n i (getD links (mostIndividuals + j) 0))
-    unfolding meetsFrom fitsRow viewOf
+    unfolding meetsFrom fitsRow
     meets-turn =
         ap (meetsOne every t c e) (chain-next (individualParent e) n i mostIndividuals links (refutation .linked) j z (at .on))
 

@@ -21,7 +21,7 @@ ghost use lib.ListN.{length};
 ghost use Rattle.table.specs.Bounds.{Bounded};
 ghost use Rattle.table.specs.Put.{put, zeros};
 ghost use Rattle.picture.specs.Read.{answerOf};
-ghost use Rattle.picture.specs.View.{Readable};
+ghost use Rattle.picture.specs.Readable.{Readable};
 ghost use Rattle.workspace.specs.Prepare.{workSize};
 ghost use Rattle.book.specs.Call.{askedFrom, cardRead, mostSpecificAnswer, mostSpecificWork, onAsked, onSelected};
 ghost use Rattle.book.specs.Form.{card};

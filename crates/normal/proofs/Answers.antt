@@ -17,7 +17,7 @@ use native.Mathlib.Omega.{arith}
 use Rattle.meaning.proofs.Normals.{normal-size}
 use Rattle.meaning.specs.NormalTable.{mergedCount, normalFile}
 use Rattle.picture.specs.Read.{answerOf, answered, readingOf}
-use Rattle.picture.specs.View.{Readable}
+use Rattle.picture.specs.Readable.{Readable}
 use Rattle.table.proofs.Puts.{length-put, put-after}
 use Rattle.table.specs.Bounds.{pictureSize}
 use Rattle.table.specs.Pick.{pick}

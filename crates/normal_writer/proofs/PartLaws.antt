@@ -30,7 +30,7 @@ use Rattle.ale.specs.Rows.{filterBelow, filterFrom, member, withRow}
 use Rattle.ale.specs.Tree.{Forest, Kind, Tree, cons, exists, forAll, nil, node, sameKind, sizes}
 use Rattle.ale.proofs.Appends.{byRole-more, byRole-same, sizes-append}
 use Rattle.ale.proofs.RowLists.{filterBelow-in, filterFrom-none, filterFrom-split}
-use Rattle.picture.specs.View.{rowCount, viewOf}
+use Rattle.picture.specs.Readable.{rowCount}
 use Rattle.meaning.specs.File.{codeAt, kindCode}
 use Rattle.meaning.specs.Meaning.{kindAt, pictureTable}
 use Rattle.normal_writer.specs.Parts.{existsPartAt, mergedAt, partsAt, rolesAt, successorsAt, valuePartAt}
@@ -104,7 +104,7 @@ module _ (s : List ℕ) (rows : ℕ) (checked : Checked s rows) (q : ℕ → Boo
   hangs-set j l false e = member-filter q rows (parentOf s j) (omega (arith, checked .parents j (eqb-false j 0 e) l))
 
   successor-test : (j : ℕ) → j < rows → successorOfSet pictureSignature (pictureTable s) set j ≡ hangs s q j
-  unfolding viewOf hangs
+  unfolding hangs
   successor-test j l = hangs-set j l (eqb j 0) refl
 
   -- a row that hangs is not row 0, so its kind is one of two
@@ -119,7 +119,6 @@ module _ (s : List ℕ) (rows : ℕ) (checked : Checked s rows) (q : ℕ → Boo
   kind-hangs k r j l false e = sym (and-none-two (eqb (kindOf s j) (kindCode k)) r)
 
   rows-below : (k : Kind) (role : ℕ) (t : ℕ → Bool) → ((r : ℕ) → t r ≡ eqb r role) → rowsBelow pictureSignature (pictureTable s) set k t ≡ filterBelow (ofKind s (kindCode k) (ofRole s role (hangs s q))) rows
-  unfolding viewOf
   rows-below k role t e =
       ap (filterBelow _) (sym (checked .counted))
       ∙ filter-same _ (ofKind s (kindCode k) (ofRole s role (hangs s q))) rows
@@ -141,7 +140,7 @@ module _ (s : List ℕ) (rows : ℕ) (checked : Checked s rows) (q : ℕ → Boo
       (existsParts pictureSignature role (λ j. merged pictureSignature (pictureTable s) depth (withRow n j v)) e)
 
   parts-are : (depth role : ℕ) → roleParts pictureSignature (pictureTable s) (λ t. merged pictureSignature (pictureTable s) depth t) set role ≡ partsAt s rows depth role (ofRole s role (hangs s q))
-  unfolding partsAt existsPartAt mergedAt viewOf
+  unfolding partsAt existsPartAt mergedAt
   parts-are depth role =
       let v = ofKind s kindForAll (ofRole s role (hangs s q)) in
       let e = filterBelow (ofKind s kindExists (ofRole s role (hangs s q))) rows in

@@ -11,7 +11,6 @@ use Rattle.picture.specs.declared.read.Reading.the-variants.{Rows, Faile
 use Rattle.picture.specs.Depth.{depthIn, depth}
 use Rattle.picture.specs.Questions.{tagOk, lengthFor, kindOk, roleOk, parentOk, valueField, rowField, endField, fieldAt}
 use Rattle.picture.specs.Read.{scanFrom, readingOf}
-use Rattle.picture.specs.View.{View, viewOf, rowCount}
 
 pub data Case : Type 0 where
   case : List ℕ → Reading → Case
@@ -76,20 +75,3 @@ cases =
 pub all-pass : runAll cases ≡ cases
 unfolding be depthIn depth tagOk lengthFor kindOk roleOk parentOk valueField rowField endField fieldAt scanFrom readingOf
 all-pass = refl
-
--- ---- a view, with another value in every part of its last row
-
-abbrev labelled : List ℕ
-labelled =
-    root
-    ++ (row 0 1 8 0
-    ++ (row 0 1 8 0
-    ++ (row 0 1 8 0
-    ++ ((0x10 ∷ 0 ∷ 0x15 ∷ 0 ∷ 3 ∷ 2 ∷ 9 ∷ 1 ∷ replicate 7 0) ++ ((8 ∷ replicate 7 0) ++ (32 ∷ end))))))
-
-abbrev pub parts : View → ℕ → List ℕ
-parts v k = v .rows ∷ v .parent k ∷ v .kind k ∷ v .role k ∷ v .impossible k ∷ v .wanted k ∷ v .excluded k ∷ []
-
-pub view-parts : parts (viewOf labelled) 4 ≡ 5 ∷ 3 ∷ 2 ∷ 9 ∷ 1 ∷ 8 ∷ 32 ∷ []
-unfolding be rowCount viewOf
-view-parts = refl

@@ -34,7 +34,7 @@ use Rattle.picture.specs.declared.read.Reading.the-variants as reading
 use Rattle.picture.specs.Depth.{depth}
 use Rattle.picture.specs.Questions.{fieldAt}
 use Rattle.picture.specs.Read.{onField, scanFrom, readingOf, answered, answerOf}
-use Rattle.picture.specs.View.{Readable, rowCount}
+use Rattle.picture.specs.Readable.{Readable, rowCount}
 use Rattle.picture.proofs.Depths.{depth-under}
 use Rattle.picture.proofs.Scans.{rest-same}
 use Rattle.picture.proofs.Questions.{kind-root, kind-later, role-root, role-below, parent-root, parent-below, depth-most, impossible-most}

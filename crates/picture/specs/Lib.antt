@@ -2,4 +2,4 @@
 pub mod Depth
 pub mod Questions
 pub mod Read
-pub mod View
+pub mod Readable

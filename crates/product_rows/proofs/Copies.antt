@@ -20,7 +20,6 @@ use Rattle.meaning.specs.Meaning.{kindAt, pictureTable}
 use Rattle.row_sets.specs.declared.label.Label.{Label}
 use Rattle.normal_writer.specs.declared.node.Edge.{Edge}
 use Rattle.homomorphism_search.specs.Search.{LinkedTable, RowLabel, treeAt}
-use Rattle.picture.specs.View.{viewOf}
 use Rattle.product_rows.specs.Grown.{Grown, Pushed, Room}
 use Rattle.product_rows.specs.Siblings.{forestFrom, forestOf}
 use Rattle.product_rows.proofs.Growth.{Onward, grown-nil, grown-over, grown-same, onward-end, onward-start}
@@ -78,7 +77,6 @@ module _ (t links : List ℕ) (rows v depth limit parent : ℕ) (table : LinkedT
 pub rows-parts : (t links : List ℕ) (rows depth c : ℕ) → LinkedTable t rows links → (c ≡ 0 → ⊥) → c < rows → (kind role v : ℕ) → kind ≡ kindOf t c →
     role ≡ roleOf t c → v ≡ getD links (maxRows + c) 0 →
     forestFrom t rows depth c ≡ append pictureSignature (cons (kindAt kind) role (treeAt t depth c) nil) (forestFrom t rows depth v)
-unfolding viewOf
 rows-parts t links rows depth c table z l kind role v k r link =
     ap (forestOf t depth) (siblings-next t links rows table c z l v link)
     ∙ ap (λ x. cons (kindAt x) (roleOf t c) (treeAt t depth c) (forestFrom t rows depth v)) (sym k)

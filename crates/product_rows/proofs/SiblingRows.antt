@@ -33,7 +33,6 @@ use Rattle.ale.specs.Tree.{Forest, Kind, Label, Tree, cons, nil, node, successo
 use Rattle.meaning.specs.Meaning.{pictureTable}
 use Rattle.homomorphism_search.proofs.Walks.{chain-less, successors-ahead}
 use Rattle.homomorphism_search.specs.Search.{LinkedTable, treeAt}
-use Rattle.picture.specs.View.{viewOf}
 use Rattle.product_rows.specs.Siblings.{Trim, TrimAll, dropLower, forestOf, keyAt, siblings}
 use Rattle.product_rows.specs.Siblings.{Kept}
 
@@ -96,7 +95,7 @@ module _ (k : Kind) (r : ℕ) (x : Tree pictureSignature) (f : Forest pictureSig
 -- ---- the order of edges
 
 pub key-is : (t : List ℕ) (e : ℕ) → keyAt t e ≡ edgeKey ((pictureTable t) .kind e) ((pictureTable t) .role e)
-unfolding keyAt viewOf
+unfolding keyAt
 key-is t e = refl
 
 module _ (t : List ℕ) (key : ℕ) where

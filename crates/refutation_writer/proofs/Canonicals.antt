@@ -25,7 +25,6 @@ use Rattle.homomorphism_search.proofs.Labels.{Read, low-same}
 use Rattle.homomorphism_search.specs.Search.{LinkedTable, treeAt}
 use Rattle.meaning.specs.Meaning.{pictureTable, setAt}
 use Rattle.row_sets.specs.Rows.{Checked}
-use Rattle.picture.specs.View.{viewOf}
 use Rattle.table.specs.Bounds.{maxRows}
 use Rattle.table.specs.Fields.{kindOf, roleOf, wantedOf}
 use Rattle.table.specs.Layout.{kindExists}
@@ -42,7 +41,7 @@ canonicalRows s depth vs = canonicalAll pictureSignature (successors pictureSign
 module _ (s : List ℕ) where
   pub canonical-tree : (depth u : ℕ) →
       canonicalTree s depth u ≡ individual pictureSignature (setAt (wantedOf s u)) (canonicalBelow s depth u)
-  unfolding canonicalTree canonicalBelow viewOf
+  unfolding canonicalTree canonicalBelow
   canonical-tree zero u = refl
   canonical-tree (suc depth) u = refl
 
@@ -77,11 +76,11 @@ module _ (s : List ℕ) where
 
     pub canonical-some : (v parent k : ℕ) → kindOf s v ≡ kindExists →
         reachedAll (canonicalRows s depth (v ∷ [])) parent k ≡ reachedTree (canonicalTree s depth v) parent (roleOf s v) k
-    unfolding canonicalRows canonicalTree viewOf
+    unfolding canonicalRows canonicalTree
     canonical-some v parent k e = rw e (append-nil (reachedTree (canonical pictureSignature (treeAt s depth v)) parent (roleOf s v) k))
 
     pub canonical-all : (rows v : ℕ) → Checked s rows → (v ≡ 0 → ⊥) → v < rows → (kindOf s v ≡ kindExists → ⊥) → canonicalRows s depth (v ∷ []) ≡ nil
-    unfolding canonicalRows viewOf
+    unfolding canonicalRows
     canonical-all rows v checked z l other = ⊎-elim (λ e. absurd (other e)) (λ e. rw e) (checked .kinds v z l)
 
 -- ---- one individual, and what hangs from it

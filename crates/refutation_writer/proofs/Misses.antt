@@ -26,7 +26,6 @@ use Rattle.homomorphism_search.proofs.Searches.{edge-bytes}
 use Rattle.homomorphism_search.specs.Search.{Hangs, Missed, MissedBelow, edgeServed, firstFailing, labelCarried, sameEdge, unservedRow}
 use Rattle.meaning.specs.Meaning.{pictureTable}
 use Rattle.row_sets.specs.Rows.{Checked}
-use Rattle.picture.specs.View.{viewOf}
 use Rattle.table.proofs.Bools.{is-true}
 use Rattle.table.specs.Fields.{kindOf, parentOf, roleOf}
 use Rattle.table.specs.Layout.{kindExists, kindForAll}
@@ -37,7 +36,6 @@ use Rattle.refutation_writer.proofs.Refutings.{falsified-none, falsifie
 -- ---- rows that hang from a row
 
 row-hangs : (s : List ℕ) (u v : ℕ) → T (member v (successorRows pictureSignature (pictureTable s) u)) → Hangs s u v
-unfolding viewOf
 row-hangs s u v is =
     let (hangs, inside) = filterBelow-out (successorOf pictureSignature (pictureTable s) u) ((pictureTable s) .rows) v is in
     (successor-nonzero pictureSignature (pictureTable s) u v hangs, inside, successor-parent pictureSignature (pictureTable s) u v hangs)

@@ -36,7 +36,6 @@ use Rattle.ale.specs.Tree.{Forest, Kind, Tree, cons, exists, forAll, nil, succe
 use Rattle.homomorphism_search.proofs.Labels.{Read, low-same}
 use Rattle.homomorphism_search.specs.Search.{LinkedTable, edgeServed, firstFailing, forestAt, labelCarried, treeAt, unservedRow}
 use Rattle.meaning.specs.Meaning.{kindAt, pictureTable, setAt}
-use Rattle.picture.specs.View.{viewOf}
 use Rattle.table.proofs.Bools.{both, by-test}
 use Rattle.table.proofs.NameSets.{subset-none}
 use Rattle.table.specs.Bounds.{maxRows}
@@ -85,7 +84,7 @@ module _ (s t : List ℕ) (d w u : ℕ) where
       (individual pictureSignature (setAt (wantedOf s u)) (falsifiedBelow s t d w u))
       (individual pictureSignature (pictureSignature .complement (setAt (excludedOf s u))) (canonicalBelow s d u)))
       (individual pictureSignature (setAt (wantedOf s u)) (canonicalBelow s d u))
-  unfolding againstTree canonicalBelow falsifiedBelow viewOf wantedWithin
+  unfolding againstTree canonicalBelow falsifiedBelow wantedWithin
   against-names =
       ap₂ (countermodel pictureSignature) (treeOf-node pictureSignature (pictureTable t) d w) (treeOf-node pictureSignature (pictureTable s) d u)
 
@@ -109,7 +108,7 @@ module _ (s t : List ℕ) (d w u : ℕ) where
       against-below g = against-names ∙ rw (within-is ∙ h, excluded-is ∙ g)
 
       pub against-carried : q ≡ true → labelCarried s t w u ≡ true
-      unfolding labelCarried viewOf wantedWithin
+      unfolding labelCarried wantedWithin
       against-carried g =
           let (wants, other) = both (subset (wantedOf t w % 2 ^ nameCount) (wantedOf s u % 2 ^ nameCount)) (not (eqb (impossibleOf t w) 1)) (within-is ∙ h) in
           rw (wants, excluded-is ∙ g, other)
@@ -133,7 +132,7 @@ module _ (s t : List ℕ) (d u : ℕ) where
     falsified-rows : falsifiedBelow s t depth w u
         ≡ pick (eqb c 0) (canonicalBelow s depth u)
         (falsify pictureSignature (kindAt (kindOf t c)) (roleOf t c) (λ x. countermodel pictureSignature (treeAt t d c) x) (forestAt s d u))
-    unfolding falsifiedBelow canonicalBelow unservedRow viewOf
+    unfolding falsifiedBelow canonicalBelow unservedRow
     falsified-rows = rw (deeper, is) (falsify-rows (successorRows pictureSignature (pictureTable t) w) (rows-no-root t w))
 
     pub falsified-none : c ≡ 0 → falsifiedBelow s t depth w u ≡ canonicalBelow s depth u
@@ -157,7 +156,6 @@ falsified-zero s t depth w u z = rw z
 value-rows : (s : List ℕ) (h : ℕ → Tree pictureSignature) (role : ℕ) (rows : List ℕ) → NoRoot rows →
     valueOf pictureSignature role (successors pictureSignature (pictureTable s) h rows)
     ≡ pick (eqb (firstValue s role rows) 0) (top pictureSignature) (h (firstValue s role rows))
-unfolding viewOf
 value-rows s h role [] apart = refl
 value-rows s h role (v ∷ rows) apart =
     let later = value-rows s h role rows (λ j is. apart j (member-tail j v rows is)) in
@@ -193,7 +191,7 @@ module _ (t : List ℕ) (d w : ℕ) where
       (individual pictureSignature (pictureSignature .none) (topBelow t d w))
       (individual pictureSignature (pictureSignature .complement (pictureSignature .none)) nil))
       (individual pictureSignature (pictureSignature .none) nil)
-  unfolding againstTop topBelow viewOf wantedWithin
+  unfolding againstTop topBelow wantedWithin
   top-names = ap (λ x. countermodel pictureSignature x (top pictureSignature)) (treeOf-node pictureSignature (pictureTable t) d w)
 
   module _ (empty : ℕ) (empty-is : empty ≡ none) (r : Bool) (is : r ≡ wantedWithin t w empty) where
@@ -234,7 +232,6 @@ module _ (t links : List ℕ) (m depth d w c : ℕ) (table : LinkedTable t m lin
 
     module _ (kind : ℕ) (kind-is : kind ≡ kindOf t c) where
       top-next : topBelow t depth w ≡ falsify pictureSignature (kindAt kind) (roleOf t c) (λ x. countermodel pictureSignature (treeAt t d c) x) nil
-      unfolding viewOf
       top-next =
           top-rows
           ∙ rw kind-is
@@ -273,14 +270,14 @@ module _ (s t : List ℕ) (d c : ℕ) where
 
   module _ (v kind : ℕ) (kind-is : kind ≡ kindOf s v) where
     pub realized-all : kind ≡ kindForAll → realizedRows s t d c (v ∷ []) ≡ nil
-    unfolding realizedRows viewOf
+    unfolding realizedRows
     realized-all e = rw (sym kind-is, eq-eqb kind kindForAll e)
 
     module _ (some : kind ≡ kindForAll → ⊥) (role by : ℕ) (role-is : role ≡ roleOf s v) (by-is : by ≡ roleOf t c) where
       pub realized-same : role ≡ by → realizedRows s t d c (v ∷ []) ≡ cons exists role (againstTree s t d c v) nil
-      unfolding realizedRows againstTree viewOf
+      unfolding realizedRows againstTree
       realized-same e = rw (sym kind-is, ne-eqb kind kindForAll some, sym role-is, sym by-is, eq-eqb role by e)
 
       pub realized-other : (role ≡ by → ⊥) → realizedRows s t d c (v ∷ []) ≡ cons exists role (canonicalTree s d v) nil
-      unfolding realizedRows canonicalTree viewOf
+      unfolding realizedRows canonicalTree
       realized-other e = rw (sym kind-is, ne-eqb kind kindForAll some, sym role-is, sym by-is, ne-eqb role by e)

@@ -5,7 +5,7 @@ use mathlib.Core.Path.{_≡_, sym}
 use native.Mathlib.Omega.{arith}
 use Rattle.picture.proofs.Readables.{readable-count, readable-kind, readable-length, readable-most, readable-parent, readable-role, readable-some}
 use Rattle.picture.specs.Read.{readingOf}
-use Rattle.picture.specs.View.{Readable}
+use Rattle.picture.specs.Readable.{Readable}
 use Rattle.table.specs.Bounds.{Bounded}
 use Rattle.table.specs.declared.layout.Limits.{Limits}
 use Rattle.picture.specs.declared.read.Reading.the-variants.{Rows}

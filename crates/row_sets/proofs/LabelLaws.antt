@@ -23,7 +23,6 @@ use Rattle.ale.specs.Signature.{Signature}
 use Rattle.ale.specs.Table.{Table}
 use Rattle.ale.specs.Tree.{Label, emptyLabel}
 use Rattle.meaning.specs.Meaning.{pictureTable}
-use Rattle.picture.specs.View.{viewOf}
 use Rattle.table.proofs.Bools.{either}
 use Rattle.table.proofs.NameSets.{has-union, set-ext}
 use Rattle.table.specs.Fields.{impossibleOf, parentOf}
@@ -87,7 +86,6 @@ union-again a b =
 pub label-with : (s : List ℕ) (rows : ℕ) (q : ℕ → Bool) (values : Values) (c : ℕ) (r : code.Label) → c < rows →
     Valued s rows q values → Joined s c (values .label) r →
     LabelIs r (labelOfSet pictureSignature (pictureTable s) (filterBelow (also c q) rows))
-unfolding viewOf
 label-with s rows q values c r l valued joined =
     record {
       wanted-is = part-joined pictureSignature (pictureTable s) (λ m. m .wanted .set) union (λ m n. refl) union-swap union-again q c rows

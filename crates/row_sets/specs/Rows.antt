@@ -23,7 +23,7 @@ use Rattle.table.specs.Layout.{kindExists, kindForAll, «place», roles}
 use Rattle.table.specs.Links.{Linked}
 use Rattle.table.specs.NameSet.{has}
 use Rattle.table.specs.Pick.{pick}
-use Rattle.picture.specs.View.{rowCount}
+use Rattle.picture.specs.Readable.{rowCount}
 use Rattle.row_sets.specs.declared.rows.Successors.{Successors}
 use Rattle.row_sets.specs.declared.rows.RowSet.{RowSet}
 

@@ -31,7 +31,7 @@ use Rattle.meaning.specs.NormalTable.{normalFile, normalTreeOf}
 use Rattle.normal.specs.Call.{shortBuffer}
 use Rattle.row_sets.specs.Rows.{Checked}
 use Rattle.picture.specs.Depth.{depth}
-use Rattle.picture.specs.View.{Readable, viewOf}
+use Rattle.picture.specs.Readable.{Readable}
 use Rattle.table.specs.Fields.{parentOf}
 use Rattle.table.specs.Bounds.{Bounded}
 use Rattle.table.specs.Layout.{endSize}
@@ -104,7 +104,6 @@ module _ (limits : Limits) (first second : List ℕ) (bounded : Bounded limits) 
 
 module _ (s t : List ℕ) (depth : ℕ) where
   pub map-fits : (m room : ℕ) → Checked t m → Settled s t depth room → imagePlace m + endSize ≤ room
-  unfolding viewOf
   map-fits m room checked settled = omega (arith, checked .counted, settled .map-room)
 
   -- what the search said

@@ -41,7 +41,7 @@ use Rattle.meaning.specs.Covering.{Covers}
 use Rattle.meaning.specs.Meaning.{pictureTable, pictureTree}
 use Rattle.meaning.specs.NormalTable.{mergedCount, normalFile}
 use Rattle.meaning.proofs.Pictures.{count-whole, picture-whole}
-use Rattle.picture.specs.View.{Readable}
+use Rattle.picture.specs.Readable.{Readable}
 use Rattle.table.proofs.Bools.{by-test}
 use Rattle.table.specs.Bounds.{Bounded, benchLimits}
 use Rattle.table.specs.Number.{Bytes}

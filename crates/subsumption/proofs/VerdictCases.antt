@@ -15,7 +15,7 @@ use Rattle.table.specs.declared.layout.Limits.{Limits}
 use Rattle.picture.specs.Depth.{depth, depthIn}
 use Rattle.picture.specs.Questions.{endField, fieldAt, kindOk, lengthFor, parentOk, roleOk, rowField, tagOk, valueField}
 use Rattle.picture.specs.Read.{answerOf, readingOf, scanFrom}
-use Rattle.picture.specs.View.{rowCount, viewOf}
+use Rattle.picture.specs.Readable.{rowCount}
 use Rattle.picture.specs.declared.answer.Input.{Input}
 use Rattle.picture.specs.declared.answer.Input.the-variants.{Buffer, First, Second}
 use Rattle.meaning.specs.Covering.{covers}
@@ -171,6 +171,6 @@ cases =
 
 pub all-pass : runAll cases ≡ cases
 unfolding be beBytes rowOf endBytes put depthIn depth tagOk lengthFor kindOk roleOk parentOk valueField rowField endField fieldAt
-    scanFrom readingOf answerOf rowCount viewOf mergedTree mergedCount normalTreeOf normalFile mergedAsked prepareAnswer
+    scanFrom readingOf answerOf rowCount mergedTree mergedCount normalTreeOf normalFile mergedAsked prepareAnswer
     covers verdictOf mapOf lowestMap mapFile refutationOf refutationFile individualBytes evidenceOf verdictAnswer subsumesAnswer subsumesResult
 all-pass = refl

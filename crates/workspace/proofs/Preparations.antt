@@ -24,7 +24,7 @@ use Rattle.normal.proofs.Halves.{half-file, length-half}
 use Rattle.normal.specs.Call.{tooMany}
 use Rattle.normal.specs.Half.{halfOf}
 use Rattle.picture.specs.Read.{answerOf, answered, readingOf}
-use Rattle.picture.specs.View.{Readable}
+use Rattle.picture.specs.Readable.{Readable}
 use Rattle.picture.specs.declared.answer.Answer.{Answer}
 use Rattle.picture.specs.declared.answer.Input.the-variants.{First, Second}
 use Rattle.picture.specs.declared.read.Reading.{Reading}

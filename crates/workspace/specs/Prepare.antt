@@ -19,7 +19,7 @@ use Rattle.table.specs.declared.layout.Limits.{Limits}
 use Rattle.ale.specs.PictureSignature.{pictureSignature}
 use Rattle.ale.specs.Tree.{size}
 use Rattle.picture.specs.Read.{answerOf}
-use Rattle.picture.specs.View.{Readable}
+use Rattle.picture.specs.Readable.{Readable}
 use Rattle.picture.specs.declared.answer.Answer.{Answer}
 use Rattle.picture.specs.declared.answer.Answer.the-variants as answer
 use Rattle.picture.specs.declared.answer.Input.{Input}

@@ -2,7 +2,7 @@
 use native.Mathlib.Omega.{arith}
 use denote.Ref.{now}
 use mathlib.Core.Path.{subst, sym}
-use Rattle.picture.specs.View.{Readable}
+use Rattle.picture.specs.Readable.{Readable}
 use Rattle.book_tables.specs.Tables.{Tabled}
 use Rattle.book_form.proofs.Places.{place-from, place-part, place-to}
 use borrow.Author.Needs.{needs}
