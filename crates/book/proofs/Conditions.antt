@@ -21,7 +21,7 @@ use mathlib.Core.List.{List}
 use mathlib.Core.Logic.{_↔_, _⊎_, inl, inr, ⊎-elim}
 use mathlib.Core.Path.{_∙_, _≡_, refl, subst, sym}
 use native.Mathlib.Omega.{arith}
-use Rattle.normal.specs.Call.{shortBuffer}
+use Rattle.picture.specs.Refusal.{shortBuffer}
 use Rattle.picture.specs.declared.answer.Refusal.{Refusal}
 use Rattle.table.proofs.Bools.{by-test}
 use Rattle.table.specs.Bounds.{Bounded, benchLimits}

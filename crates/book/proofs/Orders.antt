@@ -7,7 +7,7 @@ use mathlib.Core.List.{List}
 use mathlib.Core.Logic.{_↔_, _⊎_, inl, inr}
 use mathlib.Core.Path.{_≡_, refl, subst, sym}
 use native.Mathlib.Omega.{arith}
-use Rattle.normal.specs.Call.{tooMany}
+use Rattle.picture.specs.Refusal.{refusal, tooMany}
 use Rattle.picture.specs.Readable.{Readable}
 use Rattle.picture.specs.declared.answer.Input.the-variants.{Card, First}
 use Rattle.picture.specs.declared.answer.Refusal.{Refusal}
@@ -95,7 +95,7 @@ module _ (limits : Limits) (case book : List ℕ) where
     cards-first c f (inl h) =
         let (k, a, b, last, before) = from-no (cardRead limits book) (cardCount book) 0 r h in
         let (q, e, is) = read-no limits (Card k) (card book k) r .0 last in
-        as-named (record { number = q; input = Card k }) r is
+        as-named (refusal q (Card k)) r is
         (card-unreadable c f k q (omega arith) (λ j l. read-yes limits (Card j) (card book j) .0 (before j (omega arith) l)) e)
     cards-first c f (inr (h, rest)) = merged-first c f (cards-all h) (and-no (caseMerged limits case) allMerged r rest)
 
@@ -105,7 +105,7 @@ module _ (limits : Limits) (case book : List ℕ) where
 
     case-first : (readAsked limits First case ≡ No r) ⊎ ((readAsked limits First case ≡ Yes) × (fromForm ≡ No r)) → FirstNo limits case book r
     case-first (inl h) =
-        let (q, e, is) = read-no limits First case r .0 h in as-named (record { number = q; input = First }) r is (case-unreadable q e)
+        let (q, e, is) = read-no limits First case r .0 h in as-named (refusal q First) r is (case-unreadable q e)
     case-first (inr (h, rest)) = form-first (read-yes limits First case .0 h) (and-no (formAsked book) fromCards r rest)
 
   module _ (r : Refusal) where

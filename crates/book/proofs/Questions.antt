@@ -15,7 +15,7 @@ use mathlib.Core.Path.{_∙_, _≡_, ap, refl, sym}
 use native.Mathlib.Nat.{eq-or-lt-of-le}
 use native.Mathlib.Omega.{arith}
 use Rattle.meaning.specs.NormalTable.{mergedCount}
-use Rattle.normal.specs.Call.{tooMany}
+use Rattle.picture.specs.Refusal.{refusal, tooMany}
 use Rattle.picture.specs.Read.{answerOf, answered, readingOf}
 use Rattle.picture.specs.Readable.{Readable}
 use Rattle.table.specs.Pick.{pick}
@@ -120,7 +120,7 @@ module _ (limits : Limits) (input : Input) (s : List ℕ) where
 
   yes-readable : (r : Reading) → readingOf limits s ≡ r → readingAsked (answered input r) ≡ Yes → Readable limits s
   yes-readable (reading.Rows n) e h = record { rows = n; reads = e }
-  yes-readable (reading.Failed q) e h = absurd (clash (record { number = q; input = input }) h)
+  yes-readable (reading.Failed q) e h = absurd (clash (refusal q input) h)
 
   pub read-yes : (readAsked limits input s ≡ Yes) ↔ Readable limits s
   read-yes = (
@@ -129,12 +129,12 @@ module _ (limits : Limits) (input : Input) (s : List ℕ) where
   )
 
   no-failed : (t : Reading) (r : Refusal) → readingOf limits s ≡ t → readingAsked (answered input t) ≡ No r →
-      (q : ℕ) × (readingOf limits s ≡ reading.Failed q) × (r ≡ record { number = q; input = input })
+      (q : ℕ) × (readingOf limits s ≡ reading.Failed q) × (r ≡ refusal q input)
   no-failed (reading.Rows n) r e h = absurd (clash r (sym h))
   no-failed (reading.Failed q) r e h = (q, e, cc)
 
   pub read-no : (r : Refusal) →
-      (readAsked limits input s ≡ No r) ↔ ((q : ℕ) × (readingOf limits s ≡ reading.Failed q) × (r ≡ record { number = q; input = input }))
+      (readAsked limits input s ≡ No r) ↔ ((q : ℕ) × (readingOf limits s ≡ reading.Failed q) × (r ≡ refusal q input))
   read-no r = (
     λ h. no-failed (readingOf limits s) r refl (sym (by-reading (readingOf limits s) refl) ∙ h),
     λ (q, e, is). by-reading (reading.Failed q) e ∙ ap No (sym is),

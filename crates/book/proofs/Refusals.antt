@@ -6,7 +6,7 @@ use mathlib.Core.List.{List}
 use mathlib.Core.Logic.{_⊎_, inl, inr}
 use mathlib.Core.Path.{_≡_, refl, sym, subst}
 use native.Mathlib.Omega.{arith}
-use Rattle.normal.specs.Call.{shortBuffer}
+use Rattle.picture.specs.Refusal.{shortBuffer}
 use Rattle.picture.proofs.Readables.{reading-number}
 use Rattle.picture.specs.declared.answer.Refusal.{Refusal}
 use Rattle.table.specs.declared.layout.Limits.{Limits}

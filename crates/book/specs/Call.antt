@@ -19,6 +19,7 @@ use mathlib.Core.Path.{_≡_}
 use Rattle.table.specs.Pick.{pick}
 use Rattle.table.specs.Put.{put, zeros}
 use Rattle.table.specs.declared.layout.Limits.{Limits}
+use Rattle.picture.specs.Refusal.{refusal, shortBuffer, tooMany}
 use Rattle.picture.specs.Read.{answerOf}
 use Rattle.picture.specs.Readable.{Readable}
 use Rattle.picture.specs.declared.answer.Answer.{Answer}
@@ -27,7 +28,6 @@ use Rattle.picture.specs.declared.answer.Input.{Input}
 use Rattle.picture.specs.declared.answer.Input.the-variants.{Book, Card, First}
 use Rattle.picture.specs.declared.answer.Refusal.{Refusal}
 use Rattle.meaning.specs.NormalTable.{mergedCount}
-use Rattle.normal.specs.Call.{shortBuffer, tooMany}
 use Rattle.workspace.specs.Prepare.{workSize}
 use Rattle.book.specs.Form.{bookForm, card, cardCount}
 use Rattle.book.specs.Selection.{mostSpecificCards}
@@ -59,7 +59,7 @@ unfoldable pub readAsked : Limits → Input → List ℕ → Asked
 readAsked limits input s = readingAsked (answerOf limits input s)
 
 abbrev pub noBook : Refusal
-noBook = record { number = 24; input = Book }
+noBook = refusal 24 Book
 
 abbrev pub formAsked : List ℕ → Asked
 formAsked book = pick (bookForm book) Yes (No noBook)

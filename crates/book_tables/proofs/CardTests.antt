@@ -15,7 +15,7 @@ use native.Mathlib.Omega.{arith}
 use Rattle.homomorphism_search.proofs.NormalMaps.{normal-maps}
 use Rattle.homomorphism_search.specs.Search.{rowMaps}
 use Rattle.meaning.specs.NormalTable.{mergedCount, normalFile}
-use Rattle.normal.specs.Call.{tooMany}
+use Rattle.picture.specs.Refusal.{tooMany}
 use Rattle.picture.specs.declared.answer.Input.the-variants.{Card, First}
 use Rattle.picture.specs.declared.answer.Refusal.{Refusal}
 use Rattle.table.specs.Bounds.{Bounded}

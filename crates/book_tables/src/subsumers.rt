@@ -11,6 +11,7 @@ use book_form::form::PLACES;
 use book_form::word::bit;
 use picture::answer::Input;
 use picture::answer::Refusal;
+use picture::answer::too_many;
 use row_sets::rows::LINKS;
 use row_sets::rows::fill_links;
 use table::layout::END_SIZE;
@@ -80,10 +81,7 @@ fn test_card(
 {
     let m = tabulate_card(book, places, count, k, limits, scratch);
     if m == 0 {
-        return Tested::Refused(Refusal {
-            number: 14,
-            input: Input::Card(k as u8),
-        });
+        return Tested::Refused(too_many(Input::Card(k as u8)));
     }
     if !covers_case(scratch, m, limits, table, n, links) {
         return Tested::Passed(subsumers);
@@ -157,10 +155,7 @@ pub fn find_subsumers(
     let mut scratch = [0u8; TABLE];
     let n = tabulate(case, limits, &mut scratch);
     if n == 0 {
-        return Selected::Refused(Refusal {
-            number: 14,
-            input: Input::First,
-        });
+        return Selected::Refused(too_many(Input::First));
     }
     let table = &scratch[..place(n, END_SIZE)];
     let mut links = [0u8; LINKS];

@@ -8,6 +8,7 @@ use Rattle.table.specs.Bounds.{benchLimits}
 use Rattle.table.specs.Fields.{endBytes, endsAt, rowOf}
 use Rattle.table.specs.Number.{be, beBytes}
 use Rattle.table.specs.Range.{each}
+use Rattle.picture.specs.Refusal.{refusal}
 use Rattle.picture.specs.Depth.{depth, depthIn}
 use Rattle.picture.specs.Questions.{endField, fieldAt, kindOk, lengthFor, parentOk, roleOk, rowField, tagOk, valueField}
 use Rattle.picture.specs.Read.{answerOf, readingOf, scanFrom}
@@ -37,7 +38,7 @@ runAll [] = []
 runAll (c ∷ cs) = ran c ∷ runAll cs
 
 abbrev refused : ℕ → Verified
-refused q = Refused (record { number = q; input = Evidence })
+refused q = Refused (refusal q Evidence)
 
 -- ---- pictures
 

@@ -16,11 +16,11 @@ use Rattle.ale.specs.PictureSignature.{pictureSignature}
 use Rattle.ale.specs.RowMap.{edgeAgrees, labelAgrees}
 use Rattle.ale.specs.Table.{Table}
 use Rattle.ale.specs.Tree.{Tree}
+use Rattle.picture.specs.Refusal.{shortBuffer}
 use Rattle.picture.specs.declared.answer.Input.the-variants.{Evidence}
 use Rattle.picture.specs.declared.answer.Refusal.{Refusal}
 use Rattle.meaning.specs.Meaning.{pictureTable, pictureTree}
 use Rattle.meaning.specs.NormalTable.{normalFile}
-use Rattle.normal.specs.Call.{shortBuffer}
 use Rattle.countermodel.specs.Individual.{individualOk}
 use Rattle.countermodel.specs.Layout.{individualCount}
 use Rattle.countermodel.specs.Model.{modelTree}

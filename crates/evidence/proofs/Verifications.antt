@@ -13,8 +13,8 @@ use mathlib.Core.Bool.{and-true}
 use mathlib.Core.List.{List}
 use mathlib.Core.Path.{_≡_, refl}
 use Rattle.table.specs.declared.layout.Limits.{Limits}
+use Rattle.picture.specs.Refusal.{shortBuffer}
 use Rattle.picture.specs.declared.answer.Refusal.{Refusal}
-use Rattle.normal.specs.Call.{shortBuffer}
 use Rattle.workspace.proofs.Lendings.{on-room, room-given}
 use Rattle.workspace.proofs.Preparations.{acceptable-tables, halves-past, length-halves, tablesOf}
 use Rattle.workspace.specs.Lent.{pairWork}

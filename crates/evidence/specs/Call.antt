@@ -9,9 +9,9 @@ use lib.ListN.{length}
 use mathlib.Core.List.{List}
 use Rattle.table.specs.Pick.{pick}
 use Rattle.table.specs.declared.layout.Limits.{Limits}
+use Rattle.picture.specs.Refusal.{shortBuffer}
 use Rattle.meaning.specs.Meaning.{pictureTable, pictureTree}
 use Rattle.meaning.specs.NormalTable.{normalFile}
-use Rattle.normal.specs.Call.{shortBuffer}
 use Rattle.workspace.specs.Prepare.{halvesPut, onPrepared, prepareAnswer, workSize}
 use Rattle.workspace.specs.declared.prepare.Prepared.{Prepared}
 use Rattle.workspace.specs.declared.prepare.Prepared.the-variants as prepared

@@ -14,6 +14,7 @@ use Rattle.ale.specs.ModelCheck.{fitsTest}
 use Rattle.ale.specs.PictureSignature.{pictureSignature}
 use Rattle.ale.specs.Table.{Table}
 use Rattle.ale.specs.Tree.{Tree}
+use Rattle.picture.specs.Refusal.{refusal}
 use Rattle.picture.specs.declared.answer.Input.the-variants.{Evidence}
 use Rattle.picture.specs.declared.answer.Refusal.{Refusal}
 use Rattle.countermodel.specs.Individual.{individualOk}
@@ -39,7 +40,7 @@ refutationAsked t u e =
     Yes))
 
 abbrev pub refusalBy : ℕ → Refusal
-refusalBy number = record { number = number; input = Evidence }
+refusalBy number = refusal number Evidence
 
 abbrev pub refusedBy : ℕ → Verified
 refusedBy number = Refused (refusalBy number)

@@ -6,7 +6,7 @@ use evidence::form::Form;
 use map_check::map::map_asked;
 use model_check::model::fits_table;
 use picture::answer::Input;
-use picture::answer::Refusal;
+use picture::answer::refuse;
 use refutation_reader::individual::count;
 use refutation_reader::individual::individuals_ok;
 use refutation_reader::links::INDIVIDUAL_LINKS;
@@ -45,10 +45,7 @@ fn refutation_asked(first: &[u8], n: usize, second: &[u8], m: usize, e: &[u8], k
 fn refused_by(number: u8) -> Verified
     ensures { λ r. ⌜ r ≡ refusedBy number ⌝ }
 {
-    Verified::Refused(Refusal {
-        number,
-        input: Input::Evidence,
-    })
+    Verified::Refused(refuse(number, Input::Evidence))
 }
 
 // The answer where all was answered yes, or the refusal.

@@ -1,8 +1,7 @@
 // The fifth call: question 1, both pictures into the work space, and the evidence.
 use crate::check::check;
 use evidence::check::Verified;
-use picture::answer::Input;
-use picture::answer::Refusal;
+use picture::answer::short_buffer;
 use prepare_pair::prepare::half_size;
 use prepare_pair::prepare::prepare;
 use table::layout::END_SIZE;
@@ -44,10 +43,7 @@ pub fn verify(
 {
     let half = half_size(limits);
     if work.len() < half + half {
-        return Verified::Refused(Refusal {
-            number: 1,
-            input: Input::Buffer,
-        });
+        return Verified::Refused(short_buffer());
     }
     match prepare(first, second, limits, work) {
         Prepared::Tables(pair) => check_in(work, pair, limits, evidence),

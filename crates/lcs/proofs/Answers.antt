@@ -20,7 +20,7 @@ use mathlib.Core.List.{List}
 use mathlib.Core.Logic.{_↔_}
 use mathlib.Core.Path.{_∙_, _≡_, refl, sym}
 use native.Mathlib.Omega.{arith}
-use Rattle.normal.specs.Call.{shortBuffer}
+use Rattle.picture.specs.Refusal.{shortBuffer}
 use Rattle.picture.specs.declared.answer.Refusal.{Refusal}
 use Rattle.table.proofs.Puts.{length-put, put-after}
 use Rattle.table.specs.Bounds.{pictureSize}

@@ -13,6 +13,7 @@ use Rattle.table.specs.Fields.{endBytes, rowOf}
 use Rattle.table.specs.Number.{be, beBytes}
 use Rattle.table.specs.Put.{put, zeros}
 use Rattle.table.specs.declared.layout.Limits.{Limits}
+use Rattle.picture.specs.Refusal.{refusal}
 use Rattle.picture.specs.Depth.{depth, depthIn}
 use Rattle.picture.specs.Questions.{endField, fieldAt, kindOk, lengthFor, parentOk, roleOk, rowField, tagOk, valueField}
 use Rattle.picture.specs.Read.{answerOf, readingOf, scanFrom}
@@ -49,7 +50,7 @@ runAll [] = []
 runAll (c ∷ cs) = ran c ∷ runAll cs
 
 abbrev refused : ℕ → Input → Common
-refused q input = Refused (record { number = q; input = input })
+refused q input = Refused (refusal q input)
 
 -- ---- pictures
 

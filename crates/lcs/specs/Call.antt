@@ -13,9 +13,9 @@ use Rattle.table.specs.Bounds.{pictureSize}
 use Rattle.table.specs.Pick.{pick}
 use Rattle.table.specs.Put.{put}
 use Rattle.table.specs.declared.layout.Limits.{Limits}
+use Rattle.picture.specs.Refusal.{refusal, shortBuffer}
 use Rattle.picture.specs.declared.answer.Input.the-variants.{Second}
 use Rattle.picture.specs.declared.answer.Refusal.{Refusal}
-use Rattle.normal.specs.Call.{shortBuffer}
 use Rattle.workspace.specs.Lent.{pairWork, roomy}
 use Rattle.workspace.specs.Prepare.{prepareAnswer}
 use Rattle.workspace.specs.declared.prepare.Prepared.{Prepared}
@@ -25,7 +25,7 @@ use Rattle.lcs.specs.declared.common.Common.{Common}
 use Rattle.lcs.specs.declared.common.Common.the-variants.{Length, Refused}
 
 abbrev pub tooLarge : Refusal
-tooLarge = record { number = 15; input = Second }
+tooLarge = refusal 15 Second
 
 abbrev pub onTables : Prepared → Common → Common
 onTables (prepared.Tables pair) answer = answer

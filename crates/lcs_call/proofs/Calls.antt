@@ -21,8 +21,8 @@ use Rattle.meaning.proofs.Files.{length-fileOf}
 use Rattle.meaning.proofs.Normals.{normal-meaning, normal-normal, normal-roles}
 use Rattle.meaning.specs.File.{fileOf}
 use Rattle.meaning.specs.NormalTable.{normalFile, normalTreeOf}
-use Rattle.normal.specs.Call.{shortBuffer}
 use Rattle.normal_writer.specs.Grown.{prefix}
+use Rattle.picture.specs.Refusal.{shortBuffer}
 use Rattle.picture.specs.Readable.{Readable}
 use Rattle.table.specs.Bounds.{Bounded, pictureSize}
 use Rattle.table.specs.Fields.{endBytes}

@@ -3,7 +3,8 @@ use lcs::common::Common;
 use normalize_call::normalize::SCRATCH;
 use normalize_call::normalize::write_table;
 use picture::answer::Input;
-use picture::answer::Refusal;
+use picture::answer::refuse;
+use picture::answer::short_buffer;
 use prepare_pair::prepare::half_size;
 use prepare_pair::prepare::has_room;
 use prepare_pair::prepare::prepare;
@@ -37,10 +38,7 @@ fn write_common(
     let mut scratch = [0u8; SCRATCH];
     let table = build(first, n, second, m, limits, &mut scratch);
     if limits.rows < table.rows {
-        return Common::Refused(Refusal {
-            number: 15,
-            input: Input::Second,
-        });
+        return Common::Refused(refuse(15, Input::Second));
     }
     Common::Length(write_table(&scratch, table, result))
 }
@@ -70,10 +68,7 @@ pub fn lcs(
     ensures { λ r. ⌜ (r ≡ lcsAnswer limits (now (first .entry)) (now (second .entry)) (length (now (work .entry))) (length (now (result .entry)))) × ((now (work .exit) ≡ lcsWork limits (now (first .entry)) (now (second .entry)) (now (work .entry)) (length (now (result .entry)))) × (now (result .exit) ≡ lcsResult limits (now (first .entry)) (now (second .entry)) (length (now (work .entry))) (now (result .entry)))) ⌝ }
 {
     if !has_room(limits, half_size(limits), work.len(), result.len()) {
-        return Common::Refused(Refusal {
-            number: 1,
-            input: Input::Buffer,
-        });
+        return Common::Refused(short_buffer());
     }
     match prepare(first, second, limits, work) {
         Prepared::Tables(pair) => common_in(work, pair, limits, result),

@@ -15,7 +15,7 @@ use mathlib.Core.List.{List, _++_}
 use mathlib.Core.Path.{_∙_, _≡_, ap, refl, sym}
 use native.Mathlib.Decide.{ℕ-discrete}
 use native.Mathlib.Omega.{arith}
-use Rattle.normal.specs.Call.{shortBuffer}
+use Rattle.picture.specs.Refusal.{shortBuffer}
 use Rattle.picture.specs.Read.{answerOf}
 use Rattle.picture.specs.Readable.{Readable}
 use Rattle.picture.specs.declared.answer.Answer.{Answer}

@@ -10,7 +10,8 @@ use book_tables::cache::TABLE;
 use book_tables::subsumers::find_subsumers;
 use picture::answer::Answer;
 use picture::answer::Input;
-use picture::answer::Refusal;
+use picture::answer::refuse;
+use picture::answer::short_buffer;
 use picture_reader::read::read;
 use prepare_pair::prepare::half_size;
 use table::layout::HEAD_SIZE;
@@ -106,10 +107,7 @@ fn ask_book(case: &[u8], book: &[u8], limits: Limits, work: &mut [u8]) -> Select
     let mut places = [0usize; PLACES];
     let count = find_cards(book, &mut places);
     if !has_form(book, &places, count) {
-        return Selected::Refused(Refusal {
-            number: 24,
-            input: Input::Book,
-        });
+        return Selected::Refused(refuse(24, Input::Book));
     }
     match read_cards(book, &places, count, limits) {
         Asked::Yes => select(case, book, &places, count, limits, work),
@@ -124,10 +122,7 @@ pub fn most_specific(case: &[u8], book: &[u8], limits: Limits, work: &mut [u8]) 
 {
     let half = half_size(limits);
     if work.len() < half + half {
-        return Selected::Refused(Refusal {
-            number: 1,
-            input: Input::Buffer,
-        });
+        return Selected::Refused(short_buffer());
     }
     match read(case, limits, Input::First) {
         Answer::Rows(_) => ask_book(case, book, limits, work),

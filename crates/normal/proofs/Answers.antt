@@ -16,6 +16,7 @@ use mathlib.Core.Path.{_∙_, _≡_, ap, refl}
 use native.Mathlib.Omega.{arith}
 use Rattle.meaning.proofs.Normals.{normal-size}
 use Rattle.meaning.specs.NormalTable.{mergedCount, normalFile}
+use Rattle.picture.specs.Refusal.{refusal, shortBuffer, tooMany}
 use Rattle.picture.specs.Read.{answerOf, answered, readingOf}
 use Rattle.picture.specs.Readable.{Readable}
 use Rattle.table.proofs.Puts.{length-put, put-after}
@@ -26,7 +27,7 @@ use Rattle.picture.specs.declared.answer.Answer.{Answer}
 use Rattle.picture.specs.declared.answer.Input.the-variants.{First}
 use Rattle.picture.specs.declared.read.Reading.{Reading}
 use Rattle.picture.specs.declared.read.Reading.the-variants as reading
-use Rattle.normal.specs.Call.{normalizeAnswer, normalizeResult, onAnswer, onReading, shortBuffer, tooMany}
+use Rattle.normal.specs.Call.{normalizeAnswer, normalizeResult, onAnswer, onReading}
 use Rattle.normal.specs.declared.normalize.Normalized.{Normalized}
 use Rattle.normal.specs.declared.normalize.Normalized.the-variants.{Length, Refused}
 
@@ -51,7 +52,7 @@ module _ (limits : Limits) (s : List ℕ) (room : ℕ) where
     unfolding answerOf
     read-answer r e = long-answer limits s room (answered First r) enough (ap (answered First) e)
 
-    pub unreadable-answer : (q : ℕ) → readingOf limits s ≡ reading.Failed q → normalizeAnswer limits s room ≡ Refused (record { number = q; input = First })
+    pub unreadable-answer : (q : ℕ) → readingOf limits s ≡ reading.Failed q → normalizeAnswer limits s room ≡ Refused (refusal q First)
     unreadable-answer q e = read-answer (reading.Failed q) e
 
     module _ (readable : Readable limits s) where

@@ -1,6 +1,4 @@
 -- 01, "Write its normal table and give its length in bytes (buffer 6,147)": the answer, and what the result buffer holds then.
---   shortBuffer                 1 is answered no: it names the buffer
---   tooMany                     14 is answered no for an input
 --   onReading                   after 2 to 13: 14, and then the length of the normal table
 --   normalizeAnswer             1; 2 to 13; 14
 --   onAnswer, normalizeResult   the normal table from the first byte on, or nothing written
@@ -12,21 +10,14 @@ use Rattle.table.specs.Bounds.{pictureSize}
 use Rattle.table.specs.Pick.{pick}
 use Rattle.table.specs.Put.{put}
 use Rattle.table.specs.declared.layout.Limits.{Limits}
+use Rattle.picture.specs.Refusal.{shortBuffer, tooMany}
 use Rattle.picture.specs.Read.{answerOf}
 use Rattle.picture.specs.declared.answer.Answer.{Answer}
 use Rattle.picture.specs.declared.answer.Answer.the-variants as answer
-use Rattle.picture.specs.declared.answer.Input.{Input}
-use Rattle.picture.specs.declared.answer.Input.the-variants.{Buffer, First}
-use Rattle.picture.specs.declared.answer.Refusal.{Refusal}
+use Rattle.picture.specs.declared.answer.Input.the-variants.{First}
 use Rattle.meaning.specs.NormalTable.{mergedCount, normalFile}
 use Rattle.normal.specs.declared.normalize.Normalized.{Normalized}
 use Rattle.normal.specs.declared.normalize.Normalized.the-variants.{Length, Refused}
-
-abbrev pub shortBuffer : Refusal
-shortBuffer = record { number = 1; input = Buffer }
-
-abbrev pub tooMany : Input → Refusal
-tooMany input = record { number = 14; input = input }
 
 abbrev pub onReading : Limits → List ℕ → Answer → Normalized
 onReading limits s (answer.Rows n) =

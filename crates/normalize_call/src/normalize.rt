@@ -3,7 +3,8 @@ use normal::normalize::Normalized;
 use normal_writer::grow::build;
 use picture::answer::Answer;
 use picture::answer::Input;
-use picture::answer::Refusal;
+use picture::answer::short_buffer;
+use picture::answer::too_many;
 use picture_reader::read::read;
 use table::layout::END_SIZE;
 use table::layout::Limits;
@@ -46,10 +47,7 @@ fn tabulate(picture: &[u8], rows: usize, limits: Limits, result: &mut [u8]) -> N
     let mut scratch = [0u8; SCRATCH];
     let built = build(picture, rows, limits, &mut scratch);
     if limits.rows < built.merged {
-        return Normalized::Refused(Refusal {
-            number: 14,
-            input: Input::First,
-        });
+        return Normalized::Refused(too_many(Input::First));
     }
     let table = built.table;
     Normalized::Length(write_table(&scratch, table, result))
@@ -60,10 +58,7 @@ pub fn normalize(picture: &[u8], limits: Limits, result: &mut [u8]) -> Normalize
     ensures { λ r. ⌜ (r ≡ normalizeAnswer limits (now (picture .entry)) (length (now (result .entry)))) × (now (result .exit) ≡ normalizeResult limits (now (picture .entry)) (now (result .entry))) ⌝ }
 {
     if result.len() < place(limits.rows, END_SIZE) {
-        return Normalized::Refused(Refusal {
-            number: 1,
-            input: Input::Buffer,
-        });
+        return Normalized::Refused(short_buffer());
     }
     match read(picture, limits, Input::First) {
         Answer::Rows(rows) => tabulate(picture, rows, limits, result),

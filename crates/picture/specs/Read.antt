@@ -2,8 +2,8 @@
 use mathlib.Core.List.{List}
 use Prim.Native.Nat.{ℕ, zero, suc, _+_}
 use Rattle.table.specs.declared.layout.Limits.{Limits}
+use Rattle.picture.specs.Refusal.{refusal}
 use Rattle.picture.specs.declared.answer.Input.{Input}
-use Rattle.picture.specs.declared.answer.Refusal.{Refusal}
 use Rattle.picture.specs.declared.answer.Answer.{Answer}
 use Rattle.picture.specs.declared.answer.Answer.the-variants as answer
 use Rattle.picture.specs.declared.field.Field.{Field}
@@ -30,7 +30,7 @@ readingOf limits s = scanFrom (suc (limits .rows)) limits s 0
 -- the answer for a picture that is the input named
 abbrev pub answered : Input → Reading → Answer
 answered input (reading.Rows n) = answer.Rows n
-answered input (reading.Failed q) = answer.Refused (record { number = q; input = input })
+answered input (reading.Failed q) = answer.Refused (refusal q input)
 
 unfoldable pub answerOf : Limits → Input → List ℕ → Answer
 answerOf limits input s = answered input (readingOf limits s)

@@ -2,7 +2,7 @@
 use crate::field::field_at;
 use picture::answer::Answer;
 use picture::answer::Input;
-use picture::answer::Refusal;
+use picture::answer::refuse;
 use picture::field::Field;
 use picture::read::Reading;
 use table::layout::Limits;
@@ -84,6 +84,6 @@ pub fn read(s: &[u8], limits: Limits, input: Input) -> Answer
 {
     match scan(s, limits) {
         Reading::Rows(n) => Answer::Rows(n),
-        Reading::Failed(number) => Answer::Refused(Refusal { number, input }),
+        Reading::Failed(number) => Answer::Refused(refuse(number, input)),
     }
 }

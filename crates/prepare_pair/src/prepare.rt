@@ -4,7 +4,7 @@ use normalize_call::half::write_half;
 use normalize_call::normalize::SCRATCH;
 use picture::answer::Answer;
 use picture::answer::Input;
-use picture::answer::Refusal;
+use picture::answer::too_many;
 use picture_reader::read::read;
 use table::layout::END_SIZE;
 use table::layout::Limits;
@@ -75,18 +75,12 @@ fn tabulate(
     let mut scratch = [0u8; SCRATCH];
     let built = build(first, n, limits, &mut scratch);
     if limits.rows < built.merged {
-        return Prepared::Refused(Refusal {
-            number: 14,
-            input: Input::First,
-        });
+        return Prepared::Refused(too_many(Input::First));
     }
     let mut other = [0u8; SCRATCH];
     let built_second = build(second, m, limits, &mut other);
     if limits.rows < built_second.merged {
-        return Prepared::Refused(Refusal {
-            number: 14,
-            input: Input::Second,
-        });
+        return Prepared::Refused(too_many(Input::Second));
     }
     let table = built.table;
     let table_second = built_second.table;

@@ -28,8 +28,8 @@ use Rattle.meaning.proofs.Normals.{normal-meaning, normal-readable}
 use Rattle.meaning.proofs.Pictures.{picture-ranked}
 use Rattle.meaning.specs.Meaning.{pictureTable}
 use Rattle.meaning.specs.NormalTable.{normalFile, normalTreeOf}
-use Rattle.normal.specs.Call.{shortBuffer}
 use Rattle.row_sets.specs.Rows.{Checked}
+use Rattle.picture.specs.Refusal.{shortBuffer}
 use Rattle.picture.specs.Depth.{depth}
 use Rattle.picture.specs.Readable.{Readable}
 use Rattle.table.specs.Fields.{parentOf}

@@ -1,7 +1,6 @@
 // The third call: question 1, both pictures into the work space, the verdict, and the evidence into the result buffer.
 use crate::verdict::decide;
-use picture::answer::Input;
-use picture::answer::Refusal;
+use picture::answer::short_buffer;
 use prepare_pair::prepare::half_size;
 use prepare_pair::prepare::has_room;
 use prepare_pair::prepare::prepare;
@@ -48,10 +47,7 @@ pub fn subsumes(
 {
     let size = individual_place(individuals_within(limits), END_SIZE);
     if !has_room(limits, size, work.len(), result.len()) {
-        return Verdict::Refused(Refusal {
-            number: 1,
-            input: Input::Buffer,
-        });
+        return Verdict::Refused(short_buffer());
     }
     match prepare(first, second, limits, work) {
         Prepared::Tables(pair) => decide_in(work, pair, limits, result),

@@ -13,12 +13,12 @@ use mathlib.Core.Bool.{Bool, false, true}
 use mathlib.Core.List.{List}
 use mathlib.Core.Path.{_∙_, _≡_, refl, sym}
 use native.Mathlib.Omega.{arith}
-use Rattle.normal.specs.Call.{shortBuffer}
 use Rattle.table.proofs.Puts.{length-put, put-after}
 use Rattle.table.specs.Bounds.{Bounded}
 use Rattle.table.specs.Pick.{pick}
 use Rattle.table.specs.Put.{put}
 use Rattle.table.specs.declared.layout.Limits.{Limits}
+use Rattle.picture.specs.Refusal.{shortBuffer}
 use Rattle.picture.specs.declared.answer.Refusal.{Refusal}
 use Rattle.workspace.proofs.Halves.{put-start}
 use Rattle.workspace.proofs.Lendings.{on-room, room-both, room-given, room-no, room-yes}

@@ -7,8 +7,8 @@ use mathlib.Core.List.{List}
 use mathlib.Core.Path.{_≡_, subst}
 use Rattle.table.specs.Pick.{pick}
 use Rattle.table.specs.declared.layout.Limits.{Limits}
+use Rattle.picture.specs.Refusal.{shortBuffer}
 use Rattle.picture.specs.declared.answer.Refusal.{Refusal}
-use Rattle.normal.specs.Call.{shortBuffer}
 use Rattle.workspace.specs.Prepare.{prepareAnswer}
 use Rattle.workspace.specs.declared.prepare.Prepared.{Prepared}
 use Rattle.workspace.specs.declared.prepare.Prepared.the-variants as prepared

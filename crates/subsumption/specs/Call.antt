@@ -10,7 +10,7 @@ use mathlib.Core.List.{List}
 use Rattle.table.specs.Pick.{pick}
 use Rattle.table.specs.Put.{put}
 use Rattle.table.specs.declared.layout.Limits.{Limits}
-use Rattle.normal.specs.Call.{shortBuffer}
+use Rattle.picture.specs.Refusal.{shortBuffer}
 use Rattle.workspace.specs.Lent.{pairWork, roomy}
 use Rattle.workspace.specs.Prepare.{onPrepared, prepareAnswer}
 use Rattle.workspace.specs.declared.prepare.Prepared.{Prepared}

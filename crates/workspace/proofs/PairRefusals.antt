@@ -10,6 +10,7 @@ use mathlib.Core.Logic.{inl, inr}
 use mathlib.Core.Path.{_≡_, refl}
 use Rattle.table.specs.Pick.{pick}
 use Rattle.table.specs.declared.layout.Limits.{Limits}
+use Rattle.picture.specs.Refusal.{refusal, shortBuffer, tooMany}
 use Rattle.picture.proofs.Readables.{reading-number}
 use Rattle.picture.specs.Read.{answerOf, answered, readingOf}
 use Rattle.picture.specs.declared.answer.Input.{Input}
@@ -17,7 +18,6 @@ use Rattle.picture.specs.declared.answer.Input.the-variants.{First, Second}
 use Rattle.picture.specs.declared.read.Reading.{Reading}
 use Rattle.picture.specs.declared.read.Reading.the-variants as reading
 use Rattle.meaning.specs.NormalTable.{mergedCount}
-use Rattle.normal.specs.Call.{shortBuffer, tooMany}
 use Rattle.workspace.specs.Prepare.{afterReading, mergedAsked, prepareAnswer}
 use Rattle.workspace.specs.Refusals.{Known}
 use Rattle.workspace.specs.declared.prepare.Prepared.{Prepared}
@@ -33,10 +33,10 @@ short-known = inl (refl, omega arith, omega arith)
 
 module _ (limits : Limits) (first second : List ℕ) where
   -- a question from 2 to 14 that names one of the two
-  first-known : (q : ℕ) → 2 ≤ q → q ≤ 14 → Known (record { number = q; input = First })
+  first-known : (q : ℕ) → 2 ≤ q → q ≤ 14 → Known (refusal q First)
   first-known q a b = inr (inl (refl, a, b))
 
-  second-known : (q : ℕ) → 2 ≤ q → q ≤ 14 → Known (record { number = q; input = Second })
+  second-known : (q : ℕ) → 2 ≤ q → q ≤ 14 → Known (refusal q Second)
   second-known q a b = inr (inr (refl, a, b))
 
   merged-known : (b c : Bool) (p : Prepared) → Prepares p → Prepares (pick b (pick c p (Refused (tooMany Second))) (Refused (tooMany First)))
@@ -44,7 +44,7 @@ module _ (limits : Limits) (first second : List ℕ) where
   merged-known true false p h = second-known 14 (omega arith) (omega arith)
   merged-known false c p h = first-known 14 (omega arith) (omega arith)
 
-  reading-known : (s : List ℕ) (input : Input) → ((q : ℕ) → 2 ≤ q → q ≤ 14 → Known (record { number = q; input = input })) →
+  reading-known : (s : List ℕ) (input : Input) → ((q : ℕ) → 2 ≤ q → q ≤ 14 → Known (refusal q input)) →
       (r : Reading) → readingOf limits s ≡ r → (next : Prepared) → Prepares next → Prepares (afterReading (answered input r) next)
   reading-known s input named (reading.Rows n) e next h = h
   reading-known s input named (reading.Failed q) e next h =

@@ -21,8 +21,8 @@ use native.Mathlib.Omega.{arith}
 use Rattle.meaning.proofs.Normals.{normal-size}
 use Rattle.meaning.specs.NormalTable.{mergedCount, normalFile}
 use Rattle.normal.proofs.Halves.{half-file, length-half}
-use Rattle.normal.specs.Call.{tooMany}
 use Rattle.normal.specs.Half.{halfOf}
+use Rattle.picture.specs.Refusal.{refusal, tooMany}
 use Rattle.picture.specs.Read.{answerOf, answered, readingOf}
 use Rattle.picture.specs.Readable.{Readable}
 use Rattle.picture.specs.declared.answer.Answer.{Answer}
@@ -69,12 +69,12 @@ module _ (limits : Limits) (first second : List ℕ) where
   prepare-readings r t e f = prepare-answers (answered First r) (answered Second t) (ap (answered First) e) (ap (answered Second) f)
 
   pub prepare-first : (q : ℕ) → readingOf limits first ≡ reading.Failed q →
-      prepareAnswer limits first second ≡ Refused (record { number = q; input = First })
+      prepareAnswer limits first second ≡ Refused (refusal q First)
   prepare-first q e = prepare-readings (reading.Failed q) (readingOf limits second) e refl
 
   module _ (first-readable : Readable limits first) where
     pub prepare-second : (q : ℕ) → readingOf limits second ≡ reading.Failed q →
-        prepareAnswer limits first second ≡ Refused (record { number = q; input = Second })
+        prepareAnswer limits first second ≡ Refused (refusal q Second)
     prepare-second q e = prepare-readings (reading.Rows (first-readable .rows)) (reading.Failed q) (first-readable .reads) e
 
     module _ (second-readable : Readable limits second) where
@@ -124,10 +124,10 @@ module _ (limits : Limits) (first second : List ℕ) where
         merged-acceptable (leb (mergedCount limits first) (limits .rows)) (leb (mergedCount limits second) (limits .rows)) refl refl r t
         (sym (prepare-readable r t) ∙ h)
     readings-acceptable (reading.Rows n) (reading.Failed q) e f h =
-        let other : Tables p ≡ Refused (record { number = q; input = Second }) = sym h ∙ prepare-second (record { rows = n; reads = e }) q f in
+        let other : Tables p ≡ Refused (refusal q Second) = sym h ∙ prepare-second (record { rows = n; reads = e }) q f in
         absurd (let z : _≡_ {A = ℕ} 0 1 = cc in omega arith)
     readings-acceptable (reading.Failed q) t e f h =
-        let other : Tables p ≡ Refused (record { number = q; input = First }) = sym h ∙ prepare-first q e in
+        let other : Tables p ≡ Refused (refusal q First) = sym h ∙ prepare-first q e in
         absurd (let z : _≡_ {A = ℕ} 0 1 = cc in omega arith)
 
     pub tables-acceptable : prepareAnswer limits first second ≡ Tables p → Acceptable limits first second × (p ≡ tablesOf)

@@ -18,6 +18,7 @@ use Rattle.table.specs.Put.{put}
 use Rattle.table.specs.declared.layout.Limits.{Limits}
 use Rattle.ale.specs.PictureSignature.{pictureSignature}
 use Rattle.ale.specs.Tree.{size}
+use Rattle.picture.specs.Refusal.{tooMany}
 use Rattle.picture.specs.Read.{answerOf}
 use Rattle.picture.specs.Readable.{Readable}
 use Rattle.picture.specs.declared.answer.Answer.{Answer}
@@ -25,7 +26,6 @@ use Rattle.picture.specs.declared.answer.Answer.the-variants as answer
 use Rattle.picture.specs.declared.answer.Input.{Input}
 use Rattle.picture.specs.declared.answer.Input.the-variants.{First, Second}
 use Rattle.meaning.specs.NormalTable.{mergedCount, normalFile, normalTreeOf}
-use Rattle.normal.specs.Call.{tooMany}
 use Rattle.normal.specs.Half.{halfOf}
 use Rattle.workspace.specs.declared.prepare.Prepared.{Prepared}
 use Rattle.workspace.specs.declared.prepare.Prepared.the-variants.{Refused, Tables}

@@ -21,9 +21,9 @@ tabulate-requires c κs =
 
 returns : tie.Need-returns
 returns c =
-    let args = c .before .before .before .before .before .before .before .args in
-    let tabulate = c .before .before .tabulate in
-    (case-many (args .limits) (now (args .case)) (now (args .book)) (args .count) (none-many (args .limits) (now (args .case)) _ (tabulate .result) (tabulate .last .1 .1 .0) (c .before .before .before .before .before .before .before .pre .0) (tabulate .ensures) (c .if1 .taken)), tt)
+    let args = c .before .before .before .before .before .before .before .before .args in
+    let tabulate = c .before .before .before .tabulate in
+    rw (c .too-many .ensures) (case-many (args .limits) (now (args .case)) (now (args .book)) (args .count) (none-many (args .limits) (now (args .case)) _ (tabulate .result) (tabulate .last .1 .1 .0) (c .before .before .before .before .before .before .before .before .pre .0) (tabulate .ensures) (c .before .if1 .taken)), tt)
 
 place-requires : tie.Need-place-requires
 place-requires c κs =
@@ -77,12 +77,16 @@ returns-2 c =
     let test-cards = c .before .before .test-cards in
     (case-tested (args .limits) (now (args .case)) (now (args .book)) (args .count) (pre .0) (some-few (args .limits) (now (args .case)) _ (tabulate .result) (tabulate .last .1 .1 .0) (pre .0) (tabulate .ensures) (if1 .left)) (take (place .result) (tabulate .last .1 .1 .0)) (tabled-file (args .limits) (now (args .case)) _ (tabulate .result) (tabulate .last .1 .1 .0) (pre .0) (tabulate .ensures) (some-few (args .limits) (now (args .case)) _ (tabulate .result) (tabulate .last .1 .1 .0) (pre .0) (tabulate .ensures) (if1 .left)) (place .result) (place .ensures)) (test-cards .result) (test-cards .ensures .0), test-cards .ensures .1)
 
+too-many-requires : tie.Need-too-many-requires
+too-many-requires c κs = search needs
+
 pub find-subsumers-spec : {M : Type 1} → statement M
 find-subsumers-spec =
     tie.close
     (tie.spec
     slice-aggregate-tabulate
     tabulate-requires
+    too-many-requires
     returns
     place-requires
     array-share-prefix-scratch

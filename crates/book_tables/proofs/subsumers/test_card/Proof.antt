@@ -16,17 +16,17 @@ use Rattle.book_tables.proofs.subsumers.test_card.Tie as tie
 tabulate-card-requires : tie.Need-tabulate-card-requires
 tabulate-card-requires c κs = search needs
 
-cast-t19 : tie.Need-cast-t19
-cast-t19 c = search needs
+cast-t20 : tie.Need-cast-t20
+cast-t20 c = search needs
 
 same-length : tie.Need-same-length
 same-length c = search needs
 
 returns : tie.Need-returns
 returns c =
-    let args = c .before .before .before .before .before .before .before .before .before .args in
-    let tabulate-card = c .before .before .before .tabulate-card in
-    (test-many (args .limits) (now (args .table)) (now (args .book)) (args .count) (args .k) (none-many (args .limits) (card (now (args .book)) (args .k)) (now (args .scratch)) (tabulate-card .result) (tabulate-card .last .1 .1 .1 .1 .1 .0) (c .before .before .before .before .before .before .before .before .before .pre .0) (tabulate-card .ensures) (c .if1 .taken)), (tabulate-card .ensures .same, refl))
+    let args = c .before .before .before .before .before .before .before .before .before .before .args in
+    let tabulate-card = c .before .before .before .before .tabulate-card in
+    rw (c .too-many .ensures) (test-many (args .limits) (now (args .table)) (now (args .book)) (args .count) (args .k) (none-many (args .limits) (card (now (args .book)) (args .k)) (now (args .scratch)) (tabulate-card .result) (tabulate-card .last .1 .1 .1 .1 .1 .0) (c .before .before .before .before .before .before .before .before .before .before .pre .0) (tabulate-card .ensures) (c .before .if1 .taken)), (tabulate-card .ensures .same, refl))
 
 covers-case-requires : tie.Need-covers-case-requires
 covers-case-requires c κs =
@@ -88,12 +88,16 @@ returns-3 c =
       (tabulate-card .ensures .same, store .ensures .1),
     )
 
+too-many-requires : tie.Need-too-many-requires
+too-many-requires c κs = search needs
+
 pub test-card-spec : {M : Type 1} → statement M
 test-card-spec =
     tie.close
     (tie.spec
     tabulate-card-requires
-    cast-t19
+    cast-t20
+    too-many-requires
     same-length
     returns
     covers-case-requires

@@ -21,9 +21,9 @@ add-if1 c = search needs
 
 returns : tie.Need-returns
 returns c =
-    let a = c .before .before .before .before .before .before .args in
-    let short : length (now (a .work)) < workSize (a .limits) = omega (arith, c .if1 .taken, c .before .half-size .ensures) in
-    (sym (short-verify (a .limits) (now (a .first)) (now (a .second)) (now (a .evidence)) (length (now (a .work))) short), sym (short-work (a .limits) (now (a .first)) (now (a .second)) (now (a .work)) short))
+    let a = c .before .before .before .before .before .before .before .args in
+    let short : length (now (a .work)) < workSize (a .limits) = omega (arith, c .before .if1 .taken, c .before .before .half-size .ensures) in
+    rw (c .short-buffer .ensures) (sym (short-verify (a .limits) (now (a .first)) (now (a .second)) (now (a .evidence)) (length (now (a .work))) short), sym (short-work (a .limits) (now (a .first)) (now (a .second)) (now (a .work)) short))
 
 prepare-requires : tie.Need-prepare-requires
 prepare-requires c κs = search needs
@@ -73,12 +73,16 @@ returns-3 c =
       prepare .ensures .1 ∙ sym (prepared-work (a .limits) (now (a .first)) (now (a .second)) (now (a .work)) enough (prepare .result) (sym (prepare .ensures .0))),
     )
 
+short-buffer-requires : tie.Need-short-buffer-requires
+short-buffer-requires c κs = search needs
+
 pub verify-spec : {M : Type 1} → statement M
 verify-spec =
     tie.close
     (tie.spec
     half-size-requires
     add-if1
+    short-buffer-requires
     returns
     prepare-requires
     enum-known-pair

@@ -21,12 +21,12 @@ has-room-requires c κs = search needs
 
 returns : tie.Need-returns
 returns c =
-    let st = c .before .before .before .before .before .before .before in
+    let st = c .before .before .before .before .before .before .before .before in
     let a = st .args in
-    let size = c .before .before .half-size in
-    let room = c .before .has-room in
+    let size = c .before .before .before .half-size in
+    let room = c .before .before .has-room in
     let same = ap (λ n. roomy (a .limits) n (length (now (a .work))) (length (now (a .result)))) (sym (size .ensures)) ∙ sym (room .ensures) in
-    short-call (a .limits) (now (a .first)) (now (a .second)) (now (a .work)) (now (a .result)) (same ∙ not-true (room .result) (c .if1 .taken))
+    rw (c .short-buffer .ensures) (short-call (a .limits) (now (a .first)) (now (a .second)) (now (a .work)) (now (a .result)) (same ∙ not-true (room .result) (c .before .if1 .taken)))
 
 prepare-requires : tie.Need-prepare-requires
 prepare-requires c κs =
@@ -98,12 +98,16 @@ returns-3 c =
     prepared-call (a .limits) (now (a .first)) (now (a .second)) (now (a .work)) (now (a .result)) is-roomy
     (prepare .result) (Refused (refusal .0 .0)) (prepare .last .1 .1 .1 .0) (prepare .ensures .0) (prepare .ensures .1) (refusal .1)
 
+short-buffer-requires : tie.Need-short-buffer-requires
+short-buffer-requires c κs = search needs
+
 pub lcs-spec : {M : Type 1} → statement M
 lcs-spec =
     tie.close
     (tie.spec
     half-size-requires
     has-room-requires
+    short-buffer-requires
     returns
     prepare-requires
     enum-known-pair

@@ -16,9 +16,9 @@ build-requires c κs =
 
 returns : tie.Need-returns
 returns c =
-    let a = c .before .before .before .before .before .before .before .before .before .args in
-    let build = c .before .before .before .before .build in
-    made-many (a .limits) (now (a .first)) (now (a .second)) (build .result) _ _ (build .ensures) (now (a .result)) (c .if1 .taken)
+    let a = c .before .before .before .before .before .before .before .before .before .before .args in
+    let build = c .before .before .before .before .before .build in
+    rw (c .refuse .ensures) (made-many (a .limits) (now (a .first)) (now (a .second)) (build .result) _ _ (build .ensures) (now (a .result)) (c .before .if1 .taken))
 
 slice-aggregate-write-table : tie.Need-slice-aggregate-write-table
 slice-aggregate-write-table c = search needs
@@ -36,12 +36,16 @@ returns-2 c =
     let write = c .before .before .write-table in
     made-few (a .limits) (now (a .first)) (now (a .second)) (build .result) _ _ (build .ensures) (write .result) (now (a .result)) _ (c .before .before .before .before .before .if1 .left) (write .ensures .0) (write .ensures .1)
 
+refuse-requires : tie.Need-refuse-requires
+refuse-requires c κs = search needs
+
 pub write-common-spec : {M : Type 1} → statement M
 write-common-spec =
     tie.close
     (tie.spec
     slice-aggregate-build
     build-requires
+    refuse-requires
     returns
     slice-aggregate-write-table
     write-table-requires

@@ -16,8 +16,8 @@ has-form-requires c κs = search needs
 
 returns : tie.Need-returns
 returns c =
-    let args = c .before .before .before .before .before .before .before .before .args in
-    (form-refused (args .limits) (now (args .case)) (now (args .book)) (mostSpecificCards (args .limits) (now (args .case)) (now (args .book))) (sym (c .before .has-form .ensures) ∙ not-true _ (c .if1 .taken)), refl)
+    let args = c .before .before .before .before .before .before .before .before .before .args in
+    rw (c .refuse .ensures) (form-refused (args .limits) (now (args .case)) (now (args .book)) (mostSpecificCards (args .limits) (now (args .case)) (now (args .book))) (sym (c .before .before .has-form .ensures) ∙ not-true _ (c .before .if1 .taken)), refl)
 
 read-cards-requires : tie.Need-read-cards-requires
 read-cards-requires c κs = search needs
@@ -54,12 +54,16 @@ returns-3 c =
     let read-cards = c .before .before .before .read-cards in
     (cards-refused (args .limits) (now (args .case)) (now (args .book)) (mostSpecificCards (args .limits) (now (args .case)) (now (args .book))) (sym (c .before .before .before .before .before .before .has-form .ensures) ∙ not-false _ (c .before .before .before .before .before .if1 .left)) (find-cards .result) (find-cards .ensures .0) (read-cards .result) (read-cards .ensures) (c .before .refusal .given .0 .0) (c .before .refusal .given .1), refl)
 
+refuse-requires : tie.Need-refuse-requires
+refuse-requires c κs = search needs
+
 pub ask-book-spec : {M : Type 1} → statement M
 ask-book-spec =
     tie.close
     (tie.spec
     find-cards-requires
     has-form-requires
+    refuse-requires
     returns
     read-cards-requires
     enum-told

@@ -14,8 +14,8 @@ add-if1 c = search needs
 
 returns : tie.Need-returns
 returns c =
-    let args = c .before .before .before .before .before .args in
-    short-call (args .limits) (now (args .case)) (now (args .book)) (now (args .work)) (omega (arith, c .before .half-size .ensures, c .if1 .taken))
+    let args = c .before .before .before .before .before .before .args in
+    rw (c .short-buffer .ensures) (short-call (args .limits) (now (args .case)) (now (args .book)) (now (args .work)) (omega (arith, c .before .before .half-size .ensures, c .before .if1 .taken)))
 
 read-requires : tie.Need-read-requires
 read-requires c κs = search needs
@@ -51,12 +51,16 @@ returns-3 c =
     let read = c .before .before .before .read in
     case-refused (args .limits) (now (args .case)) (now (args .book)) (now (args .work)) (omega (arith, c .before .before .before .before .before .half-size .ensures, c .before .before .before .before .if1 .left)) (read .result) (read .ensures) (c .before .refusal .given .0 .0) (c .before .refusal .given .1)
 
+short-buffer-requires : tie.Need-short-buffer-requires
+short-buffer-requires c κs = search needs
+
 pub most-specific-spec : {M : Type 1} → statement M
 most-specific-spec =
     tie.close
     (tie.spec
     half-size-requires
     add-if1
+    short-buffer-requires
     returns
     read-requires
     enum-told

@@ -17,9 +17,9 @@ place-requires c κs = search needs
 
 returns : tie.Need-returns
 returns c =
-    let a = c .before .before .before .before .args in
-    let e = short-answer (a .limits) (now (a .picture)) (length (now (a .result))) (omega (arith, c .if1 .taken, c .before .place .ensures)) in
-    (sym e, sym (result-of (a .limits) (now (a .picture)) (now (a .result)) _ e))
+    let a = c .before .before .before .before .before .args in
+    let e = short-answer (a .limits) (now (a .picture)) (length (now (a .result))) (omega (arith, c .before .if1 .taken, c .before .before .place .ensures)) in
+    rw (c .short-buffer .ensures) (sym e, sym (result-of (a .limits) (now (a .picture)) (now (a .result)) _ e))
 
 read-requires : tie.Need-read-requires
 read-requires c κs = search needs
@@ -66,11 +66,15 @@ returns-3 c =
     let e = long-answer (a .limits) (now (a .picture)) (length (now (a .result))) (answer.Refused (refusal .0 .0)) (omega (arith, room, at)) (sym (read .ensures) ∙ refusal .1) in
     (sym e, sym (result-of (a .limits) (now (a .picture)) (now (a .result)) _ e))
 
+short-buffer-requires : tie.Need-short-buffer-requires
+short-buffer-requires c κs = search needs
+
 pub normalize-spec : {M : Type 1} → statement M
 normalize-spec =
     tie.close
     (tie.spec
     place-requires
+    short-buffer-requires
     returns
     read-requires
     enum-known-rows

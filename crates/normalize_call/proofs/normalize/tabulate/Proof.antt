@@ -18,8 +18,8 @@ build-requires c κs = search needs
 
 returns : tie.Need-returns
 returns c =
-    let built = c .before .before .before .before .build .ensures in
-    (rw (many-rows built (c .if1 .taken)), refl)
+    let built = c .before .before .before .before .before .build .ensures in
+    rw (c .too-many .ensures) (rw (many-rows built (c .before .if1 .taken)), refl)
 
 slice-aggregate-write-table : tie.Need-slice-aggregate-write-table
 slice-aggregate-write-table c = search needs
@@ -40,12 +40,16 @@ returns-2 c =
       written .1 ∙ ap (λ (l : List ℕ). put (now (a .result)) 0 l) (built-file built within),
     )
 
+too-many-requires : tie.Need-too-many-requires
+too-many-requires c κs = search needs
+
 pub tabulate-spec : {M : Type 1} → statement M
 tabulate-spec =
     tie.close
     (tie.spec
     slice-aggregate-build
     build-requires
+    too-many-requires
     returns
     slice-aggregate-write-table
     write-table-requires

@@ -20,7 +20,16 @@ returns c = rw (sym (c .before .before .before .scan .ensures), c .before .n .gi
 
 returns-2 : tie.Need-returns-2
 unfolding answerOf
-returns-2 c = rw (sym (c .before .before .before .scan .ensures), c .before .number .given .1)
+returns-2 c = rw (sym (c .before .before .before .before .scan .ensures), c .before .before .number .given .1, c .refuse .ensures)
+
+refuse-requires : tie.Need-refuse-requires
+refuse-requires c κs = search needs
 
 pub read-spec : {M : Type 1} → statement M
-read-spec = tie.close (tie.spec scan-requires enum-known-n enum-known-number returns returns-2)
+read-spec = tie.close (tie.spec
+    scan-requires
+    enum-known-n
+    enum-known-number
+    refuse-requires
+    returns
+    returns-2)

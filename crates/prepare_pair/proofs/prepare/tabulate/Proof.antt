@@ -17,9 +17,9 @@ build-requires c κs = search needs
 
 returns : tie.Need-returns
 returns c =
-    let a = c .before .before .before .before .before .before .before .before .before .args in
-    let built = c .before .before .before .before .build .ensures in
-    (sym (many-first (a .limits) (now (a .first)) (now (a .second)) (many-rows built (c .if1 .taken))), refl)
+    let a = c .before .before .before .before .before .before .before .before .before .before .args in
+    let built = c .before .before .before .before .before .build .ensures in
+    rw (c .too-many .ensures) (sym (many-first (a .limits) (now (a .first)) (now (a .second)) (many-rows built (c .before .if1 .taken))), refl)
 
 slice-aggregate-build-2 : tie.Need-slice-aggregate-build-2
 slice-aggregate-build-2 c = search needs
@@ -29,11 +29,11 @@ build-requires-2 c κs = search needs
 
 returns-2 : tie.Need-returns-2
 returns-2 c =
-    let a = c .before .before .before .before .before .before .before .before .before .before .before .before .before .before .before .args in
-    let built = c .before .before .before .before .before .before .before .before .before .before .build .ensures in
-    let within = c .before .before .before .before .before .before .if1 .left in
-    let built-second = c .before .before .before .before .build2 .ensures in
-    (sym (many-second (a .limits) (now (a .first)) (now (a .second)) (few-rows built within) (many-rows built-second (c .if2 .taken))), refl)
+    let a = c .before .before .before .before .before .before .before .before .before .before .before .before .before .before .before .before .args in
+    let built = c .before .before .before .before .before .before .before .before .before .before .before .build .ensures in
+    let within = c .before .before .before .before .before .before .before .if1 .left in
+    let built-second = c .before .before .before .before .before .build2 .ensures in
+    rw (c .too-many2 .ensures) (sym (many-second (a .limits) (now (a .first)) (now (a .second)) (few-rows built within) (many-rows built-second (c .before .if2 .taken))), refl)
 
 slice-aggregate-write-halves : tie.Need-slice-aggregate-write-halves
 slice-aggregate-write-halves c = search needs
@@ -77,15 +77,23 @@ returns-3 c =
     let written = c .before .before .write-halves in
     (sym (built-tables built built-second within within-second), built-halves built built-second within within-second (now (a .work)) (written .last .1 .1 .1 .1 .1 .0) (written .ensures))
 
+too-many-requires : tie.Need-too-many-requires
+too-many-requires c κs = search needs
+
+too-many-requires-2 : tie.Need-too-many-requires-2
+too-many-requires-2 c κs = search needs
+
 pub tabulate-spec : {M : Type 1} → statement M
 tabulate-spec =
     tie.close
     (tie.spec
     slice-aggregate-build
     build-requires
+    too-many-requires
     returns
     slice-aggregate-build-2
     build-requires-2
+    too-many-requires-2
     returns-2
     slice-aggregate-write-halves
     slice-aggregate-write-halves-2

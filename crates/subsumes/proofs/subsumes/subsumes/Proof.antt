@@ -29,13 +29,13 @@ has-room-requires c κs = search needs
 
 returns : tie.Need-returns
 returns c =
-    let st = c .before .before .before .before .before .before .before .before in
+    let st = c .before .before .before .before .before .before .before .before .before in
     let a = st .args in
-    let place = c .before .before .individual-place in
-    let size : place .result ≡ evidenceSize (a .limits) = omega (arith, place .ensures, c .before .before .before .individuals-within .ensures) in
-    let room = c .before .has-room in
+    let place = c .before .before .before .individual-place in
+    let size : place .result ≡ evidenceSize (a .limits) = omega (arith, place .ensures, c .before .before .before .before .individuals-within .ensures) in
+    let room = c .before .before .has-room in
     let same = ap (λ n. roomy (a .limits) n (length (now (a .work))) (length (now (a .result)))) (sym size) ∙ sym (room .ensures) in
-    short-call (a .limits) (now (a .first)) (now (a .second)) (now (a .work)) (now (a .result)) (same ∙ not-true (room .result) (c .if1 .taken))
+    rw (c .short-buffer .ensures) (short-call (a .limits) (now (a .first)) (now (a .second)) (now (a .work)) (now (a .result)) (same ∙ not-true (room .result) (c .before .if1 .taken)))
 
 prepare-requires : tie.Need-prepare-requires
 prepare-requires c κs =
@@ -111,6 +111,9 @@ returns-3 c =
     prepared-call (a .limits) (now (a .first)) (now (a .second)) (now (a .work)) (now (a .result)) is-roomy
     (prepare .result) (Refused (refusal .0 .0)) (prepare .last .1 .1 .1 .0) (prepare .ensures .0) (prepare .ensures .1) (refusal .1)
 
+short-buffer-requires : tie.Need-short-buffer-requires
+short-buffer-requires c κs = search needs
+
 pub subsumes-spec : {M : Type 1} → statement M
 subsumes-spec =
     tie.close
@@ -118,6 +121,7 @@ subsumes-spec =
     individuals-within-requires
     individual-place-requires
     has-room-requires
+    short-buffer-requires
     returns
     prepare-requires
     enum-known-pair
