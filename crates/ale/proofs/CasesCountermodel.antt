@@ -8,7 +8,8 @@ use Rattle.ale.specs.Countermodel.{countermodel, individual, maxIndividu
 use Rattle.ale.specs.ModelCheck.{fitsTest}
 use Rattle.ale.specs.PictureSignature.{NameSet}
 use Rattle.ale.specs.Tree.{Tree, bottomLabel, cons, exists, forAll, nil, node}
-use Rattle.ale.proofs.CasesTree.{Sig, double, excludes, five, leaf, names, none, single, three, threeFive}
+use Rattle.ale.proofs.CasesMap.{k7-apart, k7-joined}
+use Rattle.ale.proofs.CasesTree.{Sig, excludes, five, leaf, names, none, single, three}
 
 abbrev everything : NameSet
 everything = names (2 ^ nameCount - 1) tt
@@ -29,11 +30,10 @@ counter-excluded = refl
 abbrev pub k7-counter : Tree Sig
 k7-counter = individual Sig none (cons exists 8 (individual Sig three nil) (cons exists 8 (individual Sig five nil) nil))
 
-counter-k7 : countermodel Sig (single exists (leaf threeFive)) (double exists (leaf three) exists (leaf five)) ≡ k7-counter
+counter-k7 : countermodel Sig k7-joined k7-apart ≡ k7-counter
 counter-k7 = refl
 
-counter-k7-checked : (fitsTest Sig (double exists (leaf three) exists (leaf five)) k7-counter ≡ true) ×
-    (fitsTest Sig (single exists (leaf threeFive)) k7-counter ≡ false)
+counter-k7-checked : (fitsTest Sig k7-apart k7-counter ≡ true) × (fitsTest Sig k7-joined k7-counter ≡ false)
 counter-k7-checked = (refl, refl)
 
 -- 3 may hold of the individual that some r {} asks for

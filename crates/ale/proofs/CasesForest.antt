@@ -4,10 +4,10 @@ use Rattle.ale.specs.Forest.{consReduced}
 use Rattle.ale.specs.Tree.{cons, exists, forAll, nil}
 use Rattle.ale.proofs.CasesTree.{Sig, bottomLeaf, leaf, none}
 
-all-dropped : consReduced Sig forAll 8 (leaf none) nil ≡ nil
+pub all-dropped : consReduced Sig forAll 8 (leaf none) nil ≡ nil
 all-dropped = refl
 
-some-kept : consReduced Sig exists 8 (leaf none) nil ≡ cons exists 8 (leaf none) nil
+pub some-kept : consReduced Sig exists 8 (leaf none) nil ≡ cons exists 8 (leaf none) nil
 some-kept = refl
 
 bottom-kept : consReduced Sig forAll 8 bottomLeaf nil ≡ cons forAll 8 bottomLeaf nil

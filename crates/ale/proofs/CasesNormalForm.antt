@@ -16,11 +16,11 @@ two-alls : Ordered Sig (double forAll (leaf three) forAll (leaf five)) → ⊥
 two-alls h = let l : 8 < 8 = h .0 .0 in omega arith
 
 -- a lower role after a higher one
-roles-falling : Ordered Sig (under (cons exists 9 (leaf three) (cons exists 8 (leaf five) nil))) → ⊥
+pub roles-falling : Ordered Sig (under (cons exists 9 (leaf three) (cons exists 8 (leaf five) nil))) → ⊥
 roles-falling h = let l : 9 ≤ 8 = h .0 .0 in omega arith
 
 -- ⊥ with a successor, or with a name
-bottom-successor : CanonicalBottom Sig (node (bottomLabel Sig) (cons exists 8 (leaf none) nil)) → ⊥
+pub bottom-successor : CanonicalBottom Sig (node (bottomLabel Sig) (cons exists 8 (leaf none) nil)) → ⊥
 bottom-successor h = let e = h .0 tt .1 in absurd (let z : _≡_ {A = ℕ} 1 0 = ap (λ f. sizes Sig f) e in omega arith)
 
 bottom-name : CanonicalBottom Sig (node (record { wanted = three; excluded = none; bottom = true }) nil) → ⊥

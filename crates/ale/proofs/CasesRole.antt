@@ -28,10 +28,10 @@ narrow r s = eqb r 9 && eqb s 8
 abbrev within : ℕ → ℕ → Bool
 within r s = eqb r s || narrow r s
 
-within-refl : (r : ℕ) → T (within r r)
+pub within-refl : (r : ℕ) → T (within r r)
 within-refl r = or-left (eqb r r) (narrow r r) (eqb-refl r)
 
-within-trans : (r s t : ℕ) → T (within r s) → T (within s t) → T (within r t)
+pub within-trans : (r s t : ℕ) → T (within r s) → T (within s t) → T (within r t)
 within-trans r s t a b = step (or-split (eqb r s) (narrow r s) a) (or-split (eqb s t) (narrow s t) b)
   where
     step : T (eqb r s) ⊎ T (narrow r s) → T (eqb s t) ⊎ T (narrow s t) → T (within r t)
@@ -42,7 +42,7 @@ within-trans r s t a b = step (or-split (eqb r s) (narrow r s) a) (or-split (eqb
         let y = eqb→eq s 9 (and-left (eqb s 9) (eqb t 8) m) in
         absurd (omega arith)
 
-within-below : (r s : ℕ) → T (within r s) → s < roles → r < roles
+pub within-below : (r s : ℕ) → T (within r s) → s < roles → r < roles
 within-below r s a l =
     ⊎-elim
     (λ e. let x = eqb→eq r s e in omega arith)
@@ -69,7 +69,7 @@ broad-subsumes : (mapsTo Nested some-broad some-narrow ≡ true) × (mapsTo Nest
 broad-subsumes = (refl, refl)
 
 -- a value restriction of the broad role binds the narrow one: all 8 {3}, some 9 {5}
-broad-merged : normalTree Nested (encoded Nested (under (cons forAll 8 (wanting 8 tt) (cons exists 9 (wanting 32 tt) nil)))) 1 ≡
+pub broad-merged : normalTree Nested (encoded Nested (under (cons forAll 8 (wanting 8 tt) (cons exists 9 (wanting 32 tt) nil)))) 1 ≡
     under (cons forAll 8 (wanting 8 tt) (cons forAll 9 (wanting 8 tt) (cons exists 9 (wanting 40 tt) nil)))
 broad-merged = refl
 

@@ -11,17 +11,18 @@ use Rattle.ale.specs.RowMap.{IsHomomorphism, edgeAgrees, images, labelAg
 use Rattle.ale.specs.Rows.{firstFrom}
 use Rattle.ale.specs.Table.{Table}
 use Rattle.ale.specs.Tree.{Tree, exists, forAll}
-use Rattle.ale.proofs.CasesTree.{Sig, bottomLeaf, double, five, leaf, single, three, threeFive}
+use Rattle.ale.proofs.CasesMap.{k7-apart, k7-joined}
+use Rattle.ale.proofs.CasesTree.{Sig, bottomLeaf, double, leaf, single, three, threeFive}
 
 abbrev rowImages : Tree Sig → Tree Sig → List ℕ
 rowImages v d = images Sig (encoded Sig v) (encoded Sig d) ((encoded Sig d) .rows)
 
 -- K7: both rows go to row 1
-k7-map : rowImages (single exists (leaf threeFive)) (double exists (leaf three) exists (leaf five)) ≡ 0 ∷ 1 ∷ 1 ∷ []
+k7-map : rowImages k7-joined k7-apart ≡ 0 ∷ 1 ∷ 1 ∷ []
 k7-map = refl
 
 -- of two rows that can be, the lowest
-lowest-map : rowImages (double exists (leaf three) exists (leaf threeFive)) (single exists (leaf three)) ≡ 0 ∷ 1 ∷ []
+pub lowest-map : rowImages (double exists (leaf three) exists (leaf threeFive)) (single exists (leaf three)) ≡ 0 ∷ 1 ∷ []
 lowest-map = refl
 
 -- below a ⊥ image all rows go where their parent goes

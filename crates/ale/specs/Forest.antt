@@ -2,15 +2,14 @@
 --   append         one after the other
 --   byRole         what h gives for each role below n, in turn
 --   isNil          no successors
---   trivial        no names, not ⊥ and no successors
+--   trivial        01: no names, no mark and no successors
 --   dropped        01: an all-successor that is trivial; a some-successor never is
 --   consReduced    one successor more, unless it is dropped
 use Prim.Native.Nat.{suc, zero, ℕ}
-use mathlib.Core.Bool.{Bool, _&&_, false, true}
+use mathlib.Core.Bool.{Bool, _&&_, false, not, true}
 use Rattle.table.specs.Pick.{pick}
-use Rattle.ale.specs.Homomorphism.{labelWithin}
 use Rattle.ale.specs.Signature.{Signature}
-use Rattle.ale.specs.Tree.{Forest, Kind, Tree, cons, emptyLabel, exists, forAll, nil, node}
+use Rattle.ale.specs.Tree.{Forest, Kind, Tree, cons, exists, forAll, nil, node}
 
 module _ (S : Signature) where
   abbrev pub append : Forest S → Forest S → Forest S
@@ -26,7 +25,8 @@ module _ (S : Signature) where
   isNil (cons k r t f) = false
 
   abbrev pub trivial : Tree S → Bool
-  trivial (node l f) = labelWithin S l (emptyLabel S) && isNil f
+  trivial (node l f) =
+      (S .subset (l .wanted) (S .none) && (S .subset (l .excluded) (S .none) && not (l .bottom))) && isNil f
 
   abbrev pub dropped : Kind → Tree S → Bool
   dropped exists t = false
