@@ -4,7 +4,6 @@ use Prim.Native.Nat.{_≤_}
 use native.Mathlib.Omega.{arith}
 use denote.Ref.{now}
 use Rattle.table.specs.Bounds.{maxRows}
-use Rattle.picture.specs.declared.answer.Input.the-variants.{First}
 use Rattle.picture.proofs.Readables.{answer-most}
 use Rattle.interface.specs.Calls.{validateWord}
 use borrow.Author.Needs.{needs}
@@ -21,7 +20,7 @@ read-word-requires : tie.Need-read-word-requires
 read-word-requires c κs =
     λ n e.
     let limits = c .before .bench in
-    let h : n ≤ maxRows = rw (limits .ensures .0) at (answer-most (limits .result) (now (c .before .before .before .args .picture)) First n (sym (c .read .ensures) ∙ e)) in
+    let h : n ≤ maxRows = rw (limits .ensures .0) at (answer-most (limits .result) (now (c .before .before .before .args .picture)) _ n (sym (c .read .ensures) ∙ e)) in
     omega arith
 
 returns : tie.Need-returns
