@@ -29,6 +29,7 @@ use Rattle.lcs.specs.Call.{commonAnswer, lcsAnswer, lcsResult, lcsWork}
 use Rattle.lcs.specs.Product.{lcsCount, lcsFile, lcsTree}
 use Rattle.lcs.specs.declared.common.Common.{Common}
 use Rattle.lcs.specs.declared.common.Common.the-variants.{Length, Refused}
+use Rattle.lcs.proofs.AgainstShortcuts.{k9-common, k9-first, k9-second, spread}
 
 pub data Case : Type 0 where
   told : List ℕ → List ℕ → Common → List ℕ → Case
@@ -68,10 +69,7 @@ allAll wanted = picture (root 0 ∷ allRow 0 8 0 ∷ allRow 1 9 wanted ∷ [])
 abbrev someSome : ℕ → List ℕ
 someSome wanted = picture (root 0 ∷ someRow 0 8 0 ∷ someRow 1 9 wanted ∷ [])
 
--- all r{3}, some r{5}, and its normal table
-abbrev spread : List ℕ
-spread = picture (root 0 ∷ allRow 0 8 8 ∷ someRow 0 8 32 ∷ [])
-
+-- the normal table of all r{3}, some r{5}
 abbrev spreadNormal : List ℕ
 spreadNormal = picture (root 0 ∷ allRow 0 8 8 ∷ someRow 0 8 40 ∷ [])
 
@@ -103,8 +101,7 @@ badLength = 0x10 ∷ 0 ∷ 20 ∷ []
 abbrev pub cases : List Case
 cases =
     -- K9, K10, K11
-    told (picture (root 8 ∷ someRow 0 8 16 ∷ [])) (picture (root 40 ∷ someRow 0 8 80 ∷ someRow 0 8 128 ∷ [])) (Length 75)
-    (picture (root 8 ∷ someRow 0 8 16 ∷ someRow 0 8 0 ∷ []))
+    told k9-first k9-second (Length 75) k9-common
     ∷ told (allOf 8) (allOf 32) (Length 27) empty
     ∷ told noneReached (allOf 32) (Length 51) (allOf 32)
     -- the normal tables are intersected, never the raw ones

@@ -6,5 +6,6 @@ pub mod Answers
 pub mod Refusals
 -- the condition
 pub mod Conditions
--- worked cases, computed
+-- worked cases, computed; first those that rule out a shortcut
+pub mod AgainstShortcuts
 pub mod CommonCases
