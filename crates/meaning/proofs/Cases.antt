@@ -5,7 +5,7 @@
 --   normal-marks     a mark in any row of a set is a mark of its union
 --   normal-some      an empty some-successor stays
 --   means-names      wanted and excluded names, the mark, kind and role of each row
-use Prim.Native.Nat.{ℕ}
+use Prim.Native.Nat.{_^_, ℕ}
 use mathlib.Core.Bool.{false, true}
 use mathlib.Core.List.{List, [], _++_, _∷_}
 use mathlib.Core.Path.{_≡_, refl}
@@ -62,10 +62,15 @@ pub normal-some : normalFile benchLimits twice ≡ twice
 unfolding be beBytes rowOf endBytes rowCount normalTreeOf normalFile
 normal-some = refl
 
--- {1}, some r{} below it, excluding 2, with all s impossible below that
+-- {40}, some r{} below it, excluding 2, with all s impossible below that
 abbrev said : List ℕ
-said = rowOf 0 0 0 0 2 0 ++ (rowOf 0 1 8 0 0 4 ++ (rowOf 1 2 9 1 0 0 ++ endBytes))
+said = rowOf 0 0 0 0 (2 ^ 40) 0 ++ (rowOf 0 1 8 0 0 4 ++ (rowOf 1 2 9 1 0 0 ++ endBytes))
 
-pub means-names : pictureTree benchLimits said ≡ node (record { wanted = setAt 2; excluded = setAt 0; bottom = false }) (cons exists 8 (node (record { wanted = setAt 0; excluded = setAt 4; bottom = false }) (cons forAll 9 (node (record { wanted = setAt 0; excluded = setAt 0; bottom = true }) nil) nil)) nil)
+pub means-names : pictureTree benchLimits said ≡
+    node (record { wanted = setAt (2 ^ 40); excluded = setAt 0; bottom = false })
+    (cons exists 8
+    (node (record { wanted = setAt 0; excluded = setAt 4; bottom = false })
+    (cons forAll 9 (node (record { wanted = setAt 0; excluded = setAt 0; bottom = true }) nil) nil))
+    nil)
 unfolding be beBytes rowOf endBytes rowCount
 means-names = refl
