@@ -13,7 +13,7 @@ use Rattle.ale.specs.Encoding.{Row, noRow}
 use Rattle.ale.specs.PictureSignature.{pictureSignature}
 use Rattle.ale.specs.Tree.{Kind, exists, forAll}
 use Rattle.table.specs.Fields.{endBytes, rowOf}
-use Rattle.table.specs.Layout.{endLength, endTag, kindRoot, nameBytes, numberSize, rowLength, rowTag}
+use Rattle.table.specs.Layout.{endLength, endTag, nameBytes, numberSize, rowLength, rowTag}
 use Rattle.table.specs.Number.{Bytes, beBytes}
 use Rattle.table.specs.Pick.{pick}
 use Rattle.meaning.specs.File.{codeAt, kindCode, markCode, rowAt, rowsFrom}
@@ -44,9 +44,9 @@ kind-byte : (k : Kind) → kindCode k < 256
 kind-byte exists = omega arith
 kind-byte forAll = omega arith
 
-code-byte : (b : Bool) (k : Kind) → pick b kindRoot (kindCode k) < 256
-code-byte true k = omega arith
-code-byte false k = kind-byte k
+code-byte : (b : Bool) (n : ℕ) (k : Kind) → n < 256 → pick b n (kindCode k) < 256
+code-byte true n k l = l
+code-byte false n k l = kind-byte k
 
 mark-byte : (b : Bool) → markCode b < 256
 mark-byte true = omega arith
@@ -69,5 +69,5 @@ bytes-rows [] y h = bytes-none
 bytes-rows (w ∷ ws) y h =
     bytes-append (rowAt y w) (rowsFrom (suc y) ws)
     (bytes-row (w .parent) (codeAt y (w .kind)) (w .role) (markCode (w .label .bottom)) (w .label .wanted .set) (w .label .excluded .set)
-    (code-byte (eqb y 0) (w .kind)) (h 0 (omega arith)) (mark-byte (w .label .bottom)))
+    (code-byte (eqb y 0) _ (w .kind) (omega arith)) (h 0 (omega arith)) (mark-byte (w .label .bottom)))
     (bytes-rows ws (suc y) (λ j l. h (suc j) (omega arith)))
