@@ -10,7 +10,9 @@ enum-known-answer : tie.Need-enum-known-answer
 enum-known-answer c = search needs
 
 value-word-requires : tie.Need-value-word-requires
-value-word-requires c κs = (omega arith, c .before .before .before .pre (c .before .answer .given .0 .0) (c .before .answer .given .1))
+value-word-requires c κs =
+    let few = c .before .before .before .pre (c .before .answer .given .0 .0) (c .before .answer .given .1) in
+    (omega arith, omega arith)
 
 enum-known-answer-2 : tie.Need-enum-known-answer-2
 enum-known-answer-2 c = search needs
