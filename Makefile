@@ -3,7 +3,7 @@
 # make test       prove everything, then run the C tests, bounded fuzzing, the comparison with the Rust
 #                 implementation, the tests of the verdict program and those of the installed library;
 #                 the last line is 'N passed, M failed'
-# make demo       validate the sample pictures, print their normal tables, ask which subsumes which, check the
+# make demo       validate a picture and the samples, print their normal tables, ask which subsumes which, check the
 #                 sample evidence, print common pictures, look up cards and explain them, and run the verdict
 #                 program
 # make bench      print one table of the time of each call beside the same call hand-written in Rust and in C, and how
@@ -50,7 +50,7 @@ gate: tools
 	@mkdir -p build
 	@CC='$(CC)' sh tests/gate.sh; echo $$? >build/gate.status
 
-EXAMPLES = validate normalize subsumes verify lcs most_specific explain
+EXAMPLES = bytes validate normalize subsumes verify lcs most_specific explain
 EXAMPLE_PARTS = examples/input.c examples/rows.c examples/evidence.c
 
 demo: library program
@@ -59,6 +59,7 @@ demo: library program
 	    $(CC) $(CFLAGS) -Iinclude examples/$$example.c $(EXAMPLE_PARTS) $(LIBRARY) -o build/examples/$$example || \
 	        exit; \
 	done
+	@build/examples/bytes
 	@build/examples/validate samples/*.pic
 	@build/examples/normalize samples/*.pic
 	@sh samples/subsumes.sh build/examples/subsumes build/examples/verify

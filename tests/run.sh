@@ -137,13 +137,12 @@ block() {
     awk -v fence="\`\`\`$1" -v n="$2" '$0 == fence { at++; next } /^```$/ { if (at == n) exit } at == n' README.md
 }
 
-# readme N PRINTED ARGUMENT..: the Nth program in C builds, and prints this.
+# readme PRINTED ARGUMENT..: the README's one program in C builds, and prints this. Others are in examples/, and tested.
 readme() {
-    block c "$1" >"$out/readme$1.c"
-    program=$out/readme$1
-    expected=$2
-    shift 2
-    $c "$program.c" "$archive" -o "$program" && printed=$("$program" "$@") && [ "$printed" = "$expected" ]
+    block c 1 >"$out/readme.c" && [ -z "$(block c 2)" ] || return
+    expected=$1
+    shift
+    $c "$out/readme.c" "$archive" -o "$out/readme" && printed=$("$out/readme" "$@") && [ "$printed" = "$expected" ]
 }
 
 readme_python() {
@@ -151,13 +150,15 @@ readme_python() {
         [ "$(LD_LIBRARY_PATH=$out/shared python3 "$out/readme.py")" = 'cards [2, 3, 4]' ]
 }
 
-# The README shows what make demo prints.
+# The README shows twelve lines of what make demo prints: two answers, a common picture and the cards of a case.
 demo() {
-    awk '/^`make demo` ends with$/ { at = 1; next } at && /^```$/ { if (at++ == 2) exit; next } at == 2' README.md \
-        >"$out/demo.log" &&
-        for example in validate normalize subsumes verify lcs most_specific explain verdict; do
-            cat "samples/$example.stdout"
-        done | diff - "$out/demo.log"
+    awk '/^Twelve lines of what `make demo`/ { at = 1; next } at && /^```$/ { if (at++ == 2) exit; next } at == 2' \
+        README.md >"$out/demo.log" && [ "$(wc -l <"$out/demo.log")" -eq 12 ] &&
+        {
+            head -n 7 samples/subsumes.stdout
+            sed -n '/^both.pic each.pic:/,/row 2/p' samples/lcs.stdout
+            grep '^friend.pic cards.book:' samples/most_specific.stdout
+        } | diff - "$out/demo.log"
 }
 
 one 'shared library' shared
@@ -175,6 +176,7 @@ fi
 count install sh tests/install.sh "$archive" "$verdict" "$PWD/$out/shared"
 count manual sh tests/manual.sh "$archive"
 one samples samples
+one 'example bytes' example bytes "$out/bytes"
 one 'example validate' example validate "$out/validate" samples/*.pic
 one 'example normalize' example normalize "$out/normalize" samples/*.pic
 one 'example verify' example verify sh samples/verify.sh "$out/verify"
@@ -182,18 +184,13 @@ one 'example subsumes' example subsumes sh samples/subsumes.sh "$out/subsumes" "
 one 'example lcs' example lcs sh samples/lcs.sh "$out/lcs"
 one 'example most_specific' example most_specific sh samples/most_specific.sh "$out/most_specific"
 one 'example explain' example explain sh samples/explain.sh "$out/explain"
-one 'readme, validate' readme 1 'a picture of 2 rows'
-one 'readme, yes' readme 2 'yes, with a map of 12 bytes
+one 'readme, yes' readme 'yes, with a map of 12 bytes
   row 0 goes to row 0
   row 1 goes to row 1
   row 2 goes to row 1
 checked: taken' samples/both.pic samples/each.pic
-one 'readme, no' readme 2 'no, with a refutation of 45 bytes
+one 'readme, no' readme 'no, with a refutation of 45 bytes
 checked: taken' samples/each.pic samples/both.pic
-one 'readme, common' readme 3 'a common picture of 5 rows' samples/family.pic samples/friend.pic
-one 'readme, cards' readme 4 'card 2
-card 3
-card 4' samples/friend.pic samples/cards.book
 one 'readme, demo' demo
 
 count verdict sh tests/verdict.sh "$verdict"
