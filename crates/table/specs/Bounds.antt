@@ -9,6 +9,7 @@ maxRows = 256
 abbrev pub maxDepth : ℕ
 maxDepth = 12
 
+-- those of paper 01; paper 02 (U4) calls them the bench tool's
 abbrev pub benchLimits : Limits
 benchLimits = record { rows = maxRows; depth = maxDepth }
 

@@ -62,6 +62,7 @@ pub struct Limits {
 }
 
 impl Limits {
+    // Those of paper 01; paper 02 (U4) calls them the bench tool's.
     pub fn bench() -> Limits
         ensures { λ r. ⌜ (r ≡ benchLimits) × (Bounded r) ⌝ }
     {

@@ -1,5 +1,5 @@
-// The byte form of a table: layout, numbers with the high byte first, sets of names, the fields of a row, and a table
-// under construction. Every access to a row goes through `layout::place`.
+// The byte form of a table: layout, numbers with the high byte first, sets of names, a row by value. A row's place is
+// `layout::place`; reading its fields, and a table under construction, are in table_rows.
 pub mod layout;
 pub mod names;
 pub mod number;

@@ -1,4 +1,4 @@
-// The fields of a row, read by the row's number.
+// The fields of a row. Reading them by the row's number is in table_rows.
 use crate::names::Names;
 
 // A row by value: what a table under construction takes.
