@@ -1,4 +1,4 @@
-// The second call: question 1, the reading, question 14, and the normal table into the result buffer.
+// The answer of the second call. Its definition is in specs/Call, the code in normalize_call.
 use picture::answer::Refusal;
 
 // The length of a normal table in bytes, or the refusal.

@@ -89,7 +89,7 @@ fn spoils(branch: Branch, edge: Edge) -> bool
     edge.kind != KIND_FOR_ALL
 }
 
-// The row as it is left: isInconsistent, dropped, or with what hangs from it.
+// The row as it is left: inconsistent, dropped, or with what hangs from it.
 pub fn leave(out: &mut [u8], branch: Branch, edge: Edge, label: Label, below: Branch) -> Branch
     requires { ⌜ (branch .table .rows < maxRows) × («place» (branch .table .rows) rowSize ≤ length (now out)) ⌝ }
     ensures { λ r. ⌜ Left branch edge label below (now (out .entry)) r (now (out .exit)) ⌝ }

@@ -1,4 +1,4 @@
-// One field of a picture: the questions that are asked of it, in their order. Each question's number is named once.
+// What one field of a picture is. Its questions are in specs/Questions, the code that asks them in picture_reader.
 
 // What stands where a field is to begin: a row with its depth, the end field, or the number of a question answered no.
 pub enum Field {

@@ -1,4 +1,4 @@
-// The fields of a picture in turn, to the first that is no row.
+// What the fields of a picture give. Their order is in specs/Read, the code that reads them in picture_reader.
 
 // What reading a picture gives, whichever input it is: its row count, or the number of the question answered no.
 pub enum Reading {

@@ -1,4 +1,5 @@
-// Two pictures, in the order of every call on two: 2 to 13 of the first, of the second, then 14 of each. Nothing is written before all are answered yes.
+// What the questions about two pictures give: both tables, or the first refusal. Their order is in specs/Prepare, the
+// code in prepare_pair.
 use picture::answer::Refusal;
 
 // The rows of the two normal tables.
