@@ -1,4 +1,5 @@
 -- K1: one empty row subsumes every picture. Whatever fits a picture fits it; and its one row is sent to row 0, whose label carries no less than nothing.
+--   bench                      paper 01's limits are such as the code can hold
 --   empty-counted              it has one row
 --   empty-tree                 its tree is one node without names and without a mark
 --   empty-rows, empty-label    its normal table is one such row
@@ -38,17 +39,19 @@ use Rattle.subsumption.proofs.Answers.{acceptable-result, yes-subsumes}
 use Rattle.meaning.specs.Covering.{Covers}
 use Rattle.subsumption.proofs.Writers.{verdict-covers}
 use Rattle.subsumption.specs.Verdict.{evidenceOf, mapOf, verdictOf}
-use Rattle.table.specs.Bounds.{benchLimits, maxRows}
+use Rattle.table.specs.Bounds.{Bounded, benchLimits, maxRows}
 use Rattle.table.specs.Fields.{endBytes, endsAt, rowOf}
 use Rattle.table.specs.Number.{be, beBytes}
 use Rattle.table.specs.Put.{put}
 use Rattle.workspace.specs.Prepare.{Acceptable}
-use Rattle.interface.specs.Calls.{subsumesBuffer, subsumesWord, validateWord}
+use Rattle.interface.specs.Calls.{subsumesWord, validateWord}
 use Rattle.interface.specs.Starred.{empty, k1, k1-map}
 use Rattle.interface.specs.StarredClaims.{HasRows, Holds, TakesEvidence, WritesEvidence}
 use Rattle.interface.specs.Word.{outcomeYes, valueWord, verdictWord}
-use Rattle.interface.proofs.PairWords.{bench}
 use Rattle.interface.proofs.VerifyWords.{map-verify}
+
+pub bench : Bounded benchLimits
+bench = (omega arith, omega arith)
 
 abbrev q : Table pictureSignature
 q = pictureTable (normalFile benchLimits empty)
@@ -71,7 +74,7 @@ empty-readable : Readable benchLimits empty
 unfolding be beBytes endBytes depthIn depth tagOk lengthFor kindOk roleOk parentOk valueField rowField endField fieldAt scanFrom readingOf
 empty-readable = record { rows = 1; reads = refl }
 
-empty-counted : HasRows empty 1
+empty-counted : HasRows benchLimits empty 1
 unfolding be beBytes endBytes depthIn depth tagOk lengthFor kindOk roleOk parentOk valueField rowField endField fieldAt scanFrom readingOf answerOf validateWord
 empty-counted = refl
 
@@ -96,7 +99,7 @@ module _ (first : List ℕ) (few : mergedCount benchLimits first ≤ maxRows) wh
 
   empty-map : IsHomomorphism pictureSignature p q (imageOf k1-map)
   empty-map =
-      let some : 0 < p .rows = normal-some benchLimits first (omega arith, omega arith) few in
+      let some : 0 < p .rows = normal-some benchLimits first bench few in
       record {
         inside = λ i l. subst (λ j. imageOf k1-map j < p .rows) (only i l) (omega (arith, empty-image));
         root = empty-image;
@@ -115,8 +118,8 @@ module _ (first : List ℕ) (few : mergedCount benchLimits first ≤ maxRows) wh
     abbrev pair : Acceptable benchLimits first empty
     pair = record { first-readable = readable; second-readable = empty-readable; first-few = few; second-few = empty-few }
 
-    empty-writes : WritesEvidence first empty outcomeYes k1-map
-    unfolding subsumesWord subsumesBuffer
+    empty-writes : WritesEvidence benchLimits first empty outcomeYes k1-map
+    unfolding subsumesWord
     empty-writes work result enough long =
         let decided = verdict-covers benchLimits first empty bench pair .0 covers in (
           ap verdictWord (yes-subsumes benchLimits first empty (length work) (length result) enough long pair decided)
@@ -124,8 +127,8 @@ module _ (first : List ℕ) (few : mergedCount benchLimits first ≤ maxRows) wh
           acceptable-result benchLimits first empty (length work) result enough long pair ∙ ap (λ (e : List ℕ). put result 0 e) (empty-evidence decided),
         )
 
-    empty-taken : TakesEvidence first empty outcomeYes k1-map
-    empty-taken work enough = map-verify first empty k1-map (length work) enough pair (record { form = empty-form; maps = empty-map })
+    empty-taken : TakesEvidence benchLimits first empty outcomeYes k1-map
+    empty-taken work enough = map-verify benchLimits bench first empty k1-map (length work) enough pair (record { form = empty-form; maps = empty-map })
 
 -- whatever fits a picture fits the empty row
 empty-covers : (first : List ℕ) → Covers benchLimits empty first
@@ -135,7 +138,7 @@ empty-covers first =
     subst (λ t. Fits pictureSignature (structureOf pictureSignature I) t x) (sym empty-tree)
     (satisfies-emptyLabel pictureSignature (structureOf pictureSignature I) x, tt))
 
-pub empty-subsumes : Holds k1
+pub empty-subsumes : Holds benchLimits k1
 empty-subsumes = (
   empty-counted,
   λ first readable.

@@ -1,5 +1,5 @@
 -- The call that writes the normal table: which of its words is given for which picture and buffer, and what the buffer holds then.
--- The answers themselves, at any limits, are normal's (Answers).
+-- The limits are any, where `Bounded` is asked such as the code can hold. The answers themselves are normal's (Answers).
 --   normalize-short                       1: the buffer is shorter than the longest picture
 --   normalize-unreadable                  2 to 13, the number being that of the reading
 --   normalize-many                        14: the merged table has more rows than a picture may have
@@ -19,8 +19,9 @@ use lib.Seq.{take-at}
 use mathlib.Core.Bool.{Bool, false, true}
 use mathlib.Core.List.{List}
 use mathlib.Core.Path.{_≡_, refl, subst, sym}
-use Rattle.table.specs.Bounds.{benchLimits, maxRows, pictureSize}
+use Rattle.table.specs.Bounds.{Bounded, pictureSize}
 use Rattle.table.specs.Put.{put}
+use Rattle.table.specs.declared.layout.Limits.{Limits}
 use Rattle.picture.specs.Read.{readingOf}
 use Rattle.picture.specs.Readable.{Readable}
 use Rattle.picture.specs.declared.answer.Input.the-variants.{Buffer, First}
@@ -34,77 +35,76 @@ use Rattle.meaning.specs.Meaning.{pictureTree}
 use Rattle.meaning.proofs.Normals.{normal-readable, normal-size, normalFile-equivalent}
 use Rattle.normal.specs.Call.{normalizeResult}
 use Rattle.normal.proofs.Answers.{Accepted, few-answer, many-answer, result-kept, result-past, short-answer, unreadable-answer}
-use Rattle.interface.specs.Word.{outcome, outcomeYes, value, valueWord}
-use Rattle.interface.specs.Calls.{NormalizeGives, NormalizeRefuses, normalizeBuffer, normalizeWord}
+use Rattle.interface.specs.Word.{outcome, outcomeYes, refused, value, valueWord}
+use Rattle.interface.specs.Calls.{NormalizeGives, normalizeWord}
 use Rattle.interface.proofs.Words.{value-value}
 
-module _ (s out : List ℕ) where
-  pub normalize-short : length out < pictureSize benchLimits → NormalizeRefuses s out 1 Buffer
-  unfolding normalizeWord normalizeBuffer normalizeResult
-  normalize-short h = let e = short-answer benchLimits s (length out) h in record { word-is = rw e; buffer-is = rw e }
+module _ (limits : Limits) (s out : List ℕ) where
+  pub normalize-short : length out < pictureSize limits → NormalizeGives limits s out (refused 1 Buffer) out
+  unfolding normalizeWord normalizeResult
+  normalize-short h = let e = short-answer limits s (length out) h in record { word-is = rw e; buffer-is = rw e }
 
-  module _ (enough : pictureSize benchLimits ≤ length out) where
-    pub normalize-unreadable : (q : ℕ) → readingOf benchLimits s ≡ reading.Failed q → NormalizeRefuses s out q First
-    unfolding normalizeWord normalizeBuffer normalizeResult
-    normalize-unreadable q h = let e = unreadable-answer benchLimits s (length out) enough q h in record { word-is = rw e; buffer-is = rw e }
+  module _ (enough : pictureSize limits ≤ length out) where
+    pub normalize-unreadable : (q : ℕ) → readingOf limits s ≡ reading.Failed q → NormalizeGives limits s out (refused q First) out
+    unfolding normalizeWord normalizeResult
+    normalize-unreadable q h = let e = unreadable-answer limits s (length out) enough q h in record { word-is = rw e; buffer-is = rw e }
 
-    module _ (readable : Readable benchLimits s) where
-      pub normalize-many : maxRows < mergedCount benchLimits s → NormalizeRefuses s out 14 First
-      unfolding normalizeWord normalizeBuffer normalizeResult
-      normalize-many h = let e = many-answer benchLimits s (length out) enough readable h in record { word-is = rw e; buffer-is = rw e }
+    module _ (readable : Readable limits s) where
+      pub normalize-many : limits .rows < mergedCount limits s → NormalizeGives limits s out (refused 14 First) out
+      unfolding normalizeWord normalizeResult
+      normalize-many h = let e = many-answer limits s (length out) enough readable h in record { word-is = rw e; buffer-is = rw e }
 
-      module _ (few : mergedCount benchLimits s ≤ maxRows) where
+      module _ (few : mergedCount limits s ≤ limits .rows) where
         pub normalize-written :
-            NormalizeGives s out (valueWord outcomeYes (length (normalFile benchLimits s))) (put out 0 (normalFile benchLimits s))
-        unfolding normalizeWord normalizeBuffer normalizeResult
-        normalize-written = let e = few-answer benchLimits s (length out) enough readable few in record { word-is = rw e; buffer-is = rw e }
+            NormalizeGives limits s out (valueWord outcomeYes (length (normalFile limits s))) (put out 0 (normalFile limits s))
+        unfolding normalizeWord normalizeResult
+        normalize-written = let e = few-answer limits s (length out) enough readable few in record { word-is = rw e; buffer-is = rw e }
 
-        pub normalize-value : value (normalizeWord s (length out)) ≡ length (normalFile benchLimits s)
-        normalize-value =
-            rw (sym (normalize-written .word-is))
-            (value-value outcomeYes (length (normalFile benchLimits s)) (omega (arith, normal-size benchLimits s few)))
+        module _ (bounded : Bounded limits) where
+          pub normalize-value : value (normalizeWord limits s (length out)) ≡ length (normalFile limits s)
+          normalize-value =
+              rw (sym (normalize-written .word-is))
+              (value-value outcomeYes (length (normalFile limits s)) (omega (arith, normal-size limits s few)))
 
-        pub normalize-result : take (value (normalizeWord s (length out))) (normalizeBuffer s out) ≡ normalFile benchLimits s
-        unfolding put
-        normalize-result =
-            rw (normalize-value, sym (normalize-written .buffer-is))
-            (take-at (normalFile benchLimits s) (drop (0 + length (normalFile benchLimits s)) out) (length (normalFile benchLimits s)) refl)
+          pub normalize-result : take (value (normalizeWord limits s (length out))) (normalizeResult limits s out) ≡ normalFile limits s
+          unfolding put
+          normalize-result =
+              rw (normalize-value, sym (normalize-written .buffer-is))
+              (take-at (normalFile limits s) (drop (0 + length (normalFile limits s)) out) (length (normalFile limits s)) refl)
 
-        pub normalize-readable : Readable benchLimits (take (value (normalizeWord s (length out))) (normalizeBuffer s out))
-        normalize-readable = rw normalize-result (normal-readable benchLimits s few (omega arith, omega arith))
+          pub normalize-readable : Readable limits (take (value (normalizeWord limits s (length out))) (normalizeResult limits s out))
+          normalize-readable = rw normalize-result (normal-readable limits s few bounded)
 
-        pub normalize-equivalent :
-            Equivalent pictureSignature (pictureTree benchLimits s)
-            (pictureTree benchLimits (take (value (normalizeWord s (length out))) (normalizeBuffer s out)))
-        normalize-equivalent =
-            subst (λ t. Equivalent pictureSignature (pictureTree benchLimits s) (pictureTree benchLimits t)) (sym normalize-result)
-            (normalFile-equivalent benchLimits s few (omega arith, omega arith) readable)
+          pub normalize-equivalent :
+              Equivalent pictureSignature (pictureTree limits s)
+              (pictureTree limits (take (value (normalizeWord limits s (length out))) (normalizeResult limits s out)))
+          normalize-equivalent =
+              subst (λ t. Equivalent pictureSignature (pictureTree limits s) (pictureTree limits t)) (sym normalize-result)
+              (normalFile-equivalent limits s few bounded readable)
 
-  yes-few : (b : Bool) → leb (mergedCount benchLimits s) maxRows ≡ b → pictureSize benchLimits ≤ length out → Readable benchLimits s → outcome (normalizeWord s (length out)) ≡ outcomeYes → Accepted benchLimits s (length out)
-  yes-few true e enough readable h = record { enough = enough; readable = readable; few = leb-true (mergedCount benchLimits s) maxRows e }
+  yes-few : (b : Bool) → leb (mergedCount limits s) (limits .rows) ≡ b → pictureSize limits ≤ length out → Readable limits s → outcome (normalizeWord limits s (length out)) ≡ outcomeYes → Accepted limits s (length out)
+  yes-few true e enough readable h = record { enough = enough; readable = readable; few = leb-true (mergedCount limits s) (limits .rows) e }
   yes-few false e enough readable h =
-      let many = normalize-many enough readable (leb-false (mergedCount benchLimits s) maxRows e) .word-is in
+      let many = normalize-many enough readable (leb-false (mergedCount limits s) (limits .rows) e) .word-is in
       absurd (omega (arith, many))
 
-  yes-reading : (r : Reading) → readingOf benchLimits s ≡ r → pictureSize benchLimits ≤ length out → outcome (normalizeWord s (length out)) ≡ outcomeYes → Accepted benchLimits s (length out)
-  yes-reading (reading.Rows n) e enough h = yes-few (leb (mergedCount benchLimits s) maxRows) refl enough (record { rows = n; reads = e }) h
+  yes-reading : (r : Reading) → readingOf limits s ≡ r → pictureSize limits ≤ length out → outcome (normalizeWord limits s (length out)) ≡ outcomeYes → Accepted limits s (length out)
+  yes-reading (reading.Rows n) e enough h = yes-few (leb (mergedCount limits s) (limits .rows)) refl enough (record { rows = n; reads = e }) h
   yes-reading (reading.Failed q) e enough h =
       let failed = normalize-unreadable enough q e .word-is in
-      absurd (omega (arith, failed, reading-number benchLimits s q e .most))
+      absurd (omega (arith, failed, reading-number limits s q e .most))
 
-  yes-room : (b : Bool) → leb (pictureSize benchLimits) (length out) ≡ b → outcome (normalizeWord s (length out)) ≡ outcomeYes → Accepted benchLimits s (length out)
-  yes-room true e h = yes-reading (readingOf benchLimits s) refl (leb-true (pictureSize benchLimits) (length out) e) h
+  yes-room : (b : Bool) → leb (pictureSize limits) (length out) ≡ b → outcome (normalizeWord limits s (length out)) ≡ outcomeYes → Accepted limits s (length out)
+  yes-room true e h = yes-reading (readingOf limits s) refl (leb-true (pictureSize limits) (length out) e) h
   yes-room false e h =
-      let short = normalize-short (leb-false (pictureSize benchLimits) (length out) e) .word-is in
+      let short = normalize-short (leb-false (pictureSize limits) (length out) e) .word-is in
       absurd (omega (arith, short))
 
-  pub normalize-accepted : outcome (normalizeWord s (length out)) ≡ outcomeYes → Accepted benchLimits s (length out)
-  normalize-accepted h = yes-room (leb (pictureSize benchLimits) (length out)) refl h
+  pub normalize-accepted : outcome (normalizeWord limits s (length out)) ≡ outcomeYes → Accepted limits s (length out)
+  normalize-accepted h = yes-room (leb (pictureSize limits) (length out)) refl h
 
-  pub normalize-past : (i : ℕ) → length (normalFile benchLimits s) ≤ i → getD (normalizeBuffer s out) i 0 ≡ getD out i 0
-  unfolding normalizeBuffer
-  normalize-past i h = result-past benchLimits s out i h
+  pub normalize-past : (i : ℕ) → length (normalFile limits s) ≤ i → getD (normalizeResult limits s out) i 0 ≡ getD out i 0
+  normalize-past i h = result-past limits s out i h
 
-  pub normalize-kept : length (normalizeBuffer s out) ≡ length out
-  unfolding normalizeBuffer
-  normalize-kept = result-kept benchLimits s out
+  pub normalize-kept : length (normalizeResult limits s out) ≡ length out
+  normalize-kept = result-kept limits s out

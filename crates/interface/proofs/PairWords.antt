@@ -1,5 +1,4 @@
 -- What the calls on two pictures have in common: which refusals there are, and that a word shows them.
---   bench           paper 01's limits are such as the code can hold
 --   refusals        `Refusals` of every call that hands on what `prepareAnswer` refuses
 --   concerns-zero   the word of a refusal that names an input by a number has outcome 0,
 --   known-zero      so that of 1 to 14 as every call on two pictures gives them
@@ -8,7 +7,7 @@ use native.Mathlib.Omega.{arith}
 use mathlib.Core.List.{List}
 use mathlib.Core.Logic.{inl, inr}
 use mathlib.Core.Path.{_≡_, refl}
-use Rattle.table.specs.Bounds.{Bounded, benchLimits}
+use Rattle.table.specs.declared.layout.Limits.{Limits}
 use Rattle.picture.specs.declared.answer.Input.{Input}
 use Rattle.picture.specs.declared.answer.Input.the-variants.{Buffer, First, Second}
 use Rattle.picture.specs.declared.answer.Refusal.{Refusal}
@@ -20,17 +19,14 @@ use Rattle.interface.specs.Refusals.{Refusals}
 use Rattle.interface.specs.Word.{cardOf, outcome, partRange, refusalWord}
 use Rattle.interface.proofs.Words.{refusal-outcome}
 
-pub bench : Bounded benchLimits
-bench = (omega arith, omega arith)
-
-module _ (first second : List ℕ) (P : ℕ → Input → Type 0) where
-  pub refusals : ((r : Refusal) → prepareAnswer benchLimits first second ≡ prepared.Refused r → P (r .number) (r .input)) → Refusals first second P
+module _ (limits : Limits) (first second : List ℕ) (P : ℕ → Type 0) where
+  pub refusals : ((r : Refusal) → prepareAnswer limits first second ≡ prepared.Refused r → P (refusalWord r)) → Refusals limits first second P
   refusals h =
       record {
-        first-unreadable = λ q e. h (record { number = q; input = First }) (prepare-first benchLimits first second q e);
-        second-unreadable = λ r q e. h (record { number = q; input = Second }) (prepare-second benchLimits first second r q e);
-        first-many = λ r t l. h (record { number = 14; input = First }) (prepare-many-first benchLimits first second r t l);
-        second-many = λ r t few l. h (record { number = 14; input = Second }) (prepare-many-second benchLimits first second r t few l);
+        first-unreadable = λ q e. h (record { number = q; input = First }) (prepare-first limits first second q e);
+        second-unreadable = λ r q e. h (record { number = q; input = Second }) (prepare-second limits first second r q e);
+        first-many = λ r t l. h (record { number = 14; input = First }) (prepare-many-first limits first second r t l);
+        second-many = λ r t few l. h (record { number = 14; input = Second }) (prepare-many-second limits first second r t few l);
       }
 
 -- an input that is no card, by a number that fits its byte

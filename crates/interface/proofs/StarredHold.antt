@@ -25,19 +25,19 @@ use Rattle.picture.specs.Read.{answerOf, readingOf, scanFrom}
 use Rattle.picture.specs.Readable.{rowCount}
 use Rattle.subsumption.specs.Call.{verdictAnswer}
 use Rattle.subsumption.specs.Verdict.{evidenceOf, mapOf, refutationOf, verdictOf}
-use Rattle.table.specs.Bounds.{benchLimits, maxRows}
+use Rattle.table.specs.Bounds.{Bounded, benchLimits, pictureSize}
 use Rattle.table.specs.Fields.{endBytes, endsAt, rowOf}
 use Rattle.table.specs.Number.{be, beBytes}
 use Rattle.table.specs.Put.{put}
 use Rattle.table.specs.Range.{each}
-use Rattle.workspace.specs.Prepare.{Acceptable, mergedAsked, prepareAnswer}
+use Rattle.table.specs.declared.layout.Limits.{Limits}
+use Rattle.workspace.specs.Prepare.{Acceptable, mergedAsked, prepareAnswer, workSize}
 use Rattle.interface.specs.Calls.{lcsWord, validateWord, verifyWord}
 use Rattle.interface.specs.Starred.{empty, k10-first, k10-second, k11-first, k11-second, k12-first, k12-normal, k12-normal-again, k2-first, k2-normal, k3-first, k3-normal, k4-first, k4-normal, k5-first, k6-first, k6-added-first, k6-added-normal, k7-first, k7-map, k7-refutation, k7-second, k8-first, k8-map, k8-other, k8-refutation, k8-second, k9-common, k9-first, k9-second, starred}
-use Rattle.interface.specs.StarredClaims.{WritesNormal, WritesCommon, AllHold, Holds, WritesEvidence, subsumes, subsumesNot, tableRoom, workRoom}
+use Rattle.interface.specs.StarredClaims.{WritesNormal, WritesCommon, AllHold, Holds, WritesEvidence, subsumes, subsumesNot}
 use Rattle.interface.specs.Word.{outcome, outcomeNo, outcomeYes, valueWord, verdictWord}
-use Rattle.interface.proofs.EmptySubsumes.{empty-subsumes}
+use Rattle.interface.proofs.EmptySubsumes.{bench, empty-subsumes}
 use Rattle.interface.proofs.LcsWords.{lcs-common, lcs-yes}
-use Rattle.interface.proofs.PairWords.{bench}
 use Rattle.interface.proofs.VerifyWords.{map-verify, refutation-verify, verify-map, verify-map-subsumed, verify-refutation, verify-refutation-not}
 use Rattle.interface.proofs.Words.{validate-readable}
 use lib.Dec.{leb}
@@ -48,52 +48,53 @@ use Rattle.interface.proofs.NormalWords.{normalize-written}
 
 -- evidence that is computed and taken with a work space of the length laid down is so with all buffers that are long enough, and shows what the two pictures
 -- mean
-module _ (first second e : List ℕ) (is : evidenceOf benchLimits first second ≡ e) where
-  writes : (o : ℕ) → Acceptable benchLimits first second → verdictWord (verdictAnswer benchLimits first second) ≡ valueWord o (length e) →
-      WritesEvidence first second o e
+module _ (limits : Limits) (bounded : Bounded limits) (first second e : List ℕ) (is : evidenceOf limits first second ≡ e) where
+  writes : (o : ℕ) → Acceptable limits first second → verdictWord (verdictAnswer limits first second) ≡ valueWord o (length e) →
+      WritesEvidence limits first second o e
   writes o pair told work result enough long =
-      let decided = subsumes-decided first second work result enough long pair in
+      let decided = subsumes-decided limits first second work result enough long pair in
       (sym (decided .word-is) ∙ told, sym (decided .result-is) ∙ ap (λ (l : List ℕ). put result 0 l) is)
 
-  shown : verdictWord (verdictAnswer benchLimits first second) ≡ valueWord outcomeYes (length e) →
-      verifyWord first second e workRoom ≡ valueWord outcomeYes 0 → Holds (subsumes first second e)
+  shown : verdictWord (verdictAnswer limits first second) ≡ valueWord outcomeYes (length e) →
+      verifyWord limits first second e (workSize limits) ≡ valueWord outcomeYes 0 → Holds limits (subsumes first second e)
   shown told taken =
-      let (enough, pair, map) = verify-map first second e workRoom (omega (arith, taken)) in (
+      let (enough, pair, map) = verify-map limits bounded first second e (workSize limits) (omega (arith, taken)) in (
         writes outcomeYes pair told,
-        λ work long. map-verify first second e (length work) long pair map,
-        verify-map-subsumed first second e workRoom (omega (arith, taken)),
+        λ work long. map-verify limits bounded first second e (length work) long pair map,
+        verify-map-subsumed limits bounded first second e (workSize limits) (omega (arith, taken)),
       )
 
-  shown-not : verdictWord (verdictAnswer benchLimits first second) ≡ valueWord outcomeNo (length e) →
-      verifyWord first second e workRoom ≡ valueWord outcomeNo 0 → Holds (subsumesNot first second e)
+  shown-not : verdictWord (verdictAnswer limits first second) ≡ valueWord outcomeNo (length e) →
+      verifyWord limits first second e (workSize limits) ≡ valueWord outcomeNo 0 → Holds limits (subsumesNot first second e)
   shown-not told taken =
-      let (enough, pair, refuting) = verify-refutation first second e workRoom (omega (arith, taken)) in (
+      let (enough, pair, refuting) = verify-refutation limits bounded first second e (workSize limits) (omega (arith, taken)) in (
         writes outcomeNo pair told,
-        λ work long. refutation-verify first second e (length work) long pair refuting,
-        verify-refutation-not first second e workRoom (omega (arith, taken)),
+        λ work long. refutation-verify limits bounded first second e (length work) long pair refuting,
+        verify-refutation-not limits bounded first second e (workSize limits) (omega (arith, taken)),
       )
 
 -- a normal table that is computed stands in any result buffer that is long enough
-shown-normal : (first table : List ℕ) → outcome (validateWord first) ≡ outcomeYes → leb (mergedCount benchLimits first) maxRows ≡ true →
-    normalFile benchLimits first ≡ table → WritesNormal first table
-shown-normal first table opened few is result long =
-    let written = normalize-written first result long (validate-readable first opened) (leb-true (mergedCount benchLimits first) maxRows few) in
+shown-normal : (limits : Limits) (first table : List ℕ) → outcome (validateWord limits first) ≡ outcomeYes →
+    leb (mergedCount limits first) (limits .rows) ≡ true → normalFile limits first ≡ table → WritesNormal limits first table
+shown-normal limits first table opened few is result long =
+    let small = leb-true (mergedCount limits first) (limits .rows) few in
+    let written = normalize-written limits first result long (validate-readable limits first opened) small in
     (sym (written .word-is) ∙ ap (λ (e : List ℕ). valueWord outcomeYes (length e)) is, sym (written .buffer-is) ∙ ap (λ (e : List ℕ). put result 0 e) is)
 
 -- a common picture that is given with buffers of the lengths laid down stands in any result buffer that is long enough, and covers both
-module _ (first second table : List ℕ) (is : lcsFile benchLimits first second ≡ table) where
-  shown-common : outcome (lcsWord first second workRoom tableRoom) ≡ outcomeYes →
-      WritesCommon first second table × Covers benchLimits table first × Covers benchLimits table second
+module _ (limits : Limits) (bounded : Bounded limits) (first second table : List ℕ) (is : lcsFile limits first second ≡ table) where
+  shown-common : outcome (lcsWord limits first second (workSize limits) (pictureSize limits)) ≡ outcomeYes →
+      WritesCommon limits first second table × Covers limits table first × Covers limits table second
   shown-common told =
-      let a = lcs-yes first second workRoom tableRoom told in (
+      let a = lcs-yes limits bounded first second (workSize limits) (pictureSize limits) told in (
         λ work result enough long.
-            let given = lcs-common first second work result enough long (a .pair) (a .few) in
+            let given = lcs-common limits first second work result enough long (a .pair) (a .few) in
             (sym (given .word-is) ∙ ap (λ (e : List ℕ). valueWord outcomeYes (length e)) is, sym (given .result-is) ∙ ap (λ (e : List ℕ). put result 0 e) is),
-        subst (λ e. Covers benchLimits e first) is (lcs-covers-first benchLimits first second (a .few) bench),
-        subst (λ e. Covers benchLimits e second) is (lcs-covers-second benchLimits first second (a .few) bench),
+        subst (λ e. Covers limits e first) is (lcs-covers-first limits first second (a .few) bounded),
+        subst (λ e. Covers limits e second) is (lcs-covers-second limits first second (a .few) bounded),
       )
 
-pub starred-hold : AllHold starred
+pub starred-hold : AllHold benchLimits starred
 unfolding be beBytes rowOf endBytes endsAt depthIn depth tagOk lengthFor kindOk roleOk parentOk valueField rowField endField fieldAt scanFrom readingOf answerOf validateWord rowCount mergedTree mergedCount normalTreeOf normalFile
     each individualCount individualHead refutationForm individualOk mapForm formOf rowAsked inOrder mapAsked refutationAsked checkAnswer evidenceAnswer mergedAsked prepareAnswer verifyAnswer verifyWord
     covers verdictOf mapOf lowestMap mapFile refutationOf refutationFile individualBytes evidenceOf verdictAnswer
@@ -101,35 +102,35 @@ unfolding be beBytes rowOf endBytes endsAt depthIn depth tagOk lengthFor kindOk 
 starred-hold = (
   empty-subsumes,
   (
-    (refl, refl, shown-normal k2-first k2-normal refl refl refl),
+    (refl, refl, shown-normal benchLimits k2-first k2-normal refl refl refl),
     (
-      (refl, refl, shown-normal k3-first k3-normal refl refl refl),
+      (refl, refl, shown-normal benchLimits k3-first k3-normal refl refl refl),
       (
-        (refl, refl, shown-normal k4-first k4-normal refl refl refl),
+        (refl, refl, shown-normal benchLimits k4-first k4-normal refl refl refl),
         (
-          (refl, refl, shown-normal k5-first empty refl refl refl),
+          (refl, refl, shown-normal benchLimits k5-first empty refl refl refl),
           (
-            (refl, refl, shown-normal k6-first k6-first refl refl refl),
+            (refl, refl, shown-normal benchLimits k6-first k6-first refl refl refl),
             (
-              (refl, refl, shown-normal k6-added-first k6-added-normal refl refl refl),
+              (refl, refl, shown-normal benchLimits k6-added-first k6-added-normal refl refl refl),
               (
-                shown k7-first k7-second k7-map refl refl refl,
+                shown benchLimits bench k7-first k7-second k7-map refl refl refl,
                 (
-                  shown-not k7-second k7-first k7-refutation refl refl refl,
+                  shown-not benchLimits bench k7-second k7-first k7-refutation refl refl refl,
                   (
-                    shown k8-first k8-second k8-map refl refl refl,
+                    shown benchLimits bench k8-first k8-second k8-map refl refl refl,
                     (
-                      shown-not k8-first k8-other k8-refutation refl refl refl,
+                      shown-not benchLimits bench k8-first k8-other k8-refutation refl refl refl,
                       (
-                        (refl, shown-common k9-first k9-second k9-common refl refl),
+                        (refl, shown-common benchLimits bench k9-first k9-second k9-common refl refl),
                         (
-                          (refl, shown-common k10-first k10-second empty refl refl),
+                          (refl, shown-common benchLimits bench k10-first k10-second empty refl refl),
                           (
-                            (refl, shown-common k11-first k11-second k11-second refl refl),
+                            (refl, shown-common benchLimits bench k11-first k11-second k11-second refl refl),
                             (
-                              (refl, refl, shown-normal k12-first k12-normal refl refl refl),
+                              (refl, refl, shown-normal benchLimits k12-first k12-normal refl refl refl),
                               (
-                                (refl, refl, shown-normal k12-normal k12-normal-again refl refl refl),
+                                (refl, refl, shown-normal benchLimits k12-normal k12-normal-again refl refl refl),
                                 tt,
                               ),
                             ),

@@ -1,5 +1,5 @@
 -- The call that checks evidence: which of its words is given for which inputs and work space, what the work space holds then, and what a word shows.
--- The answers themselves, at any limits, are evidence's (Verifications, Soundness).
+-- The limits are any, where `Bounded` is asked such as the code can hold. The answers themselves are evidence's (Verifications, Soundness).
 --   verify-short                  1: the work space is shorter than two halves
 --   verify-refuses                2 to 13 of the first picture, then of the second; 14 of the first, then of the second (PairWords)
 --   verify-checked                else 16 to 23 decide the word, and both normal tables stand in the work space
@@ -20,8 +20,9 @@ use lib.ListN.{getD, length, take}
 use mathlib.Core.List.{List, _++_}
 use mathlib.Core.Logic.{_↔_, _⊎_, inl, inr, ⊎-elim}
 use mathlib.Core.Path.{_∙_, _≡_, ap, refl, sym}
-use Rattle.table.specs.Bounds.{benchLimits}
+use Rattle.table.specs.Bounds.{Bounded}
 use Rattle.table.specs.Number.{Bytes}
+use Rattle.table.specs.declared.layout.Limits.{Limits}
 use Rattle.picture.specs.declared.answer.Input.the-variants.{Buffer, Evidence}
 use Rattle.picture.specs.declared.answer.Refusal.{Refusal}
 use Rattle.meaning.specs.Covering.{Covers}
@@ -32,148 +33,146 @@ use Rattle.workspace.specs.Prepare.{Acceptable, halvesPut, workSize}
 use Rattle.evidence.proofs.Refusals.{verify-refusal}
 use Rattle.evidence.proofs.Soundness.{map-no-refusal, map-taken, refutation-no-refusal, refutation-taken}
 use Rattle.evidence.proofs.Verifications.{acceptable-verify, acceptable-work, refused-verify, refused-work, short-verify, short-work, verify-taken, work-kept, work-past}
-use Rattle.evidence.specs.Call.{evidenceAnswer, verifyAnswer}
+use Rattle.evidence.specs.Call.{evidenceAnswer, verifyAnswer, verifyWork}
 use Rattle.evidence.specs.Taken.{MapOf, RefutationOf}
 use Rattle.evidence.specs.declared.check.Verified.{Verified}
 use Rattle.evidence.specs.declared.check.Verified.the-variants as verified
 use Rattle.subsumption.proofs.Conditions.{condition-3}
 use Rattle.subsumption.proofs.Writers.{map-covers, refutation-fails}
-use Rattle.interface.specs.Calls.{VerifyGives, VerifyRefuses, verifySpace, verifyWord}
+use Rattle.interface.specs.Calls.{VerifyGives, verifyWord}
 use Rattle.interface.specs.Refusals.{Refusals}
-use Rattle.interface.specs.Word.{outcome, outcomeNo, outcomeYes, refusalWord, verifiedWord}
-use Rattle.interface.proofs.PairWords.{bench, concerns-zero, known-zero, refusals}
+use Rattle.interface.specs.Word.{outcome, outcomeNo, outcomeYes, refusalWord, refused, verifiedWord}
+use Rattle.interface.proofs.PairWords.{concerns-zero, known-zero, refusals}
 
-module _ (first second evidence work : List ℕ) where
-  pub verify-short : length work < workSize benchLimits → VerifyRefuses first second evidence work 1 Buffer
-  unfolding verifyWord verifySpace
+module _ (limits : Limits) (first second evidence work : List ℕ) where
+  pub verify-short : length work < workSize limits → VerifyGives limits first second evidence work (refused 1 Buffer) work
+  unfolding verifyWord
   verify-short h = record {
-    word-is = rw (short-verify benchLimits first second evidence (length work) h);
-    buffer-is = sym (short-work benchLimits first second work h);
+    word-is = rw (short-verify limits first second evidence (length work) h);
+    buffer-is = sym (short-work limits first second work h);
   }
 
-  module _ (enough : workSize benchLimits ≤ length work) where
-    pub verify-refuses : Refusals first second (VerifyRefuses first second evidence work)
-    unfolding verifyWord verifySpace
+  module _ (enough : workSize limits ≤ length work) where
+    pub verify-refuses : Refusals limits first second (λ w. VerifyGives limits first second evidence work w work)
+    unfolding verifyWord
     verify-refuses =
-        refusals first second (VerifyRefuses first second evidence work) (λ r e. record {
-          word-is = rw (refused-verify benchLimits first second evidence (length work) enough r e);
-          buffer-is = sym (refused-work benchLimits first second work enough r e);
+        refusals limits first second _ (λ r e. record {
+          word-is = rw (refused-verify limits first second evidence (length work) enough r e);
+          buffer-is = sym (refused-work limits first second work enough r e);
         })
 
-    module _ (pair : Acceptable benchLimits first second) where
+    module _ (pair : Acceptable limits first second) where
       pub verify-checked :
-          VerifyGives first second evidence work (verifiedWord (evidenceAnswer benchLimits first second evidence)) (halvesPut benchLimits first second work)
-      unfolding verifyWord verifySpace
+          VerifyGives limits first second evidence work (verifiedWord (evidenceAnswer limits first second evidence)) (halvesPut limits first second work)
+      unfolding verifyWord
       verify-checked = record {
-        word-is = rw (acceptable-verify benchLimits first second evidence (length work) enough pair);
-        buffer-is = sym (acceptable-work benchLimits first second work enough pair);
+        word-is = rw (acceptable-verify limits first second evidence (length work) enough pair);
+        buffer-is = sym (acceptable-work limits first second work enough pair);
       }
 
       pub verify-space-same :
-          take (workSize benchLimits) (verifySpace first second work)
-          ≡ halfOf benchLimits (normalFile benchLimits first) ++ halfOf benchLimits (normalFile benchLimits second)
+          take (workSize limits) (verifyWork limits first second work)
+          ≡ halfOf limits (normalFile limits first) ++ halfOf limits (normalFile limits second)
       verify-space-same =
-          ap (λ (l : List ℕ). take (workSize benchLimits) l) (sym (verify-checked .buffer-is))
-          ∙ halves-same benchLimits first second work (pair .first-few) (pair .second-few)
+          ap (λ (l : List ℕ). take (workSize limits) l) (sym (verify-checked .buffer-is))
+          ∙ halves-same limits first second work (pair .first-few) (pair .second-few)
 
-  pub verify-past : (i : ℕ) → workSize benchLimits ≤ i → getD (verifySpace first second work) i 0 ≡ getD work i 0
-  unfolding verifySpace
-  verify-past i h = work-past benchLimits first second work i h
+  pub verify-past : (i : ℕ) → workSize limits ≤ i → getD (verifyWork limits first second work) i 0 ≡ getD work i 0
+  verify-past i h = work-past limits first second work i h
 
-  pub verify-kept : length (verifySpace first second work) ≡ length work
-  unfolding verifySpace
-  verify-kept = work-kept benchLimits first second work
+  pub verify-kept : length (verifyWork limits first second work) ≡ length work
+  verify-kept = work-kept limits first second work
 
 -- ---- what a word shows
 
-module _ (first second evidence : List ℕ) (room : ℕ) where
-  refusal-zero : (r : Refusal) → verifyAnswer benchLimits first second evidence room ≡ verified.Refused r → outcome (refusalWord r) ≡ 0
+module _ (limits : Limits) (bounded : Bounded limits) (first second evidence : List ℕ) (room : ℕ) where
+  refusal-zero : (r : Refusal) → verifyAnswer limits first second evidence room ≡ verified.Refused r → outcome (refusalWord r) ≡ 0
   refusal-zero r e =
-      ⊎-elim (known-zero r) (λ h. concerns-zero r Evidence 16 23 h (omega arith) refl) (verify-refusal benchLimits first second evidence room r e)
+      ⊎-elim (known-zero r) (λ h. concerns-zero r Evidence 16 23 h (omega arith) refl) (verify-refusal limits first second evidence room r e)
 
-  map-word : (v : Verified) → verifyAnswer benchLimits first second evidence room ≡ v → outcome (verifiedWord v) ≡ outcomeYes → v ≡ verified.MapTaken
+  map-word : (v : Verified) → verifyAnswer limits first second evidence room ≡ v → outcome (verifiedWord v) ≡ outcomeYes → v ≡ verified.MapTaken
   map-word verified.MapTaken e h = refl
   map-word verified.RefutationTaken e h = absurd (omega arith)
   map-word (verified.Refused r) e h = absurd (omega (arith, h, refusal-zero r e))
 
-  refutation-word : (v : Verified) → verifyAnswer benchLimits first second evidence room ≡ v → outcome (verifiedWord v) ≡ outcomeNo → v ≡ verified.RefutationTaken
+  refutation-word : (v : Verified) → verifyAnswer limits first second evidence room ≡ v → outcome (verifiedWord v) ≡ outcomeNo → v ≡ verified.RefutationTaken
   refutation-word verified.MapTaken e h = absurd (omega arith)
   refutation-word verified.RefutationTaken e h = refl
   refutation-word (verified.Refused r) e h = absurd (omega (arith, h, refusal-zero r e))
 
   -- outcome 1, whatever the bytes: there is room, the pair is acceptable, and the evidence is a map of it
-  pub verify-map : outcome (verifyWord first second evidence room) ≡ outcomeYes →
-      (workSize benchLimits ≤ room) × Acceptable benchLimits first second × MapOf benchLimits first second evidence
+  pub verify-map : outcome (verifyWord limits first second evidence room) ≡ outcomeYes →
+      (workSize limits ≤ room) × Acceptable limits first second × MapOf limits first second evidence
   unfolding verifyWord
   verify-map h =
-      let taken = map-word (verifyAnswer benchLimits first second evidence room) refl h in
-      let (enough, pair, answer) = verify-taken benchLimits first second evidence room verified.MapTaken map-no-refusal taken in
-      (enough, pair, map-taken benchLimits first second evidence bench pair .0 answer)
+      let taken = map-word (verifyAnswer limits first second evidence room) refl h in
+      let (enough, pair, answer) = verify-taken limits first second evidence room verified.MapTaken map-no-refusal taken in
+      (enough, pair, map-taken limits first second evidence bounded pair .0 answer)
 
-  pub verify-refutation : outcome (verifyWord first second evidence room) ≡ outcomeNo →
-      (workSize benchLimits ≤ room) × Acceptable benchLimits first second × RefutationOf benchLimits first second evidence
+  pub verify-refutation : outcome (verifyWord limits first second evidence room) ≡ outcomeNo →
+      (workSize limits ≤ room) × Acceptable limits first second × RefutationOf limits first second evidence
   unfolding verifyWord
   verify-refutation h =
-      let taken = refutation-word (verifyAnswer benchLimits first second evidence room) refl h in
-      let (enough, pair, answer) = verify-taken benchLimits first second evidence room verified.RefutationTaken refutation-no-refusal taken in
-      (enough, pair, refutation-taken benchLimits first second evidence bench pair .0 answer)
+      let taken = refutation-word (verifyAnswer limits first second evidence room) refl h in
+      let (enough, pair, answer) = verify-taken limits first second evidence room verified.RefutationTaken refutation-no-refusal taken in
+      (enough, pair, refutation-taken limits first second evidence bounded pair .0 answer)
 
   -- and the reverse
-  module _ (enough : workSize benchLimits ≤ room) (pair : Acceptable benchLimits first second) where
-    pub map-verify : MapOf benchLimits first second evidence → verifyWord first second evidence room ≡ verifiedWord verified.MapTaken
+  module _ (enough : workSize limits ≤ room) (pair : Acceptable limits first second) where
+    pub map-verify : MapOf limits first second evidence → verifyWord limits first second evidence room ≡ verifiedWord verified.MapTaken
     unfolding verifyWord
     map-verify m =
-        ap verifiedWord (acceptable-verify benchLimits first second evidence room enough pair ∙ map-taken benchLimits first second evidence bench pair .1 m)
+        ap verifiedWord (acceptable-verify limits first second evidence room enough pair ∙ map-taken limits first second evidence bounded pair .1 m)
 
-    pub refutation-verify : RefutationOf benchLimits first second evidence → verifyWord first second evidence room ≡ verifiedWord verified.RefutationTaken
+    pub refutation-verify : RefutationOf limits first second evidence → verifyWord limits first second evidence room ≡ verifiedWord verified.RefutationTaken
     unfolding verifyWord
     refutation-verify m =
-        ap verifiedWord (acceptable-verify benchLimits first second evidence room enough pair ∙ refutation-taken benchLimits first second evidence bench pair .1 m)
+        ap verifiedWord (acceptable-verify limits first second evidence room enough pair ∙ refutation-taken limits first second evidence bounded pair .1 m)
 
   -- a map is taken only if the second covers the first, a refutation only if it does not
-  pub verify-map-subsumed : outcome (verifyWord first second evidence room) ≡ outcomeYes → Covers benchLimits second first
+  pub verify-map-subsumed : outcome (verifyWord limits first second evidence room) ≡ outcomeYes → Covers limits second first
   unfolding verifyWord
   verify-map-subsumed h =
-      map-covers benchLimits first second evidence room bench (map-word (verifyAnswer benchLimits first second evidence room) refl h)
+      map-covers limits first second evidence room bounded (map-word (verifyAnswer limits first second evidence room) refl h)
 
-  pub verify-refutation-not : outcome (verifyWord first second evidence room) ≡ outcomeNo → Covers benchLimits second first → ⊥
+  pub verify-refutation-not : outcome (verifyWord limits first second evidence room) ≡ outcomeNo → Covers limits second first → ⊥
   unfolding verifyWord
   verify-refutation-not h =
-      refutation-fails benchLimits first second evidence room bench (refutation-word (verifyAnswer benchLimits first second evidence room) refl h)
+      refutation-fails limits first second evidence room bounded (refutation-word (verifyAnswer limits first second evidence room) refl h)
 
 -- ---- some evidence: with a work space of the length laid down and for an acceptable pair
 
-module _ (first second : List ℕ) (room : ℕ) where
+module _ (limits : Limits) (first second : List ℕ) (room : ℕ) where
   abbrev pub SomeMap : Type 0
-  SomeMap = (e : List ℕ) × Bytes e × (outcome (verifyWord first second e room) ≡ outcomeYes)
+  SomeMap = (e : List ℕ) × Bytes e × (outcome (verifyWord limits first second e room) ≡ outcomeYes)
 
   abbrev pub SomeRefutation : Type 0
-  SomeRefutation = (e : List ℕ) × Bytes e × (outcome (verifyWord first second e room) ≡ outcomeNo)
+  SomeRefutation = (e : List ℕ) × Bytes e × (outcome (verifyWord limits first second e room) ≡ outcomeNo)
 
   -- what the answer says, the word says
-  map-shown : (e : List ℕ) × Bytes e × (verifyAnswer benchLimits first second e room ≡ verified.MapTaken) → SomeMap
+  map-shown : (e : List ℕ) × Bytes e × (verifyAnswer limits first second e room ≡ verified.MapTaken) → SomeMap
   unfolding verifyWord
   map-shown (e, bytes, h) = (e, bytes, ap (λ v. outcome (verifiedWord v)) h)
 
-  refutation-shown : (e : List ℕ) × Bytes e × (verifyAnswer benchLimits first second e room ≡ verified.RefutationTaken) → SomeRefutation
+  refutation-shown : (e : List ℕ) × Bytes e × (verifyAnswer limits first second e room ≡ verified.RefutationTaken) → SomeRefutation
   unfolding verifyWord
   refutation-shown (e, bytes, h) = (e, bytes, ap (λ v. outcome (verifiedWord v)) h)
 
-  module _ (enough : workSize benchLimits ≤ room) (pair : Acceptable benchLimits first second) where
-    pub verify-some-map : SomeMap ↔ Covers benchLimits second first
+  module _ (bounded : Bounded limits) (enough : workSize limits ≤ room) (pair : Acceptable limits first second) where
+    pub verify-some-map : SomeMap ↔ Covers limits second first
     verify-some-map = (
-      λ (e, bytes, h). verify-map-subsumed first second e room h,
-      λ c. map-shown (condition-3 benchLimits bench first second pair .some-map room enough .1 c),
+      λ (e, bytes, h). verify-map-subsumed limits bounded first second e room h,
+      λ c. map-shown (condition-3 limits bounded first second pair .some-map room enough .1 c),
     )
 
-    pub verify-some-refutation : SomeRefutation ↔ (Covers benchLimits second first → ⊥)
+    pub verify-some-refutation : SomeRefutation ↔ (Covers limits second first → ⊥)
     verify-some-refutation = (
-      λ (e, bytes, h). verify-refutation-not first second e room h,
-      λ c. refutation-shown (condition-3 benchLimits bench first second pair .some-refutation room enough .1 c),
+      λ (e, bytes, h). verify-refutation-not limits bounded first second e room h,
+      λ c. refutation-shown (condition-3 limits bounded first second pair .some-refutation room enough .1 c),
     )
 
     pub verify-one : (SomeMap ⊎ SomeRefutation) × (SomeMap → SomeRefutation → ⊥)
     verify-one = (
-      ⊎-elim (λ h. inl (map-shown h)) (λ h. inr (refutation-shown h)) (condition-3 benchLimits bench first second pair .one room enough),
+      ⊎-elim (λ h. inl (map-shown h)) (λ h. inr (refutation-shown h)) (condition-3 limits bounded first second pair .one room enough),
       λ m n. verify-some-refutation .0 n (verify-some-map .0 m),
     )

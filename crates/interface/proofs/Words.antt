@@ -7,7 +7,7 @@ use mathlib.Core.Path.{_≡_, refl}
 use mathlib.Core.List.{List, [], _∷_}
 use Prim.Native.Nat.{ℕ, _<_}
 use native.Mathlib.Omega.{arith}
-use Rattle.table.specs.Bounds.{benchLimits}
+use Rattle.table.specs.declared.layout.Limits.{Limits}
 use Rattle.picture.specs.declared.answer.Input.{Input}
 use Rattle.picture.specs.declared.answer.Input.the-variants.{Buffer, First, Second, Evidence, Book, Card}
 use Rattle.picture.specs.declared.answer.Refusal.{Refusal}
@@ -98,15 +98,15 @@ codes-agree = refl
 
 -- ---- the plain test
 
-module _ (s : List ℕ) where
-  pub readable-validate : Readable benchLimits s → validateWord s ≡ valueWord outcomeYes (rowCount s)
+module _ (limits : Limits) (s : List ℕ) where
+  pub readable-validate : Readable limits s → validateWord limits s ≡ valueWord outcomeYes (rowCount s)
   unfolding validateWord
-  readable-validate r = rw (reading-answer benchLimits s First (r .rows) (r .reads), readable-count benchLimits s r)
+  readable-validate r = rw (reading-answer limits s First (r .rows) (r .reads), readable-count limits s r)
 
-  yes-reading : (r : Reading) → readingOf benchLimits s ≡ r → outcome (readWord (answered First r)) ≡ outcomeYes → Readable benchLimits s
+  yes-reading : (r : Reading) → readingOf limits s ≡ r → outcome (readWord (answered First r)) ≡ outcomeYes → Readable limits s
   yes-reading (reading.Rows n) e h = record { rows = n; reads = e }
-  yes-reading (reading.Failed q) e h = absurd (omega (arith, reading-number benchLimits s q e .most))
+  yes-reading (reading.Failed q) e h = absurd (omega (arith, reading-number limits s q e .most))
 
-  pub validate-readable : outcome (validateWord s) ≡ outcomeYes → Readable benchLimits s
+  pub validate-readable : outcome (validateWord limits s) ≡ outcomeYes → Readable limits s
   unfolding validateWord answerOf
-  validate-readable h = yes-reading (readingOf benchLimits s) refl h
+  validate-readable h = yes-reading (readingOf limits s) refl h

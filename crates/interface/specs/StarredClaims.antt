@@ -13,30 +13,33 @@
 --                                 one it is to the program)
 --                                 common: two pictures, and their common picture of so many rows
 --                                 subsumesAll: a picture of so many rows that covers every picture, with one map that is ours for each that passes 14
---   workRoom, tableRoom,
---   evidenceRoom                  the lengths laid down of a work space, and of a result buffer for a table and for evidence
 --   HasRows                       the plain test's row count
 --   WritesNormal, WritesCommon,
 --   WritesEvidence,
 --   TakesEvidence                 what a call gives with any buffers that are long enough
 --   Holds, AllHold                what a claim says of the calls; that each of a list holds
+-- These are at any limits; that the cases hold is shown at paper 01's.
 use Prim.Native.Nat.{_*_, _+_, _^_, _≤_, ℕ}
 use lib.ListN.{length}
 use mathlib.Core.List.{List, [], _++_, _∷_}
 use mathlib.Core.Path.{_≡_}
-use Rattle.table.specs.Bounds.{benchLimits, maxRows, pictureSize}
+use Rattle.table.specs.Bounds.{pictureSize}
 use Rattle.table.specs.Fields.{endBytes, rowOf}
 use Rattle.table.specs.Layout.{kindExists, kindForAll, kindRoot, nameBytes, numberSize}
 use Rattle.table.specs.Number.{beBytes}
 use Rattle.table.specs.Put.{put}
+use Rattle.table.specs.declared.layout.Limits.{Limits}
 use Rattle.countermodel.specs.Layout.{individualLength, individualTag}
 use Rattle.picture.specs.Readable.{Readable}
 use Rattle.meaning.specs.Covering.{Covers}
 use Rattle.meaning.specs.NormalTable.{mergedCount}
+use Rattle.normal.specs.Call.{normalizeResult}
 use Rattle.workspace.specs.Prepare.{workSize}
 use Rattle.homomorphism.specs.Layout.{mapTag}
+use Rattle.lcs.specs.Call.{lcsResult}
+use Rattle.subsumption.specs.Call.{subsumesResult}
 use Rattle.subsumption.specs.Verdict.{evidenceSize}
-use Rattle.interface.specs.Calls.{lcsBuffer, lcsWord, normalizeBuffer, normalizeWord, subsumesBuffer, subsumesWord, validateWord, verifyWord}
+use Rattle.interface.specs.Calls.{lcsWord, normalizeWord, subsumesWord, validateWord, verifyWord}
 use Rattle.interface.specs.Word.{outcomeNo, outcomeYes, valueWord}
 
 -- ---- pictures by rows
@@ -98,64 +101,57 @@ pub data Case : Type 0 where
   common : List ℕ → List ℕ → ℕ → List ℕ → Case
   subsumesAll : ℕ → List ℕ → List ℕ → Case
 
-abbrev pub workRoom : ℕ
-workRoom = workSize benchLimits
+module _ (limits : Limits) where
+  abbrev pub HasRows : List ℕ → ℕ → Type 0
+  HasRows table rows = validateWord limits table ≡ valueWord outcomeYes rows
 
-abbrev pub tableRoom : ℕ
-tableRoom = pictureSize benchLimits
+  -- the word has the table's length; the result buffer holds the table, and past it what was lent
+  abbrev pub WritesNormal : List ℕ → List ℕ → Type 0
+  WritesNormal first table =
+      (result : List ℕ) → pictureSize limits ≤ length result →
+      (normalizeWord limits first (length result) ≡ valueWord outcomeYes (length table))
+      × (normalizeResult limits first result ≡ put result 0 table)
 
-abbrev pub evidenceRoom : ℕ
-evidenceRoom = evidenceSize benchLimits
+  abbrev pub WritesCommon : List ℕ → List ℕ → List ℕ → Type 0
+  WritesCommon first second table =
+      (work result : List ℕ) → workSize limits ≤ length work → pictureSize limits ≤ length result →
+      (lcsWord limits first second (length work) (length result) ≡ valueWord outcomeYes (length table))
+      × (lcsResult limits first second (length work) result ≡ put result 0 table)
 
-abbrev pub HasRows : List ℕ → ℕ → Type 0
-HasRows table rows = validateWord table ≡ valueWord outcomeYes rows
+  -- the word has the verdict and the evidence's length; the result buffer holds the evidence, and past it what was lent
+  abbrev pub WritesEvidence : List ℕ → List ℕ → ℕ → List ℕ → Type 0
+  WritesEvidence first second outcome evidence =
+      (work result : List ℕ) → workSize limits ≤ length work → evidenceSize limits ≤ length result →
+      (subsumesWord limits first second (length work) (length result) ≡ valueWord outcome (length evidence))
+      × (subsumesResult limits first second (length work) result ≡ put result 0 evidence)
 
--- the word has the table's length; the result buffer holds the table, and past it what was lent
-abbrev pub WritesNormal : List ℕ → List ℕ → Type 0
-WritesNormal first table =
-    (result : List ℕ) → tableRoom ≤ length result →
-    (normalizeWord first (length result) ≡ valueWord outcomeYes (length table)) × (normalizeBuffer first result ≡ put result 0 table)
+  abbrev pub TakesEvidence : List ℕ → List ℕ → ℕ → List ℕ → Type 0
+  TakesEvidence first second outcome evidence =
+      (work : List ℕ) → workSize limits ≤ length work → verifyWord limits first second evidence (length work) ≡ valueWord outcome 0
 
-abbrev pub WritesCommon : List ℕ → List ℕ → List ℕ → Type 0
-WritesCommon first second table =
-    (work result : List ℕ) → workRoom ≤ length work → tableRoom ≤ length result →
-    (lcsWord first second (length work) (length result) ≡ valueWord outcomeYes (length table))
-    × (lcsBuffer first second (length work) result ≡ put result 0 table)
+  -- normal: the row counts, and the normal table
+  -- subsumes, subsumesNot: the verdict is yes, or no, with this evidence, which the check takes, and it is so by the meaning of the two pictures
+  -- common: the row count, and the common picture, which by its meaning covers both
+  -- subsumesAll: the row count; by its meaning so of every readable picture, by the calls of each that passes 14
+  abbrev pub Holds : Case → Type 0
+  Holds (normal rows first left table) = HasRows first rows × HasRows table left × WritesNormal first table
+  Holds (subsumes first second map) =
+      WritesEvidence first second outcomeYes map
+      × TakesEvidence first second outcomeYes map
+      × Covers limits second first
+  Holds (subsumesNot first second refuting) =
+      WritesEvidence first second outcomeNo refuting
+      × TakesEvidence first second outcomeNo refuting
+      × (Covers limits second first → ⊥)
+  Holds (common first second rows table) =
+      HasRows table rows
+      × (WritesCommon first second table × Covers limits table first × Covers limits table second)
+  Holds (subsumesAll rows second map) =
+      HasRows second rows
+      × ((first : List ℕ) → Readable limits first →
+      Covers limits second first
+      × (mergedCount limits first ≤ limits .rows → WritesEvidence first second outcomeYes map × TakesEvidence first second outcomeYes map))
 
--- the word has the verdict and the evidence's length; the result buffer holds the evidence, and past it what was lent
-abbrev pub WritesEvidence : List ℕ → List ℕ → ℕ → List ℕ → Type 0
-WritesEvidence first second outcome evidence =
-    (work result : List ℕ) → workRoom ≤ length work → evidenceRoom ≤ length result →
-    (subsumesWord first second (length work) (length result) ≡ valueWord outcome (length evidence))
-    × (subsumesBuffer first second (length work) result ≡ put result 0 evidence)
-
-abbrev pub TakesEvidence : List ℕ → List ℕ → ℕ → List ℕ → Type 0
-TakesEvidence first second outcome evidence =
-    (work : List ℕ) → workRoom ≤ length work → verifyWord first second evidence (length work) ≡ valueWord outcome 0
-
--- normal: the row counts, and the normal table
--- subsumes, subsumesNot: the verdict is yes, or no, with this evidence, which the check takes, and it is so by the meaning of the two pictures
--- common: the row count, and the common picture, which by its meaning covers both
--- subsumesAll: the row count; by its meaning so of every readable picture, by the calls of each that passes 14
-abbrev pub Holds : Case → Type 0
-Holds (normal rows first left table) = HasRows first rows × HasRows table left × WritesNormal first table
-Holds (subsumes first second map) =
-    WritesEvidence first second outcomeYes map
-    × TakesEvidence first second outcomeYes map
-    × Covers benchLimits second first
-Holds (subsumesNot first second refuting) =
-    WritesEvidence first second outcomeNo refuting
-    × TakesEvidence first second outcomeNo refuting
-    × (Covers benchLimits second first → ⊥)
-Holds (common first second rows table) =
-    HasRows table rows
-    × (WritesCommon first second table × Covers benchLimits table first × Covers benchLimits table second)
-Holds (subsumesAll rows second map) =
-    HasRows second rows
-    × ((first : List ℕ) → Readable benchLimits first →
-    Covers benchLimits second first
-    × (mergedCount benchLimits first ≤ maxRows → WritesEvidence first second outcomeYes map × TakesEvidence first second outcomeYes map))
-
-abbrev pub AllHold : List Case → Type 0
-AllHold [] = Unit {0}
-AllHold (c ∷ cs) = Holds c × AllHold cs
+  abbrev pub AllHold : List Case → Type 0
+  AllHold [] = Unit {0}
+  AllHold (c ∷ cs) = Holds c × AllHold cs

@@ -1,4 +1,5 @@
 // The C interface: each call takes numbers and byte buffers and gives one 64-bit word, which interface/specs/Word.antt lays down.
+// Every call has paper 01's limits.
 use answer_word::answers::common_word;
 use answer_word::answers::normalized_word;
 use answer_word::answers::read_word;
@@ -14,12 +15,13 @@ use picture_reader::read::read;
 use subsumes::subsumes::subsumes;
 use table::layout::Limits;
 ghost use mathlib.Core.Path.{_≡_};
+ghost use Rattle.table.specs.Bounds.{benchLimits};
 ghost use Rattle.interface.specs.Calls.{LcsGives, MostSpecificGives, NormalizeGives, SubsumesGives, VerifyGives, validateWord};
 
 // Tests one picture, and gives its row count.
 #[no_mangle]
 pub extern "C" fn zuvaropy_validate(picture: &[u8]) -> u64
-    ensures { λ r. ⌜ r ≡ validateWord (now (picture .entry)) ⌝ }
+    ensures { λ r. ⌜ r ≡ validateWord benchLimits (now (picture .entry)) ⌝ }
 {
     read_word(read(picture, Limits::bench(), Input::First))
 }
@@ -27,7 +29,7 @@ pub extern "C" fn zuvaropy_validate(picture: &[u8]) -> u64
 // Writes the normal table of a picture, and gives its length in bytes.
 #[no_mangle]
 pub extern "C" fn zuvaropy_normalize(picture: &[u8], result: &mut [u8]) -> u64
-    ensures { λ r. ⌜ NormalizeGives (now (picture .entry)) (now (result .entry)) r (now (result .exit)) ⌝ }
+    ensures { λ r. ⌜ NormalizeGives benchLimits (now (picture .entry)) (now (result .entry)) r (now (result .exit)) ⌝ }
 {
     normalized_word(normalize(picture, Limits::bench(), result))
 }
@@ -41,7 +43,8 @@ pub extern "C" fn zuvaropy_subsumes(
     work: &mut [u8],
     result: &mut [u8],
 ) -> u64
-    ensures { λ r. ⌜ SubsumesGives (now (first .entry)) (now (second .entry)) (now (work .entry)) (now (result .entry)) r (now (work .exit)) (now (result .exit)) ⌝ }
+    ensures { λ r. ⌜ SubsumesGives benchLimits (now (first .entry)) (now (second .entry))
+        (now (work .entry)) (now (result .entry)) r (now (work .exit)) (now (result .exit)) ⌝ }
 {
     verdict_word(subsumes(first, second, Limits::bench(), work, result))
 }
@@ -55,7 +58,8 @@ pub extern "C" fn zuvaropy_lcs(
     work: &mut [u8],
     result: &mut [u8],
 ) -> u64
-    ensures { λ r. ⌜ LcsGives (now (first .entry)) (now (second .entry)) (now (work .entry)) (now (result .entry)) r (now (work .exit)) (now (result .exit)) ⌝ }
+    ensures { λ r. ⌜ LcsGives benchLimits (now (first .entry)) (now (second .entry))
+        (now (work .entry)) (now (result .entry)) r (now (work .exit)) (now (result .exit)) ⌝ }
 {
     common_word(lcs(first, second, Limits::bench(), work, result))
 }
@@ -68,7 +72,8 @@ pub extern "C" fn zuvaropy_verify(
     evidence: &[u8],
     work: &mut [u8],
 ) -> u64
-    ensures { λ r. ⌜ VerifyGives (now (first .entry)) (now (second .entry)) (now (evidence .entry)) (now (work .entry)) r (now (work .exit)) ⌝ }
+    ensures { λ r. ⌜ VerifyGives benchLimits (now (first .entry)) (now (second .entry)) (now (evidence .entry))
+        (now (work .entry)) r (now (work .exit)) ⌝ }
 {
     verified_word(verify(first, second, evidence, Limits::bench(), work))
 }
@@ -76,7 +81,8 @@ pub extern "C" fn zuvaropy_verify(
 // The most specific cards of a book that subsume a case: the nearest ones. The work space is zero then.
 #[no_mangle]
 pub extern "C" fn zuvaropy_most_specific(case: &[u8], book: &[u8], work: &mut [u8]) -> u64
-    ensures { λ r. ⌜ MostSpecificGives (now (case .entry)) (now (book .entry)) (now (work .entry)) r (now (work .exit)) ⌝ }
+    ensures { λ r. ⌜ MostSpecificGives benchLimits (now (case .entry)) (now (book .entry))
+        (now (work .entry)) r (now (work .exit)) ⌝ }
 {
     selected_word(most_specific(case, book, Limits::bench(), work))
 }

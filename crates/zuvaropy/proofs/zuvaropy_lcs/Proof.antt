@@ -1,7 +1,9 @@
 -- The word of the answer; the length of the common picture fits its part of the word.
+use mathlib.Core.Path.{_∙_, sym}
 use denote.Ref.{now}
 use lib.ListN.{length}
-use Rattle.interface.proofs.LcsWords.{length-small, word-read}
+use Rattle.interface.specs.Calls.{lcsWord}
+use Rattle.interface.proofs.LcsWords.{length-small}
 use borrow.Author.Needs.{needs}
 use Rattle.zuvaropy.proofs.zuvaropy_lcs.Statement.{statement}
 use Rattle.zuvaropy.proofs.zuvaropy_lcs.Tie as tie
@@ -17,7 +19,9 @@ common-word-requires c κs =
     let a = c .before .before .before .before .before .before .before .before .before .before .before .before .args in
     let limits = c .before .before .before .before .before .before .before .bench in
     let lcs = c .before .before .before .before .lcs in
-    λ n e. length-small (now (a .first)) (now (a .second)) (limits .result) (limits .ensures .0) (length (now (a .work))) (length (now (a .result))) n (lcs .result) (lcs .ensures .0) e
+    λ n e.
+    length-small (limits .result) (limits .ensures .1) (now (a .first)) (now (a .second)) (length (now (a .work))) (length (now (a .result))) n
+    (sym (lcs .ensures .0) ∙ e)
 
 same-length : tie.Need-same-length
 same-length c = search needs
@@ -26,12 +30,15 @@ same-length-2 : tie.Need-same-length-2
 same-length-2 c = search needs
 
 returns : tie.Need-returns
+unfolding lcsWord
 returns c =
-    let a = c .before .before .before .before .before .before .before .before .before .before .before .before .before .args in
     let limits = c .before .before .before .before .before .before .before .before .bench in
     let lcs = c .before .before .before .before .before .lcs in
-    word-read (now (a .first)) (now (a .second)) (limits .result) (limits .ensures .0) (now (a .work)) (now (a .result)) (lcs .last .1 .1 .1 .0) (lcs .last .1 .1 .1 .1 .0) (lcs .result) (c .common-word .result)
-    (lcs .ensures .0) (lcs .ensures .1 .0) (lcs .ensures .1 .1) (c .common-word .ensures)
+    record {
+      word-is = rw (sym (limits .ensures .0), sym (lcs .ensures .0)) (c .common-word .ensures);
+      work-is = rw (limits .ensures .0) at (lcs .ensures .1 .0);
+      result-is = rw (limits .ensures .0) at (lcs .ensures .1 .1);
+    }
 
 pub zuvaropy-lcs-spec : {M : Type 1} → statement M
 zuvaropy-lcs-spec =

@@ -1,6 +1,6 @@
 -- The word of the answer; the word of cards is its value.
-use denote.Ref.{now}
-use Rattle.interface.proofs.MostSpecificWords.{word-read}
+use mathlib.Core.Path.{sym}
+use Rattle.interface.specs.Calls.{mostSpecificWord}
 use borrow.Author.Needs.{needs}
 use Rattle.zuvaropy.proofs.zuvaropy_most_specific.Statement.{statement}
 use Rattle.zuvaropy.proofs.zuvaropy_most_specific.Tie as tie
@@ -18,12 +18,14 @@ same-length : tie.Need-same-length
 same-length c = search needs
 
 returns : tie.Need-returns
+unfolding mostSpecificWord
 returns c =
-    let a = c .before .before .before .before .before .before .before .before .before .args in
     let limits = c .before .before .before .before .before .bench in
     let found = c .before .before .before .most-specific in
-    word-read (now (a .case)) (now (a .book)) (limits .result) (limits .ensures .0) (now (a .work)) (found .last .1 .1 .1 .0) (found .result) (c .selected-word .result)
-    (found .ensures .0) (found .ensures .1) (c .selected-word .ensures)
+    record {
+      word-is = rw (sym (limits .ensures .0), sym (found .ensures .0)) (c .selected-word .ensures);
+      buffer-is = rw (sym (limits .ensures .0)) (found .ensures .1);
+    }
 
 pub zuvaropy-most-specific-spec : {M : Type 1} → statement M
 zuvaropy-most-specific-spec =

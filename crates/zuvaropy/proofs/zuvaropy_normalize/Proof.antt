@@ -4,9 +4,9 @@ use native.Mathlib.Omega.{arith}
 use denote.Ref.{now}
 use lib.ListN.{length}
 use Prim.Native.Nat.{_≤_}
-use Rattle.table.specs.Bounds.{benchLimits, pictureSize}
+use Rattle.table.specs.Bounds.{pictureSize}
 use Rattle.normal.proofs.Answers.{answer-size}
-use Rattle.interface.specs.Calls.{normalizeBuffer, normalizeWord}
+use Rattle.interface.specs.Calls.{normalizeWord}
 use borrow.Author.Needs.{needs}
 use Rattle.zuvaropy.proofs.zuvaropy_normalize.Statement.{statement}
 use Rattle.zuvaropy.proofs.zuvaropy_normalize.Tie as tie
@@ -23,14 +23,13 @@ normalized-word-requires c κs =
     let limits = c .before .before .before .before .bench in
     let normalize = c .before .before .normalize in
     λ n e.
-    let h : n ≤ pictureSize benchLimits = rw (limits .ensures .0) at (answer-size (limits .result) (now (a .picture)) (length (now (a .result))) n (sym (normalize .ensures .0) ∙ e)) in
-    omega arith
+    omega (arith, limits .ensures .1, answer-size (limits .result) (now (a .picture)) (length (now (a .result))) n (sym (normalize .ensures .0) ∙ e))
 
 same-length : tie.Need-same-length
 same-length c = search needs
 
 returns : tie.Need-returns
-unfolding normalizeWord normalizeBuffer
+unfolding normalizeWord
 returns c =
     let limits = c .before .before .before .before .before .bench in
     let normalize = c .before .before .before .normalize in

@@ -1,7 +1,9 @@
 -- The word of the answer; the length of the evidence fits its part of the word.
+use mathlib.Core.Path.{_∙_, sym}
 use denote.Ref.{now}
 use lib.ListN.{length}
-use Rattle.interface.proofs.SubsumesWords.{no-small, word-read, yes-small}
+use Rattle.interface.specs.Calls.{subsumesWord}
+use Rattle.interface.proofs.SubsumesWords.{no-small, yes-small}
 use borrow.Author.Needs.{needs}
 use Rattle.zuvaropy.proofs.zuvaropy_subsumes.Statement.{statement}
 use Rattle.zuvaropy.proofs.zuvaropy_subsumes.Tie as tie
@@ -17,7 +19,11 @@ verdict-word-requires c κs =
     let a = c .before .before .before .before .before .before .before .before .before .before .before .before .args in
     let limits = c .before .before .before .before .before .before .before .bench in
     let subsumes = c .before .before .before .before .subsumes in
-    λ n. (yes-small (now (a .first)) (now (a .second)) (limits .result) (limits .ensures .0) (length (now (a .work))) (length (now (a .result))) n (subsumes .result) (subsumes .ensures .0), no-small (now (a .first)) (now (a .second)) (limits .result) (limits .ensures .0) (length (now (a .work))) (length (now (a .result))) n (subsumes .result) (subsumes .ensures .0))
+    let given = sym (subsumes .ensures .0) in
+    λ n. (
+      λ e. yes-small (limits .result) (limits .ensures .1) (now (a .first)) (now (a .second)) (length (now (a .work))) (length (now (a .result))) n (given ∙ e),
+      λ e. no-small (limits .result) (limits .ensures .1) (now (a .first)) (now (a .second)) (length (now (a .work))) (length (now (a .result))) n (given ∙ e),
+    )
 
 same-length : tie.Need-same-length
 same-length c = search needs
@@ -26,12 +32,15 @@ same-length-2 : tie.Need-same-length-2
 same-length-2 c = search needs
 
 returns : tie.Need-returns
+unfolding subsumesWord
 returns c =
-    let a = c .before .before .before .before .before .before .before .before .before .before .before .before .before .args in
     let limits = c .before .before .before .before .before .before .before .before .bench in
     let subsumes = c .before .before .before .before .before .subsumes in
-    word-read (now (a .first)) (now (a .second)) (limits .result) (limits .ensures .0) (now (a .work)) (now (a .result)) (subsumes .last .1 .1 .1 .0) (subsumes .last .1 .1 .1 .1 .0) (subsumes .result) (c .verdict-word .result)
-    (subsumes .ensures .0) (subsumes .ensures .1 .0) (subsumes .ensures .1 .1) (c .verdict-word .ensures)
+    record {
+      word-is = rw (sym (limits .ensures .0), sym (subsumes .ensures .0)) (c .verdict-word .ensures);
+      work-is = rw (limits .ensures .0) at (subsumes .ensures .1 .0);
+      result-is = rw (limits .ensures .0) at (subsumes .ensures .1 .1);
+    }
 
 pub zuvaropy-subsumes-spec : {M : Type 1} → statement M
 zuvaropy-subsumes-spec =

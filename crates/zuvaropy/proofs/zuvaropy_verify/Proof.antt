@@ -1,6 +1,6 @@
 -- The word of the answer.
 use mathlib.Core.Path.{sym}
-use Rattle.interface.specs.Calls.{verifySpace, verifyWord}
+use Rattle.interface.specs.Calls.{verifyWord}
 use borrow.Author.Needs.{needs}
 use Rattle.zuvaropy.proofs.zuvaropy_verify.Statement.{statement}
 use Rattle.zuvaropy.proofs.zuvaropy_verify.Tie as tie
@@ -18,7 +18,7 @@ same-length : tie.Need-same-length
 same-length c = search needs
 
 returns : tie.Need-returns
-unfolding verifyWord verifySpace
+unfolding verifyWord
 returns c =
     let limits = c .before .before .before .before .before .bench in
     let verify = c .before .before .before .verify in
