@@ -1,19 +1,20 @@
 -- The call that gives the common picture: which of its words is given for which inputs and buffers, what both buffers hold then, and what a word shows.
--- The limits are any, where `Bounded` is asked such as the code can hold. The answers themselves are those of lcs (Answers, Conditions).
---   lcs-short                   1: the work space is shorter than two halves, or the result buffer than the longest picture
+-- The limits are any, where `Bounded` is asked such as the code can hold.
+-- The answers themselves are those of lcs (Answers, Conditions).
+--   lcs-short                   1: the work space is shorter than two halves, or the result buffer than a picture may be
 --   lcs-refuses                 2 to 13 of the first picture, then of the second; 14 of the first, then of the second (PairWords)
---   lcs-large                   15: the common picture has more rows than a picture may have; both normal tables stand in the work space, nothing
---                               in the result buffer
+--   lcs-large                   15: the common picture has more rows than a picture may have; both normal tables stand
+--                               in the work space, nothing in the result buffer
 --   lcs-common                  else its length; both normal tables stand in the work space, the common picture in the result buffer
 --   lcs-space                   the work space is then, with 15 as without, as the check of evidence leaves it,
 --   lcs-space-same              and its two halves do not depend on what stood there; nor does the word, by its definition
 --   lcs-past, lcs-buffer-past   bytes past the two halves, and past the common picture, keep their contents, whatever the answer
 --   lcs-kept                    and so do both buffers' lengths
---   lcs-yes                     outcome 1 is given only with room, for an acceptable pair whose common picture has no more rows than a picture may
---                               have; the value is its length
+--   lcs-yes                     outcome 1 is given only with room, for an acceptable pair whose common picture has no more
+--                               rows than a picture may have; the value is its length
 --   lcs-least-common            so the result buffer's bytes up to that length are the common picture, which covers both and is covered by all that do
---   lcs-exactly                 with buffers of the lengths laid down and for an acceptable pair: outcome 1 exactly if it has
---                               no more rows than that, else 15
+--   lcs-exactly                 with buffers of the lengths laid down and for an acceptable pair: outcome 1 exactly if it
+--                               has no more rows than that, else 15
 --   length-small                that length fits its part of the word
 use Prim.Native.Nat.{_<_, _≤_, ℕ}
 use lib.ListN.{getD, length, take}
@@ -58,7 +59,8 @@ module _ (limits : Limits) (first second work result : List ℕ) where
     result-is = sym (short-result limits first second (length work) result h);
   }
 
-  pub lcs-space : pictureSize limits ≤ length result → lcsWork limits first second work (length result) ≡ verifyWork limits first second work
+  pub lcs-space : pictureSize limits ≤ length result →
+      lcsWork limits first second work (length result) ≡ verifyWork limits first second work
   lcs-space long = pair-work limits first second work (pictureSize limits) (length result) long
 
   module _ (enough : workSize limits ≤ length work) (long : pictureSize limits ≤ length result) where
@@ -82,8 +84,8 @@ module _ (limits : Limits) (first second work result : List ℕ) where
       }
 
       pub lcs-common : lcsCount limits first second ≤ limits .rows →
-          LcsGives limits first second work result (valueWord outcomeYes (length (lcsFile limits first second))) (halvesPut limits first second work)
-          (put result 0 (lcsFile limits first second))
+          LcsGives limits first second work result (valueWord outcomeYes (length (lcsFile limits first second)))
+          (halvesPut limits first second work) (put result 0 (lcsFile limits first second))
       unfolding lcsWord
       lcs-common few = record {
         word-is = sym (ap commonWord (common-lcs limits first second (length work) (length result) enough long pair few));
@@ -99,7 +101,8 @@ module _ (limits : Limits) (first second work result : List ℕ) where
           (acceptable-work limits (pictureSize limits) first second work (length result) enough long pair)
           ∙ halves-same limits first second work (pair .first-few) (pair .second-few)
 
-  pub lcs-past : (i : ℕ) → workSize limits ≤ i → getD (lcsWork limits first second work (length result)) i 0 ≡ getD work i 0
+  pub lcs-past : (i : ℕ) → workSize limits ≤ i →
+      getD (lcsWork limits first second work (length result)) i 0 ≡ getD work i 0
   lcs-past i h = work-past limits (pictureSize limits) first second work (length result) i h
 
   pub lcs-buffer-past : (i : ℕ) → length (lcsFile limits first second) ≤ i →
@@ -141,7 +144,8 @@ module _ (limits : Limits) (bounded : Bounded limits) (first second : List ℕ) 
   lcs-yes h = yes-word (lcsAnswer limits first second work result) refl h .0
 
   -- the word of a length has outcome 1
-  length-yes : (n : ℕ) → lcsAnswer limits first second work result ≡ common.Length n → outcome (lcsWord limits first second work result) ≡ outcomeYes
+  length-yes : (n : ℕ) → lcsAnswer limits first second work result ≡ common.Length n →
+      outcome (lcsWord limits first second work result) ≡ outcomeYes
   unfolding lcsWord
   length-yes n e = ap (λ a. outcome (commonWord a)) e ∙ value-outcome outcomeYes n (length-small n e)
 

@@ -46,7 +46,8 @@ module _ (limits : Limits) (case book work : List ℕ) where
   unfolding mostSpecificWord
   refusing r e = record { word-is = sym (ap selectedWord e); buffer-is = sym (refused-work limits case book work r e) }
 
-  pub most-specific-short : length work < workSize limits → MostSpecificGives limits case book work (refused 1 Buffer) work
+  pub most-specific-short : length work < workSize limits →
+      MostSpecificGives limits case book work (refused 1 Buffer) work
   most-specific-short short = refusing (record { number = 1; input = Buffer }) (short-answer limits case book (length work) short)
 
   module _ (enough : workSize limits ≤ length work) where
@@ -55,7 +56,8 @@ module _ (limits : Limits) (case book work : List ℕ) where
     most-specific-refuses r first = refusing r (refused-exactly limits case book (length work) r .1 (inr (enough, first)))
 
     pub most-specific-given : AcceptableBook limits case book →
-        MostSpecificGives limits case book work (valueWord outcomeYes (mostSpecificCards limits case book)) (put work 0 (zeros (workSize limits)))
+        MostSpecificGives limits case book work (valueWord outcomeYes (mostSpecificCards limits case book))
+        (put work 0 (zeros (workSize limits)))
     unfolding mostSpecificWord
     most-specific-given acceptable =
         let e = acceptable-answer limits case book (length work) enough acceptable in
@@ -64,7 +66,8 @@ module _ (limits : Limits) (case book work : List ℕ) where
           buffer-is = sym (answered-work limits case book work (mostSpecificCards limits case book) e);
         }
 
-  pub most-specific-past : (i : ℕ) → workSize limits ≤ i → getD (mostSpecificWork limits case book work) i 0 ≡ getD work i 0
+  pub most-specific-past : (i : ℕ) → workSize limits ≤ i →
+      getD (mostSpecificWork limits case book work) i 0 ≡ getD work i 0
   most-specific-past i h = work-past limits case book work i h
 
   pub most-specific-kept : length (mostSpecificWork limits case book work) ≡ length work
@@ -89,7 +92,8 @@ module _ (limits : Limits) (case book : List ℕ) (room : ℕ) where
   named-fits r (inr (inr (inl (is, a, b)))) = (omega arith, rw is (omega arith))
   named-fits r (inr (inr (inr (k, l, (is, a, b))))) = (omega arith, rw is (omega (arith, count-most book)))
 
-  refusal-fits : (r : Refusal) → mostSpecificAnswer limits case book room ≡ Refused r → (r .number < partRange) × (cardOf (r .input) < partRange)
+  refusal-fits : (r : Refusal) → mostSpecificAnswer limits case book room ≡ Refused r →
+      (r .number < partRange) × (cardOf (r .input) < partRange)
   refusal-fits r e = named-fits r (book-refusal limits case book room r e)
 
   word-small : (n : ℕ) → mostSpecificAnswer limits case book room ≡ Cards n → n < valueRange
@@ -101,7 +105,8 @@ module _ (limits : Limits) (case book : List ℕ) (room : ℕ) where
   abbrev pub ShowsRefusal : ℕ → Type 0
   ShowsRefusal w = (outcome w ≡ 0) × Shown w
 
-  by-answer : (a : Selected) → mostSpecificAnswer limits case book room ≡ a → ShowsCards (selectedWord a) ⊎ ShowsRefusal (selectedWord a)
+  by-answer : (a : Selected) → mostSpecificAnswer limits case book room ≡ a →
+      ShowsCards (selectedWord a) ⊎ ShowsRefusal (selectedWord a)
   by-answer (Cards n) e =
       inl (value-outcome outcomeYes n (word-small n e), e ∙ ap Cards (sym (value-value outcomeYes n (word-small n e))))
   by-answer (Refused r) e =
@@ -118,7 +123,8 @@ module _ (limits : Limits) (case book : List ℕ) (room : ℕ) where
         },
       )
 
-  pub most-specific-shows : ShowsCards (mostSpecificWord limits case book room) ⊎ ShowsRefusal (mostSpecificWord limits case book room)
+  pub most-specific-shows :
+      ShowsCards (mostSpecificWord limits case book room) ⊎ ShowsRefusal (mostSpecificWord limits case book room)
   unfolding mostSpecificWord
   most-specific-shows = by-answer (mostSpecificAnswer limits case book room) refl
 
@@ -132,13 +138,15 @@ module _ (limits : Limits) (case book : List ℕ) (room : ℕ) where
   most-specific-yes h = answered-acceptable limits case book room (value (mostSpecificWord limits case book room)) (yes-cards h)
 
   pub most-specific-answers :
-      (outcome (mostSpecificWord limits case book room) ≡ outcomeYes) ↔ ((workSize limits ≤ room) × AcceptableBook limits case book)
+      (outcome (mostSpecificWord limits case book room) ≡ outcomeYes)
+      ↔ ((workSize limits ≤ room) × AcceptableBook limits case book)
   unfolding mostSpecificWord
   most-specific-answers = (
     λ h. let a = most-specific-yes h in (a .long, a .acceptable),
     λ (enough, acceptable).
         let e = acceptable-answer limits case book room enough acceptable in
-        ap (λ a. outcome (selectedWord a)) e ∙ value-outcome outcomeYes (mostSpecificCards limits case book) (word-small (mostSpecificCards limits case book) e),
+        let cards = mostSpecificCards limits case book in
+        ap (λ a. outcome (selectedWord a)) e ∙ value-outcome outcomeYes cards (word-small cards e),
   )
 
   pub most-specific-cards : outcome (mostSpecificWord limits case book room) ≡ outcomeYes →
@@ -157,7 +165,9 @@ module _ (limits : Limits) (case book work : List ℕ) where
   most-specific-clear h =
       work-clear limits case book work (value (mostSpecificWord limits case book (length work))) (yes-cards limits case book (length work) h)
 
-  pub most-specific-untouched : outcome (mostSpecificWord limits case book (length work)) ≡ 0 → mostSpecificWork limits case book work ≡ work
+  pub most-specific-untouched : outcome (mostSpecificWord limits case book (length work)) ≡ 0 →
+      mostSpecificWork limits case book work ≡ work
   most-specific-untouched h =
-      ⊎-elim (λ shown. absurd (omega (arith, h, shown .0))) (λ (none, shown). refused-work limits case book work (shown .refusal) (shown .answered))
+      ⊎-elim (λ shown. absurd (omega (arith, h, shown .0)))
+      (λ (none, shown). refused-work limits case book work (shown .refusal) (shown .answered))
       (most-specific-shows limits case book (length work))

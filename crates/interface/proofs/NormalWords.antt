@@ -1,5 +1,6 @@
 -- The call that writes the normal table: which of its words is given for which picture and buffer, and what the buffer holds then.
--- The limits are any, where `Bounded` is asked such as the code can hold. The answers themselves are normal's (Answers).
+-- The limits are any, where `Bounded` is asked such as the code can hold.
+-- The answers themselves are normal's (Answers).
 --   normalize-short                       1: the buffer is shorter than the longest picture
 --   normalize-unreadable                  2 to 13, the number being that of the reading
 --   normalize-many                        14: the merged table has more rows than a picture may have
@@ -45,7 +46,8 @@ module _ (limits : Limits) (s out : List ℕ) where
   normalize-short h = let e = short-answer limits s (length out) h in record { word-is = rw e; buffer-is = rw e }
 
   module _ (enough : pictureSize limits ≤ length out) where
-    pub normalize-unreadable : (q : ℕ) → readingOf limits s ≡ reading.Failed q → NormalizeGives limits s out (refused q First) out
+    pub normalize-unreadable : (q : ℕ) → readingOf limits s ≡ reading.Failed q →
+        NormalizeGives limits s out (refused q First) out
     unfolding normalizeWord normalizeResult
     normalize-unreadable q h = let e = unreadable-answer limits s (length out) enough q h in record { word-is = rw e; buffer-is = rw e }
 
@@ -56,7 +58,8 @@ module _ (limits : Limits) (s out : List ℕ) where
 
       module _ (few : mergedCount limits s ≤ limits .rows) where
         pub normalize-written :
-            NormalizeGives limits s out (valueWord outcomeYes (length (normalFile limits s))) (put out 0 (normalFile limits s))
+            NormalizeGives limits s out (valueWord outcomeYes (length (normalFile limits s)))
+            (put out 0 (normalFile limits s))
         unfolding normalizeWord normalizeResult
         normalize-written = let e = few-answer limits s (length out) enough readable few in record { word-is = rw e; buffer-is = rw e }
 
@@ -66,13 +69,15 @@ module _ (limits : Limits) (s out : List ℕ) where
               rw (sym (normalize-written .word-is))
               (value-value outcomeYes (length (normalFile limits s)) (omega (arith, normal-size limits s few)))
 
-          pub normalize-result : take (value (normalizeWord limits s (length out))) (normalizeResult limits s out) ≡ normalFile limits s
+          pub normalize-result :
+              take (value (normalizeWord limits s (length out))) (normalizeResult limits s out) ≡ normalFile limits s
           unfolding put
           normalize-result =
               rw (normalize-value, sym (normalize-written .buffer-is))
               (take-at (normalFile limits s) (drop (0 + length (normalFile limits s)) out) (length (normalFile limits s)) refl)
 
-          pub normalize-readable : Readable limits (take (value (normalizeWord limits s (length out))) (normalizeResult limits s out))
+          pub normalize-readable :
+              Readable limits (take (value (normalizeWord limits s (length out))) (normalizeResult limits s out))
           normalize-readable = rw normalize-result (normal-readable limits s few bounded)
 
           pub normalize-equivalent :
@@ -82,19 +87,22 @@ module _ (limits : Limits) (s out : List ℕ) where
               subst (λ t. Equivalent pictureSignature (pictureTree limits s) (pictureTree limits t)) (sym normalize-result)
               (normalFile-equivalent limits s few bounded readable)
 
-  yes-few : (b : Bool) → leb (mergedCount limits s) (limits .rows) ≡ b → pictureSize limits ≤ length out → Readable limits s → outcome (normalizeWord limits s (length out)) ≡ outcomeYes → Accepted limits s (length out)
+  yes-few : (b : Bool) → leb (mergedCount limits s) (limits .rows) ≡ b → pictureSize limits ≤ length out →
+      Readable limits s → outcome (normalizeWord limits s (length out)) ≡ outcomeYes → Accepted limits s (length out)
   yes-few true e enough readable h = record { enough = enough; readable = readable; few = leb-true (mergedCount limits s) (limits .rows) e }
   yes-few false e enough readable h =
       let many = normalize-many enough readable (leb-false (mergedCount limits s) (limits .rows) e) .word-is in
       absurd (omega (arith, many))
 
-  yes-reading : (r : Reading) → readingOf limits s ≡ r → pictureSize limits ≤ length out → outcome (normalizeWord limits s (length out)) ≡ outcomeYes → Accepted limits s (length out)
+  yes-reading : (r : Reading) → readingOf limits s ≡ r → pictureSize limits ≤ length out →
+      outcome (normalizeWord limits s (length out)) ≡ outcomeYes → Accepted limits s (length out)
   yes-reading (reading.Rows n) e enough h = yes-few (leb (mergedCount limits s) (limits .rows)) refl enough (record { rows = n; reads = e }) h
   yes-reading (reading.Failed q) e enough h =
       let failed = normalize-unreadable enough q e .word-is in
       absurd (omega (arith, failed, reading-number limits s q e .most))
 
-  yes-room : (b : Bool) → leb (pictureSize limits) (length out) ≡ b → outcome (normalizeWord limits s (length out)) ≡ outcomeYes → Accepted limits s (length out)
+  yes-room : (b : Bool) → leb (pictureSize limits) (length out) ≡ b →
+      outcome (normalizeWord limits s (length out)) ≡ outcomeYes → Accepted limits s (length out)
   yes-room true e h = yes-reading (readingOf limits s) refl (leb-true (pictureSize limits) (length out) e) h
   yes-room false e h =
       let short = normalize-short (leb-false (pictureSize limits) (length out) e) .word-is in
@@ -103,7 +111,8 @@ module _ (limits : Limits) (s out : List ℕ) where
   pub normalize-accepted : outcome (normalizeWord limits s (length out)) ≡ outcomeYes → Accepted limits s (length out)
   normalize-accepted h = yes-room (leb (pictureSize limits) (length out)) refl h
 
-  pub normalize-past : (i : ℕ) → length (normalFile limits s) ≤ i → getD (normalizeResult limits s out) i 0 ≡ getD out i 0
+  pub normalize-past : (i : ℕ) → length (normalFile limits s) ≤ i →
+      getD (normalizeResult limits s out) i 0 ≡ getD out i 0
   normalize-past i h = result-past limits s out i h
 
   pub normalize-kept : length (normalizeResult limits s out) ≡ length out

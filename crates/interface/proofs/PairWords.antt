@@ -20,7 +20,8 @@ use Rattle.interface.specs.Word.{cardOf, outcome, partRange, refusalWord
 use Rattle.interface.proofs.Words.{refusal-outcome}
 
 module _ (limits : Limits) (first second : List ℕ) (P : ℕ → Type 0) where
-  pub refusals : ((r : Refusal) → prepareAnswer limits first second ≡ prepared.Refused r → P (refusalWord r)) → Refusals limits first second P
+  pub refusals : ((r : Refusal) → prepareAnswer limits first second ≡ prepared.Refused r → P (refusalWord r)) →
+      Refusals limits first second P
   refusals h =
       record {
         first-unreadable = λ q e. h (record { number = q; input = First }) (prepare-first limits first second q e);

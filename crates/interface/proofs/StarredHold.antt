@@ -48,15 +48,17 @@ use Rattle.interface.proofs.NormalWords.{normalize-written}
 
 -- evidence that is computed and taken with a work space of the length laid down is so with all buffers that are long enough, and shows what the two pictures
 -- mean
-module _ (limits : Limits) (bounded : Bounded limits) (first second e : List ℕ) (is : evidenceOf limits first second ≡ e) where
-  writes : (o : ℕ) → Acceptable limits first second → verdictWord (verdictAnswer limits first second) ≡ valueWord o (length e) →
-      WritesEvidence limits first second o e
+module _ (limits : Limits) (bounded : Bounded limits) (first second e : List ℕ)
+    (is : evidenceOf limits first second ≡ e) where
+  writes : (o : ℕ) → Acceptable limits first second →
+      verdictWord (verdictAnswer limits first second) ≡ valueWord o (length e) → WritesEvidence limits first second o e
   writes o pair told work result enough long =
       let decided = subsumes-decided limits first second work result enough long pair in
       (sym (decided .word-is) ∙ told, sym (decided .result-is) ∙ ap (λ (l : List ℕ). put result 0 l) is)
 
   shown : verdictWord (verdictAnswer limits first second) ≡ valueWord outcomeYes (length e) →
-      verifyWord limits first second e (workSize limits) ≡ valueWord outcomeYes 0 → Holds limits (subsumes first second e)
+      verifyWord limits first second e (workSize limits) ≡ valueWord outcomeYes 0 →
+      Holds limits (subsumes first second e)
   shown told taken =
       let (enough, pair, map) = verify-map limits bounded first second e (workSize limits) (omega (arith, taken)) in (
         writes outcomeYes pair told,
@@ -65,7 +67,8 @@ module _ (limits : Limits) (bounded : Bounded limits) (first second e : List ℕ
       )
 
   shown-not : verdictWord (verdictAnswer limits first second) ≡ valueWord outcomeNo (length e) →
-      verifyWord limits first second e (workSize limits) ≡ valueWord outcomeNo 0 → Holds limits (subsumesNot first second e)
+      verifyWord limits first second e (workSize limits) ≡ valueWord outcomeNo 0 →
+      Holds limits (subsumesNot first second e)
   shown-not told taken =
       let (enough, pair, refuting) = verify-refutation limits bounded first second e (workSize limits) (omega (arith, taken)) in (
         writes outcomeNo pair told,
@@ -75,14 +78,16 @@ module _ (limits : Limits) (bounded : Bounded limits) (first second e : List ℕ
 
 -- a normal table that is computed stands in any result buffer that is long enough
 shown-normal : (limits : Limits) (first table : List ℕ) → outcome (validateWord limits first) ≡ outcomeYes →
-    leb (mergedCount limits first) (limits .rows) ≡ true → normalFile limits first ≡ table → WritesNormal limits first table
+    leb (mergedCount limits first) (limits .rows) ≡ true → normalFile limits first ≡ table →
+    WritesNormal limits first table
 shown-normal limits first table opened few is result long =
     let small = leb-true (mergedCount limits first) (limits .rows) few in
     let written = normalize-written limits first result long (validate-readable limits first opened) small in
     (sym (written .word-is) ∙ ap (λ (e : List ℕ). valueWord outcomeYes (length e)) is, sym (written .buffer-is) ∙ ap (λ (e : List ℕ). put result 0 e) is)
 
 -- a common picture that is given with buffers of the lengths laid down stands in any result buffer that is long enough, and covers both
-module _ (limits : Limits) (bounded : Bounded limits) (first second table : List ℕ) (is : lcsFile limits first second ≡ table) where
+module _ (limits : Limits) (bounded : Bounded limits) (first second table : List ℕ)
+    (is : lcsFile limits first second ≡ table) where
   shown-common : outcome (lcsWord limits first second (workSize limits) (pictureSize limits)) ≡ outcomeYes →
       WritesCommon limits first second table × Covers limits table first × Covers limits table second
   shown-common told =

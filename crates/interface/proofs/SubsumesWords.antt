@@ -1,6 +1,7 @@
 -- The call that gives the verdict: which of its words is given for which inputs and buffers, what both buffers hold then, and what a word shows.
--- The limits are any, where `Bounded` is asked such as the code can hold. The answers themselves are subsumption's (Answers, Conditions).
---   subsumes-short              1: the work space is shorter than two halves, or the result buffer than the longest evidence
+-- The limits are any, where `Bounded` is asked such as the code can hold.
+-- The answers themselves are subsumption's (Answers, Conditions).
+--   subsumes-short              1: the work space is shorter than two halves, or the result buffer than evidence may be
 --   subsumes-refuses            2 to 13 of the first picture, then of the second; 14 of the first, then of the second (PairWords)
 --   subsumes-decided            else the verdict and the evidence's length; both normal tables stand in the work space, the evidence in the result buffer
 --   subsumes-space              the work space is then as the check of evidence leaves it,
@@ -63,11 +64,13 @@ module _ (limits : Limits) (first second work result : List ℕ) where
     result-is = sym (short-result limits first second (length work) result h);
   }
 
-  pub subsumes-space : evidenceSize limits ≤ length result → subsumesWork limits first second work (length result) ≡ verifyWork limits first second work
+  pub subsumes-space : evidenceSize limits ≤ length result →
+      subsumesWork limits first second work (length result) ≡ verifyWork limits first second work
   subsumes-space long = pair-work limits first second work (evidenceSize limits) (length result) long
 
   module _ (enough : workSize limits ≤ length work) (long : evidenceSize limits ≤ length result) where
-    pub subsumes-refuses : Refusals limits first second (λ w. SubsumesGives limits first second work result w work result)
+    pub subsumes-refuses :
+        Refusals limits first second (λ w. SubsumesGives limits first second work result w work result)
     unfolding subsumesWord
     subsumes-refuses =
         refusals limits first second _ (λ r e. record {
@@ -78,8 +81,8 @@ module _ (limits : Limits) (first second work result : List ℕ) where
 
     module _ (pair : Acceptable limits first second) where
       pub subsumes-decided :
-          SubsumesGives limits first second work result (verdictWord (verdictAnswer limits first second)) (halvesPut limits first second work)
-          (put result 0 (evidenceOf limits first second))
+          SubsumesGives limits first second work result (verdictWord (verdictAnswer limits first second))
+          (halvesPut limits first second work) (put result 0 (evidenceOf limits first second))
       unfolding subsumesWord
       subsumes-decided = record {
         word-is = sym (ap verdictWord (acceptable-subsumes limits first second (length work) (length result) enough long pair));
@@ -94,7 +97,8 @@ module _ (limits : Limits) (first second work result : List ℕ) where
           ap (λ (l : List ℕ). take (workSize limits) l) (sym (subsumes-decided .work-is))
           ∙ halves-same limits first second work (pair .first-few) (pair .second-few)
 
-  pub subsumes-past : (i : ℕ) → workSize limits ≤ i → getD (subsumesWork limits first second work (length result)) i 0 ≡ getD work i 0
+  pub subsumes-past : (i : ℕ) → workSize limits ≤ i →
+      getD (subsumesWork limits first second work (length result)) i 0 ≡ getD work i 0
   subsumes-past i h = work-past limits (evidenceSize limits) first second work (length result) i h
 
   pub subsumes-buffer-past : (i : ℕ) → length (evidenceOf limits first second) ≤ i →
@@ -113,7 +117,8 @@ module _ (limits : Limits) (first second work result : List ℕ) where
 
 module _ (limits : Limits) (bounded : Bounded limits) (first second : List ℕ) (work result : ℕ) where
   answered-small : (b : Bool) (n : ℕ) → Answered limits first second work result b n → n < valueRange
-  answered-small b n a = omega (arith, a .length-is, evidence-size limits first second bounded (a .pair), within-most limits bounded)
+  answered-small b n a =
+      omega (arith, a .length-is, evidence-size limits first second bounded (a .pair), within-most limits bounded)
 
   pub yes-small : (n : ℕ) → subsumesAnswer limits first second work result ≡ verdict.Yes n → n < valueRange
   yes-small n e = answered-small true n (answered-yes limits first second work result n e)
@@ -157,11 +162,13 @@ module _ (limits : Limits) (bounded : Bounded limits) (first second : List ℕ) 
   subsumes-not h = let a = subsumes-no h in verdict-fails limits first second bounded (a .pair) .0 (a .verdict-is)
 
   -- the word of an answer yes, of an answer no
-  says-yes : SaysYes (subsumesAnswer limits first second work result) → outcome (subsumesWord limits first second work result) ≡ outcomeYes
+  says-yes : SaysYes (subsumesAnswer limits first second work result) →
+      outcome (subsumesWord limits first second work result) ≡ outcomeYes
   unfolding subsumesWord
   says-yes (n, e) = ap (λ v. outcome (verdictWord v)) e ∙ value-outcome outcomeYes n (yes-small n e)
 
-  says-no : SaysNo (subsumesAnswer limits first second work result) → outcome (subsumesWord limits first second work result) ≡ outcomeNo
+  says-no : SaysNo (subsumesAnswer limits first second work result) →
+      outcome (subsumesWord limits first second work result) ≡ outcomeNo
   unfolding subsumesWord
   says-no (n, e) = ap (λ v. outcome (verdictWord v)) e ∙ value-outcome outcomeNo n (no-small n e)
 
@@ -169,7 +176,8 @@ module _ (limits : Limits) (bounded : Bounded limits) (first second : List ℕ) 
     pub subsumes-exactly :
         ((outcome (subsumesWord limits first second work result) ≡ outcomeYes) ↔ Covers limits second first)
         × ((outcome (subsumesWord limits first second work result) ≡ outcomeNo) ↔ (Covers limits second first → ⊥))
-        × ((outcome (subsumesWord limits first second work result) ≡ outcomeYes) ⊎ (outcome (subsumesWord limits first second work result) ≡ outcomeNo))
+        × ((outcome (subsumesWord limits first second work result) ≡ outcomeYes)
+        ⊎ (outcome (subsumesWord limits first second work result) ≡ outcomeNo))
     subsumes-exactly =
         let c = condition-2-verdict limits bounded first second pair in (
           (subsumes-covers, λ h. says-yes (c .yes-exactly work result enough long .1 h)),
@@ -183,21 +191,21 @@ module _ (limits : Limits) (first second : List ℕ) (work : ℕ) (result : List
   abbrev word : ℕ
   word = subsumesWord limits first second work (length result)
 
-  pub subsumes-evidence : (b : Bool) → Answered limits first second work (length result) b (value (subsumesWord limits first second work (length result))) →
-      take (value (subsumesWord limits first second work (length result))) (subsumesResult limits first second work result) ≡ evidenceOf limits first second
+  pub subsumes-evidence : (b : Bool) → Answered limits first second work (length result) b (value word) →
+      take (value word) (subsumesResult limits first second work result) ≡ evidenceOf limits first second
   subsumes-evidence b a = evidence-read limits first second work result b (value word) a
 
   module _ (bounded : Bounded limits) (room : ℕ) (enough : workSize limits ≤ room) where
-    pub subsumes-map-taken : outcome (subsumesWord limits first second work (length result)) ≡ outcomeYes →
-        verifyWord limits first second (take (value (subsumesWord limits first second work (length result))) (subsumesResult limits first second work result)) room
+    pub subsumes-map-taken : outcome word ≡ outcomeYes →
+        verifyWord limits first second (take (value word) (subsumesResult limits first second work result)) room
         ≡ verifiedWord verified.MapTaken
     unfolding verifyWord
     subsumes-map-taken h =
         let a = subsumes-yes limits bounded first second work (length result) h in
         rw (subsumes-evidence true a) (ap verifiedWord (yes-verify limits first second bounded (a .pair) room enough (a .verdict-is)))
 
-    pub subsumes-refutation-taken : outcome (subsumesWord limits first second work (length result)) ≡ outcomeNo →
-        verifyWord limits first second (take (value (subsumesWord limits first second work (length result))) (subsumesResult limits first second work result)) room
+    pub subsumes-refutation-taken : outcome word ≡ outcomeNo →
+        verifyWord limits first second (take (value word) (subsumesResult limits first second work result)) room
         ≡ verifiedWord verified.RefutationTaken
     unfolding verifyWord
     subsumes-refutation-taken h =

@@ -1,5 +1,6 @@
 -- The call that checks evidence: which of its words is given for which inputs and work space, what the work space holds then, and what a word shows.
--- The limits are any, where `Bounded` is asked such as the code can hold. The answers themselves are evidence's (Verifications, Soundness).
+-- The limits are any, where `Bounded` is asked such as the code can hold.
+-- The answers themselves are evidence's (Verifications, Soundness).
 --   verify-short                  1: the work space is shorter than two halves
 --   verify-refuses                2 to 13 of the first picture, then of the second; 14 of the first, then of the second (PairWords)
 --   verify-checked                else 16 to 23 decide the word, and both normal tables stand in the work space
@@ -45,7 +46,8 @@ use Rattle.interface.specs.Word.{outcome, outcomeNo, outcomeYes, refusal
 use Rattle.interface.proofs.PairWords.{concerns-zero, known-zero, refusals}
 
 module _ (limits : Limits) (first second evidence work : List ℕ) where
-  pub verify-short : length work < workSize limits → VerifyGives limits first second evidence work (refused 1 Buffer) work
+  pub verify-short : length work < workSize limits →
+      VerifyGives limits first second evidence work (refused 1 Buffer) work
   unfolding verifyWord
   verify-short h = record {
     word-is = rw (short-verify limits first second evidence (length work) h);
@@ -63,7 +65,8 @@ module _ (limits : Limits) (first second evidence work : List ℕ) where
 
     module _ (pair : Acceptable limits first second) where
       pub verify-checked :
-          VerifyGives limits first second evidence work (verifiedWord (evidenceAnswer limits first second evidence)) (halvesPut limits first second work)
+          VerifyGives limits first second evidence work (verifiedWord (evidenceAnswer limits first second evidence))
+          (halvesPut limits first second work)
       unfolding verifyWord
       verify-checked = record {
         word-is = rw (acceptable-verify limits first second evidence (length work) enough pair);
@@ -90,12 +93,14 @@ module _ (limits : Limits) (bounded : Bounded limits) (first second evidence : L
   refusal-zero r e =
       ⊎-elim (known-zero r) (λ h. concerns-zero r Evidence 16 23 h (omega arith) refl) (verify-refusal limits first second evidence room r e)
 
-  map-word : (v : Verified) → verifyAnswer limits first second evidence room ≡ v → outcome (verifiedWord v) ≡ outcomeYes → v ≡ verified.MapTaken
+  map-word : (v : Verified) → verifyAnswer limits first second evidence room ≡ v →
+      outcome (verifiedWord v) ≡ outcomeYes → v ≡ verified.MapTaken
   map-word verified.MapTaken e h = refl
   map-word verified.RefutationTaken e h = absurd (omega arith)
   map-word (verified.Refused r) e h = absurd (omega (arith, h, refusal-zero r e))
 
-  refutation-word : (v : Verified) → verifyAnswer limits first second evidence room ≡ v → outcome (verifiedWord v) ≡ outcomeNo → v ≡ verified.RefutationTaken
+  refutation-word : (v : Verified) → verifyAnswer limits first second evidence room ≡ v →
+      outcome (verifiedWord v) ≡ outcomeNo → v ≡ verified.RefutationTaken
   refutation-word verified.MapTaken e h = absurd (omega arith)
   refutation-word verified.RefutationTaken e h = refl
   refutation-word (verified.Refused r) e h = absurd (omega (arith, h, refusal-zero r e))
@@ -119,23 +124,29 @@ module _ (limits : Limits) (bounded : Bounded limits) (first second evidence : L
 
   -- and the reverse
   module _ (enough : workSize limits ≤ room) (pair : Acceptable limits first second) where
-    pub map-verify : MapOf limits first second evidence → verifyWord limits first second evidence room ≡ verifiedWord verified.MapTaken
+    pub map-verify : MapOf limits first second evidence →
+        verifyWord limits first second evidence room ≡ verifiedWord verified.MapTaken
     unfolding verifyWord
     map-verify m =
-        ap verifiedWord (acceptable-verify limits first second evidence room enough pair ∙ map-taken limits first second evidence bounded pair .1 m)
+        ap verifiedWord
+        (acceptable-verify limits first second evidence room enough pair ∙ map-taken limits first second evidence bounded pair .1 m)
 
-    pub refutation-verify : RefutationOf limits first second evidence → verifyWord limits first second evidence room ≡ verifiedWord verified.RefutationTaken
+    pub refutation-verify : RefutationOf limits first second evidence →
+        verifyWord limits first second evidence room ≡ verifiedWord verified.RefutationTaken
     unfolding verifyWord
     refutation-verify m =
-        ap verifiedWord (acceptable-verify limits first second evidence room enough pair ∙ refutation-taken limits first second evidence bounded pair .1 m)
+        ap verifiedWord
+        (acceptable-verify limits first second evidence room enough pair ∙ refutation-taken limits first second evidence bounded pair .1 m)
 
   -- a map is taken only if the second covers the first, a refutation only if it does not
-  pub verify-map-subsumed : outcome (verifyWord limits first second evidence room) ≡ outcomeYes → Covers limits second first
+  pub verify-map-subsumed : outcome (verifyWord limits first second evidence room) ≡ outcomeYes →
+      Covers limits second first
   unfolding verifyWord
   verify-map-subsumed h =
       map-covers limits first second evidence room bounded (map-word (verifyAnswer limits first second evidence room) refl h)
 
-  pub verify-refutation-not : outcome (verifyWord limits first second evidence room) ≡ outcomeNo → Covers limits second first → ⊥
+  pub verify-refutation-not : outcome (verifyWord limits first second evidence room) ≡ outcomeNo →
+      Covers limits second first → ⊥
   unfolding verifyWord
   verify-refutation-not h =
       refutation-fails limits first second evidence room bounded (refutation-word (verifyAnswer limits first second evidence room) refl h)

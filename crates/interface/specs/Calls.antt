@@ -1,5 +1,5 @@
--- 01, "The calls": the word that each call gives, from the bytes it is lent, and what each buffer lent for writing holds then, at any limits.
--- The exported contracts have paper 01's limits, `benchLimits`.
+-- 01, "The calls": the word that each call gives, from the bytes it is lent, and what each buffer lent for writing
+-- holds then, at any limits. The exported contracts have paper 01's limits, `benchLimits`.
 --   OneBuffer, TwoBuffers                    the word and what is left in the buffers are those of given definitions
 --   validateWord                             the plain test
 --   normalizeWord, NormalizeGives            the normal table
@@ -38,7 +38,8 @@ pub record TwoBuffers (wordOf : ℕ → ℕ → ℕ) (workOf : List ℕ → ℕ 
 unfoldable pub validateWord : Limits → List ℕ → ℕ
 validateWord limits picture = readWord (answerOf limits First picture)
 
--- Write its normal table and give its length in bytes (buffer 6,147): 1 of the result buffer, so many bytes long; 2 to 13; 14.
+-- Write its normal table and give its length in bytes (buffer 6,147): 1 of the result buffer, so many bytes long;
+-- 2 to 13; 14.
 unfoldable pub normalizeWord : Limits → List ℕ → ℕ → ℕ
 normalizeWord limits picture room = normalizedWord (normalizeAnswer limits picture room)
 
@@ -46,36 +47,43 @@ normalizeWord limits picture room = normalizedWord (normalizeAnswer limits pictu
 abbrev pub NormalizeGives : Limits → List ℕ → List ℕ → ℕ → List ℕ → Type 0
 NormalizeGives limits picture = OneBuffer (normalizeWord limits picture) (normalizeResult limits picture)
 
--- Verdict with evidence, and its length (buffer 46,595): 1 of the work space and of the result buffer, so many bytes long; first; second; 14 of each;
--- yes or no.
+-- Verdict with evidence, and its length (buffer 46,595): 1 of the work space and of the result buffer, so many bytes
+-- long; first; second; 14 of each; yes or no.
 unfoldable pub subsumesWord : Limits → List ℕ → List ℕ → ℕ → ℕ → ℕ
 subsumesWord limits first second work result = verdictWord (subsumesAnswer limits first second work result)
 
--- the work space: once 1 to 14 are answered yes, both normal tables, each in its half, the rest of each half zero; else nothing written
+-- the work space: once 1 to 14 are answered yes, both normal tables, each in its half, the rest of each half zero;
+-- else nothing written
 -- the result buffer: the evidence from its first byte on, or nothing written
 abbrev pub SubsumesGives : Limits → List ℕ → List ℕ → List ℕ → List ℕ → ℕ → List ℕ → List ℕ → Type 0
 SubsumesGives limits first second =
     TwoBuffers (subsumesWord limits first second) (subsumesWork limits first second) (subsumesResult limits first second)
 
--- Common picture and its length (buffer 6,147): 1 of the work space and of the result buffer, so many bytes long; first; second; 14 of each; 15.
+-- Common picture and its length (buffer 6,147): 1 of the work space and of the result buffer, so many bytes long;
+-- first; second; 14 of each; 15.
 unfoldable pub lcsWord : Limits → List ℕ → List ℕ → ℕ → ℕ → ℕ
 lcsWord limits first second work result = commonWord (lcsAnswer limits first second work result)
 
--- the work space: once 1 to 14 are answered yes, whatever 15 answers, both normal tables, each in its half, the rest of each half zero; else nothing
--- written
+-- the work space: once 1 to 14 are answered yes, whatever 15 answers, both normal tables, each in its half, the rest
+-- of each half zero; else nothing written
 -- the result buffer: the common picture from its first byte on, or nothing written
 abbrev pub LcsGives : Limits → List ℕ → List ℕ → List ℕ → List ℕ → ℕ → List ℕ → List ℕ → Type 0
-LcsGives limits first second = TwoBuffers (lcsWord limits first second) (lcsWork limits first second) (lcsResult limits first second)
+LcsGives limits first second =
+    TwoBuffers (lcsWord limits first second) (lcsWork limits first second) (lcsResult limits first second)
 
--- Check evidence: map taken or refutation taken: 1 of the work space, so many bytes long; first; second; 14 of each; 16 to 23.
+-- Check evidence: map taken or refutation taken: 1 of the work space, so many bytes long; first; second; 14 of each;
+-- 16 to 23.
 unfoldable pub verifyWord : Limits → List ℕ → List ℕ → List ℕ → ℕ → ℕ
 verifyWord limits first second evidence room = verifiedWord (verifyAnswer limits first second evidence room)
 
--- the work space: the first normal table from byte 0, the second from byte 6,147, the rest of each half zero; nothing written by 1 to 14
+-- the work space: the first normal table from byte 0, the second from byte 6,147, the rest of each half zero;
+-- nothing written by 1 to 14
 abbrev pub VerifyGives : Limits → List ℕ → List ℕ → List ℕ → List ℕ → ℕ → List ℕ → Type 0
-VerifyGives limits first second evidence = OneBuffer (verifyWord limits first second evidence) (verifyWork limits first second)
+VerifyGives limits first second evidence =
+    OneBuffer (verifyWord limits first second evidence) (verifyWork limits first second)
 
--- Nearest cards for a case, as a 32-bit word, bit n for card n: 1 of the work space, so many bytes long; case; 24 and the cards in turn; 14 of each.
+-- Nearest cards for a case, as a 32-bit word, bit n for card n: 1 of the work space, so many bytes long; case; 24 and
+-- the cards in turn; 14 of each.
 unfoldable pub mostSpecificWord : Limits → List ℕ → List ℕ → ℕ → ℕ
 mostSpecificWord limits case book room = selectedWord (mostSpecificAnswer limits case book room)
 

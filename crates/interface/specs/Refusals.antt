@@ -14,7 +14,9 @@ use Rattle.interface.specs.Word.{refused}
 
 pub record Refusals (limits : Limits) (first second : List ℕ) (P : ℕ → Type 0) : Type 0 where
   pub first-unreadable : (q : ℕ) → readingOf limits first ≡ reading.Failed q → P (refused q First)
-  pub second-unreadable : Readable limits first → (q : ℕ) → readingOf limits second ≡ reading.Failed q → P (refused q Second)
-  pub first-many : Readable limits first → Readable limits second → limits .rows < mergedCount limits first → P (refused 14 First)
+  pub second-unreadable : Readable limits first →
+      (q : ℕ) → readingOf limits second ≡ reading.Failed q → P (refused q Second)
+  pub first-many : Readable limits first → Readable limits second →
+      limits .rows < mergedCount limits first → P (refused 14 First)
   pub second-many : Readable limits first → Readable limits second →
       mergedCount limits first ≤ limits .rows → limits .rows < mergedCount limits second → P (refused 14 Second)

@@ -127,10 +127,12 @@ module _ (limits : Limits) where
 
   abbrev pub TakesEvidence : List ℕ → List ℕ → ℕ → List ℕ → Type 0
   TakesEvidence first second outcome evidence =
-      (work : List ℕ) → workSize limits ≤ length work → verifyWord limits first second evidence (length work) ≡ valueWord outcome 0
+      (work : List ℕ) → workSize limits ≤ length work →
+      verifyWord limits first second evidence (length work) ≡ valueWord outcome 0
 
   -- normal: the row counts, and the normal table
-  -- subsumes, subsumesNot: the verdict is yes, or no, with this evidence, which the check takes, and it is so by the meaning of the two pictures
+  -- subsumes, subsumesNot: the verdict is yes, or no, with this evidence, which the check takes, and it is so by the
+  -- meaning of the two pictures
   -- common: the row count, and the common picture, which by its meaning covers both
   -- subsumesAll: the row count; by its meaning so of every readable picture, by the calls of each that passes 14
   abbrev pub Holds : Case → Type 0
@@ -150,7 +152,8 @@ module _ (limits : Limits) where
       HasRows second rows
       × ((first : List ℕ) → Readable limits first →
       Covers limits second first
-      × (mergedCount limits first ≤ limits .rows → WritesEvidence first second outcomeYes map × TakesEvidence first second outcomeYes map))
+      × (mergedCount limits first ≤ limits .rows →
+      WritesEvidence first second outcomeYes map × TakesEvidence first second outcomeYes map))
 
   abbrev pub AllHold : List Case → Type 0
   AllHold [] = Unit {0}

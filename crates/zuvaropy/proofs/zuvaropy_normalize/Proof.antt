@@ -3,8 +3,6 @@ use mathlib.Core.Path.{_∙_, sym}
 use native.Mathlib.Omega.{arith}
 use denote.Ref.{now}
 use lib.ListN.{length}
-use Prim.Native.Nat.{_≤_}
-use Rattle.table.specs.Bounds.{pictureSize}
 use Rattle.normal.proofs.Answers.{answer-size}
 use Rattle.interface.specs.Calls.{normalizeWord}
 use borrow.Author.Needs.{needs}
