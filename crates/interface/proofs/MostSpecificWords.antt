@@ -30,6 +30,7 @@ use Rattle.book.specs.Form.{cardCount}
 use Rattle.book.specs.Selection.{MostSpecific, mostSpecificCards}
 use Rattle.book.specs.declared.answer.Selected.{Selected}
 use Rattle.book.specs.declared.answer.Selected.the-variants.{Cards, Refused}
+use Rattle.picture.specs.Refusal.{shortBuffer}
 use Rattle.picture.specs.declared.answer.Input.the-variants.{Buffer}
 use Rattle.picture.specs.declared.answer.Refusal.{Refusal}
 use Rattle.table.specs.NameSet.{has}
@@ -48,7 +49,7 @@ module _ (limits : Limits) (case book work : List ℕ) where
 
   pub most-specific-short : length work < workSize limits →
       MostSpecificGives limits case book work (refused 1 Buffer) work
-  most-specific-short short = refusing (record { number = 1; input = Buffer }) (short-answer limits case book (length work) short)
+  most-specific-short short = refusing shortBuffer (short-answer limits case book (length work) short)
 
   module _ (enough : workSize limits ≤ length work) where
     pub most-specific-refuses : (r : Refusal) → FirstNo limits case book r →

@@ -8,6 +8,7 @@ use mathlib.Core.List.{List}
 use mathlib.Core.Logic.{inl, inr}
 use mathlib.Core.Path.{_≡_, refl}
 use Rattle.table.specs.declared.layout.Limits.{Limits}
+use Rattle.picture.specs.Refusal.{refusal, tooMany}
 use Rattle.picture.specs.declared.answer.Input.{Input}
 use Rattle.picture.specs.declared.answer.Input.the-variants.{Buffer, First, Second}
 use Rattle.picture.specs.declared.answer.Refusal.{Refusal}
@@ -24,10 +25,10 @@ module _ (limits : Limits) (first second : List ℕ) (P : ℕ → Type 0) where
       Refusals limits first second P
   refusals h =
       record {
-        first-unreadable = λ q e. h (record { number = q; input = First }) (prepare-first limits first second q e);
-        second-unreadable = λ r q e. h (record { number = q; input = Second }) (prepare-second limits first second r q e);
-        first-many = λ r t l. h (record { number = 14; input = First }) (prepare-many-first limits first second r t l);
-        second-many = λ r t few l. h (record { number = 14; input = Second }) (prepare-many-second limits first second r t few l);
+        first-unreadable = λ q e. h (refusal q First) (prepare-first limits first second q e);
+        second-unreadable = λ r q e. h (refusal q Second) (prepare-second limits first second r q e);
+        first-many = λ r t l. h (tooMany First) (prepare-many-first limits first second r t l);
+        second-many = λ r t few l. h (tooMany Second) (prepare-many-second limits first second r t few l);
       }
 
 -- an input that is no card, by a number that fits its byte

@@ -10,6 +10,7 @@
 --   outcome, question, input, card, value   the parts of a word
 --   readWord, normalizedWord, verdictWord, commonWord, verifiedWord, selectedWord   the word of each call's answer
 use Prim.Native.Nat.{ℕ, _%_, _*_, _+_, _/_, _^_}
+use Rattle.picture.specs.Refusal.{refusal}
 use Rattle.picture.specs.declared.answer.Input.{Input}
 use Rattle.picture.specs.declared.answer.Input.the-variants.{Buffer, First, Second, Evidence, Book, Card}
 use Rattle.picture.specs.declared.answer.Refusal.{Refusal}
@@ -73,7 +74,7 @@ abbrev pub refusalWord : Refusal → ℕ
 refusalWord r = r .number * questionWeight + inputCode (r .input) * inputWeight + cardOf (r .input) * cardWeight
 
 abbrev pub refused : ℕ → Input → ℕ
-refused number input = refusalWord (record { number = number; input = input })
+refused number input = refusalWord (refusal number input)
 
 abbrev pub outcome : ℕ → ℕ
 outcome w = w / outcomeWeight
