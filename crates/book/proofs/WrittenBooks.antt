@@ -16,7 +16,7 @@ use native.Mathlib.Omega.{arith}
 use Rattle.table.proofs.Numbers.{be-append-right, be-inside, be-two, length-beBytes}
 use Rattle.table.proofs.Rows.{ends-parts, parts-ends}
 use Rattle.table.specs.Fields.{endBytes, endsAt}
-use Rattle.table.specs.Layout.{headSize, lengthAt, numberSize}
+use Rattle.table.specs.Layout.{headSize, lengthOffset, numberSize}
 use Rattle.table.specs.Number.{Bytes, be, beBytes}
 use Rattle.book.specs.Form.{Short, bookBytes, bookForm, card, cardAt, cardCount, cardTag, cardsAfter, cardsOf, fieldPlace, lengthSaid, mostCards, mostLength, nextPlace}
 use Rattle.book.proofs.Forms.{BookOf, after-card, card-tag, card-whole, cards-before, count-form, count-most, form-count, length-card}
@@ -44,7 +44,7 @@ module _ (p c rest : List ℕ) (short : length c ≤ mostLength) where
 
   field-said : lengthSaid whole (length p) ≡ length c
   field-said =
-      be-append-right p (cardTag ∷ (beBytes numberSize (length c) ++ (c ++ rest))) lengthAt numberSize
+      be-append-right p (cardTag ∷ (beBytes numberSize (length c) ++ (c ++ rest))) lengthOffset numberSize
       ∙ be-inside (cardTag ∷ []) (c ++ rest) numberSize (length c) (omega arith)
 
   field-next : nextPlace whole (length p) ≡ length ((p ++ head) ++ c)

@@ -17,7 +17,7 @@ use lib.ListN.{drop, getD, length, take}
 use mathlib.Core.Bool.{Bool, _&&_}
 use mathlib.Core.List.{List, [], _++_, _∷_}
 use Rattle.table.specs.Fields.{endBytes, endsAt}
-use Rattle.table.specs.Layout.{headSize, lengthAt, numberSize}
+use Rattle.table.specs.Layout.{headSize, lengthOffset, numberSize}
 use Rattle.table.specs.Number.{be, beBytes}
 use Rattle.table.specs.Pick.{pick}
 
@@ -42,7 +42,7 @@ bookBytes (c ∷ cards) = cardTag ∷ (beBytes numberSize (length c) ++ (c ++ bo
 -- ---- as it is read (proofs/WrittenBooks: `form-exactly`, `book-written`)
 
 abbrev pub lengthSaid : List ℕ → ℕ → ℕ
-lengthSaid book at = be book (at + lengthAt) numberSize
+lengthSaid book at = be book (at + lengthOffset) numberSize
 
 abbrev pub nextPlace : List ℕ → ℕ → ℕ
 nextPlace book at = at + headSize + lengthSaid book at

@@ -15,7 +15,7 @@ use mathlib.Core.Path.{_≡_, refl, subst}
 use Rattle.table.proofs.Bools.{both, by-test}
 use Rattle.table.proofs.Ranges.{at-each, each-at}
 use Rattle.table.proofs.Rows.{ends-parts, parts-ends}
-use Rattle.table.specs.Layout.{lengthAt, numberSize, roles}
+use Rattle.table.specs.Layout.{lengthOffset, numberSize, roles}
 use Rattle.table.specs.Number.{be}
 use Rattle.table.specs.declared.layout.Limits.{Limits}
 use Rattle.countermodel.specs.Individual.{individualHead, individualNames, individualOk, individualParent, individualRole, refutationForm}
@@ -35,16 +35,16 @@ head-is : (e : List ℕ) (k : ℕ) → individualHead e k ≡ true → (getD e (
 unfolding individualHead
 head-is e k h =
     let tagged = eqb (getD e (individualPlace k 0) 0) individualTag in
-    let long = eqb (be e (individualPlace k lengthAt) numberSize) individualLength in
+    let long = eqb (be e (individualPlace k lengthOffset) numberSize) individualLength in
     let (a, b) = both tagged long h in
     let z : 14 * k + 0 ≡ 14 * k = omega arith in
-    (subst (λ at. getD e at 0 ≡ 0x42) z (eqb-true (getD e (individualPlace k 0) 0) individualTag a), eqb-true (be e (individualPlace k lengthAt) numberSize) individualLength b)
+    (subst (λ at. getD e at 0 ≡ 0x42) z (eqb-true (getD e (individualPlace k 0) 0) individualTag a), eqb-true (be e (individualPlace k lengthOffset) numberSize) individualLength b)
 
 is-head : (e : List ℕ) (k : ℕ) → getD e (14 * k) 0 ≡ 0x42 → be e (14 * k + 1) 2 ≡ 11 → individualHead e k ≡ true
 unfolding individualHead
 is-head e k a b =
     let z : 14 * k ≡ 14 * k + 0 = omega arith in
-    rw (eq-eqb (getD e (individualPlace k 0) 0) individualTag (subst (λ at. getD e at 0 ≡ 0x42) z a), eq-eqb (be e (individualPlace k lengthAt) numberSize) individualLength b)
+    rw (eq-eqb (getD e (individualPlace k 0) 0) individualTag (subst (λ at. getD e at 0 ≡ 0x42) z a), eq-eqb (be e (individualPlace k lengthOffset) numberSize) individualLength b)
 
 module _ (limits : Limits) (e : List ℕ) where
   pub refutation-file : refutationForm limits e ≡ true → RefutationFile limits e (individualCount e)

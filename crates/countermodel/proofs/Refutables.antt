@@ -35,11 +35,11 @@ use Rattle.table.proofs.Ranges.{at-each}
 use Rattle.table.proofs.Rows.{length-endBytes}
 use Rattle.table.specs.Fields.{endBytes}
 use Rattle.table.specs.declared.layout.Limits.{Limits}
-use Rattle.table.specs.Layout.{endSize, lengthAt, nameBytes, numberSize}
+use Rattle.table.specs.Layout.{endSize, lengthOffset, nameBytes, numberSize}
 use Rattle.table.specs.Number.{be, beBytes}
 use Rattle.table.specs.Range.{each}
 use Rattle.countermodel.specs.Individual.{individualNames, individualOk, individualParent, individualRole, individualTable, individuals, refutationForm}
-use Rattle.countermodel.specs.Layout.{individualCount, individualLength, individualPlace, individualSize, individualTag, individualsWithin, namesAt, parentAt, roleAt}
+use Rattle.countermodel.specs.Layout.{individualCount, individualLength, individualPlace, individualSize, individualTag, individualsWithin, namesOffset, parentOffset, roleOffset}
 use Rattle.countermodel.specs.Writing.{individualBytes, individualsOf, refutationFile}
 use Rattle.countermodel.proofs.Files.{file-refutation, question-21}
 use Rattle.countermodel.proofs.Writings.{length-individual, length-individuals}
@@ -93,23 +93,23 @@ module _ (b : Tree pictureSignature) where
     unfolding individualBytes
     written-tag = byte 0 (omega arith)
 
-    pub written-length : be (refutationFile b) (individualPlace k lengthAt) numberSize ≡ individualLength
+    pub written-length : be (refutationFile b) (individualPlace k lengthOffset) numberSize ≡ individualLength
     unfolding individualBytes beBytes be
-    written-length = number lengthAt numberSize (omega arith)
+    written-length = number lengthOffset numberSize (omega arith)
 
     pub written-parent : (rowIn ws k) .parent < 256 ^ numberSize → individualParent (refutationFile b) k ≡ (rowIn ws k) .parent
     unfolding individualBytes beBytes
-    written-parent f = number parentAt numberSize (omega arith) ∙ be-inside (take parentAt (bytesOf (rowIn ws k))) _ numberSize ((rowIn ws k) .parent) f
+    written-parent f = number parentOffset numberSize (omega arith) ∙ be-inside (take parentOffset (bytesOf (rowIn ws k))) _ numberSize ((rowIn ws k) .parent) f
 
     pub written-role : individualRole (refutationFile b) k ≡ (rowIn ws k) .role
     unfolding individualBytes beBytes
-    written-role = byte roleAt (omega arith)
+    written-role = byte roleOffset (omega arith)
 
     pub written-names : individualNames (refutationFile b) k ≡ (rowIn ws k) .label .wanted .set
     unfolding individualBytes beBytes
     written-names =
-        number namesAt nameBytes (omega arith)
-        ∙ be-inside (take namesAt (bytesOf (rowIn ws k))) [] nameBytes ((rowIn ws k) .label .wanted .set) (below ((rowIn ws k) .label .wanted))
+        number namesOffset nameBytes (omega arith)
+        ∙ be-inside (take namesOffset (bytesOf (rowIn ws k))) [] nameBytes ((rowIn ws k) .label .wanted .set) (below ((rowIn ws k) .label .wanted))
 
   -- the end field stands after the last individual
   end-byte : (i : ℕ) → getD e (individualPlace (length ws) i) 0 ≡ getD endBytes i 0

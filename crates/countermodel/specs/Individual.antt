@@ -15,7 +15,7 @@ use mathlib.Core.Bool.{Bool, _&&_, false, true}
 use mathlib.Core.List.{List}
 use mathlib.Core.Path.{_≡_}
 use Rattle.table.specs.Fields.{endsAt}
-use Rattle.table.specs.Layout.{lengthAt, nameBytes, numberSize, roles}
+use Rattle.table.specs.Layout.{lengthOffset, nameBytes, numberSize, roles}
 use Rattle.table.specs.Links.{Linked}
 use Rattle.table.specs.Number.{be}
 use Rattle.table.specs.Pick.{pick}
@@ -27,19 +27,19 @@ use Rattle.ale.specs.PictureSignature.{pictureSignature}
 use Rattle.ale.specs.Table.{Table}
 use Rattle.ale.specs.Tree.{exists}
 use Rattle.meaning.specs.Meaning.{setAt}
-use Rattle.countermodel.specs.Layout.{individualCount, individualLength, individualPlace, individualSize, individualTag, individualsWithin, mostIndividuals, namesAt, parentAt, roleAt}
+use Rattle.countermodel.specs.Layout.{individualCount, individualLength, individualPlace, individualSize, individualTag, individualsWithin, mostIndividuals, namesOffset, parentOffset, roleOffset}
 
 abbrev pub individualParent : List ℕ → ℕ → ℕ
-individualParent e k = be e (individualPlace k parentAt) numberSize
+individualParent e k = be e (individualPlace k parentOffset) numberSize
 
 abbrev pub individualRole : List ℕ → ℕ → ℕ
-individualRole e k = getD e (individualPlace k roleAt) 0
+individualRole e k = getD e (individualPlace k roleOffset) 0
 
 abbrev pub individualNames : List ℕ → ℕ → ℕ
-individualNames e k = be e (individualPlace k namesAt) nameBytes
+individualNames e k = be e (individualPlace k namesOffset) nameBytes
 
 unfoldable pub individualHead : List ℕ → ℕ → Bool
-individualHead e k = eqb (getD e (individualPlace k 0) 0) individualTag && eqb (be e (individualPlace k lengthAt) numberSize) individualLength
+individualHead e k = eqb (getD e (individualPlace k 0) 0) individualTag && eqb (be e (individualPlace k lengthOffset) numberSize) individualLength
 
 unfoldable pub refutationForm : Limits → List ℕ → Bool
 refutationForm limits e =

@@ -12,7 +12,7 @@ use mathlib.Core.Path.{_≡_, refl}
 use Rattle.table.proofs.Bools.{both}
 use Rattle.table.proofs.Rows.{ends-parts, parts-ends}
 use Rattle.table.specs.Fields.{endsAt}
-use Rattle.table.specs.Layout.{lengthAt, numberSize}
+use Rattle.table.specs.Layout.{lengthOffset, numberSize}
 use Rattle.table.specs.Number.{be}
 use Rattle.homomorphism.specs.Layout.{imageOf, imagePlace, mapTag}
 use Rattle.evidence.specs.Form.{mapForm}
@@ -29,13 +29,13 @@ module _ (rows : ℕ) (e : List ℕ) where
   unfolding mapForm
   map-file h =
       let tagged = eqb (getD e 0 0) mapTag in
-      let long = eqb (be e lengthAt numberSize) (numberSize * rows) in
+      let long = eqb (be e lengthOffset numberSize) (numberSize * rows) in
       let (ends, r) = both (endsAt e (imagePlace rows)) (tagged && long) h in
       let (a, b) = both tagged long r in
       let (size, tag, none) = ends-parts e (imagePlace rows) ends in
       record {
         tag = eqb-true (getD e 0 0) mapTag a;
-        says = eqb-true (be e lengthAt numberSize) (numberSize * rows) b;
+        says = eqb-true (be e lengthOffset numberSize) (numberSize * rows) b;
         size = size;
         end-tag = tag;
         end-length = none;
@@ -44,7 +44,7 @@ module _ (rows : ℕ) (e : List ℕ) where
   pub file-map : MapFile rows e → mapForm rows e ≡ true
   unfolding mapForm
   file-map f =
-      rw (parts-ends e (imagePlace rows) (f .size) (f .end-tag) (f .end-length), eq-eqb (getD e 0 0) mapTag (f .tag), eq-eqb (be e lengthAt numberSize) (numberSize * rows) (f .says))
+      rw (parts-ends e (imagePlace rows) (f .size) (f .end-tag) (f .end-length), eq-eqb (getD e 0 0) mapTag (f .tag), eq-eqb (be e lengthOffset numberSize) (numberSize * rows) (f .says))
 
   pub image-at : (i : ℕ) → imageOf e i ≡ be e (3 + 2 * i) 2
   image-at i = refl

@@ -19,7 +19,7 @@ use Rattle.table.proofs.Bools.{both}
 use Rattle.table.proofs.Ranges.{each-at}
 use Rattle.table.specs.Bounds.{Bounded}
 use Rattle.table.specs.Fields.{endsAt}
-use Rattle.table.specs.Layout.{lengthAt, numberSize}
+use Rattle.table.specs.Layout.{lengthOffset, numberSize}
 use Rattle.table.specs.Number.{be}
 use Rattle.table.specs.Pick.{pick}
 use Rattle.table.specs.declared.layout.Limits.{Limits}
@@ -64,14 +64,14 @@ unfolding individualHead
 refutation-tag limits e h =
     let (some, few, ends, heads) = form-asks limits e h in
     eqb-true (getD e 0 0) individualTag
-    (both (eqb (getD e (individualPlace 0 0) 0) individualTag) (eqb (be e (individualPlace 0 lengthAt) numberSize) individualLength)
+    (both (eqb (getD e (individualPlace 0 0) 0) individualTag) (eqb (be e (individualPlace 0 lengthOffset) numberSize) individualLength)
     (each-at (individualHead e) (individualCount e) 0 heads 0 (omega arith) (omega arith)) .0)
 
 map-tag : (rows : ℕ) (e : List ℕ) → mapForm rows e ≡ true → getD e 0 0 ≡ mapTag
 unfolding mapForm
 map-tag rows e h =
     let tagged = eqb (getD e 0 0) mapTag in
-    let long = eqb (be e lengthAt numberSize) (numberSize * rows) in
+    let long = eqb (be e lengthOffset numberSize) (numberSize * rows) in
     eqb-true (getD e 0 0) mapTag (both tagged long (both (endsAt e (imagePlace rows)) (tagged && long) h .1) .0)
 
 pub forms-apart : (limits : Limits) (rows : ℕ) (e : List ℕ) → mapForm rows e ≡ true → refutationForm limits e ≡ true → ⊥

@@ -7,7 +7,7 @@ use lib.ListN.{getD}
 use mathlib.Core.Bool.{Bool, _&&_}
 use mathlib.Core.List.{List}
 use Rattle.table.specs.Fields.{endsAt}
-use Rattle.table.specs.Layout.{lengthAt, numberSize}
+use Rattle.table.specs.Layout.{lengthOffset, numberSize}
 use Rattle.table.specs.Number.{be}
 use Rattle.table.specs.Pick.{pick}
 use Rattle.table.specs.declared.layout.Limits.{Limits}
@@ -17,7 +17,7 @@ use Rattle.evidence.specs.declared.form.Form.{Form}
 use Rattle.evidence.specs.declared.form.Form.the-variants.{Map, Neither, Refutation}
 
 unfoldable pub mapForm : ℕ → List ℕ → Bool
-mapForm rows e = endsAt e (imagePlace rows) && (eqb (getD e 0 0) mapTag && eqb (be e lengthAt numberSize) (numberSize * rows))
+mapForm rows e = endsAt e (imagePlace rows) && (eqb (getD e 0 0) mapTag && eqb (be e lengthOffset numberSize) (numberSize * rows))
 
 unfoldable pub formOf : Limits → ℕ → List ℕ → Form
 formOf limits rows e = pick (mapForm rows e) Map (pick (refutationForm limits e) Refutation Neither)

@@ -19,7 +19,7 @@ use Rattle.table.proofs.Puts.{put-in, put-nil, put-put, put-three}
 use Rattle.table.proofs.Rows.{length-endBytes, parts-ends}
 use Rattle.table.specs.Bounds.{maxRows}
 use Rattle.table.specs.Fields.{endBytes, endsAt}
-use Rattle.table.specs.Layout.{endSize, headSize, lengthAt, numberSize}
+use Rattle.table.specs.Layout.{endSize, headSize, lengthOffset, numberSize}
 use Rattle.table.specs.Number.{be, beBytes}
 use Rattle.table.specs.Put.{put}
 use Rattle.homomorphism.specs.Layout.{imageOf, imagePlace, mapTag}
@@ -98,7 +98,7 @@ module _ (rows : ℕ) (im : ℕ → ℕ) where
   unfolding mapFile
   mapFile-tag = refl
 
-  pub mapFile-says : rows ≤ maxRows → be (mapFile rows im) lengthAt numberSize ≡ numberSize * rows
+  pub mapFile-says : rows ≤ maxRows → be (mapFile rows im) lengthOffset numberSize ≡ numberSize * rows
   unfolding mapFile
   mapFile-says h = be-inside (mapTag ∷ []) (imageBytes im rows ++ endBytes) numberSize (numberSize * rows) (omega arith)
 
@@ -126,8 +126,8 @@ module _ (rows : ℕ) (im : ℕ → ℕ) where
   mapFile-ends =
       parts-ends (mapFile rows im) (imagePlace rows) length-mapFile
       (ap (λ (j : ℕ). getD (mapFile rows im) j 0) (sym (add-zero (imagePlace rows))) ∙ end-byte 0)
-      (be-same (mapFile rows im) endBytes (imagePlace rows + lengthAt) lengthAt numberSize
-      (λ i l. ap (λ (j : ℕ). getD (mapFile rows im) j 0) (add-assoc (imagePlace rows) lengthAt i) ∙ end-byte (lengthAt + i)))
+      (be-same (mapFile rows im) endBytes (imagePlace rows + lengthOffset) lengthOffset numberSize
+      (λ i l. ap (λ (j : ℕ). getD (mapFile rows im) j 0) (add-assoc (imagePlace rows) lengthOffset i) ∙ end-byte (lengthOffset + i)))
 
   pub map-put : (out l₁ l₂ l₃ : List ℕ) (end : ℕ) → imagePlace rows + endSize ≤ length out → end ≡ imagePlace rows →
       l₁ ≡ put out 0 (mapTag ∷ numberSize * rows / 256 % 256 ∷ numberSize * rows % 256 ∷ []) → l₂ ≡ put l₁ (imagePlace 0) (imageBytes im rows) →

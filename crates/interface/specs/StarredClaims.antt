@@ -1,12 +1,12 @@
 -- 01, "Cases": what the starred cases are written in, pictures and evidence as bytes, and what each says of the calls. The cases are in Starred.
 --   r, s                          roles 8 and 9
 --   names                         a set of names by their numbers
---   root, someRow, allRow         a row with wanted names; of a successor, first its parent's row number and its role
+--   rootRow, someRow, allRow      a row with wanted names; of a successor, first its parent's row number and its role
 --   contradictoryRoot             a root with names both wanted and excluded
 --   impossibleRoot,
 --   impossibleAllRow              rows with the impossible mark
 --   picture                       rows, and the end field
---   mapFile, individual           a map by its images; an individual by its parent, its role and the names that hold
+--   mapBytes, individualBytes     a map by its images; an individual by its parent, its role and the names that hold
 --   refutation                    individuals, and the end field
 --   Case                          normal: a picture of so many rows, and its normal table of so many
 --                                 subsumes: the second covers the first, with our map; subsumesNot: it does not, with our refutation (01 leaves which
@@ -54,8 +54,8 @@ abbrev pub names : List ℕ → ℕ
 names [] = 0
 names (n ∷ ns) = 2 ^ n + names ns
 
-abbrev pub root : List ℕ → List ℕ
-root wanted = rowOf 0 kindRoot 0 0 (names wanted) 0
+abbrev pub rootRow : List ℕ → List ℕ
+rootRow wanted = rowOf 0 kindRoot 0 0 (names wanted) 0
 
 abbrev pub someRow : ℕ → ℕ → List ℕ → List ℕ
 someRow parent role wanted = rowOf parent kindExists role 0 (names wanted) 0
@@ -82,11 +82,11 @@ abbrev pub images : List ℕ → List ℕ
 images [] = endBytes
 images (v ∷ vs) = beBytes numberSize v ++ images vs
 
-abbrev pub mapFile : List ℕ → List ℕ
-mapFile im = (mapTag ∷ []) ++ beBytes numberSize (numberSize * length im) ++ images im
+abbrev pub mapBytes : List ℕ → List ℕ
+mapBytes im = (mapTag ∷ []) ++ beBytes numberSize (numberSize * length im) ++ images im
 
-abbrev pub individual : ℕ → ℕ → List ℕ → List ℕ
-individual parent role held =
+abbrev pub individualBytes : ℕ → ℕ → List ℕ → List ℕ
+individualBytes parent role held =
     (individualTag ∷ []) ++ beBytes numberSize individualLength ++ beBytes numberSize parent ++ (role ∷ []) ++ beBytes nameBytes (names held)
 
 abbrev pub refutation : List (List ℕ) → List ℕ

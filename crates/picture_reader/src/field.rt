@@ -17,9 +17,9 @@ use table::layout::place;
 use table::number::wide;
 use table_rows::row::impossible;
 use table_rows::row::kind;
-use table_rows::row::length;
 use table_rows::row::parent;
 use table_rows::row::role;
+use table_rows::row::said_length;
 use table_rows::row::tag;
 ghost use mathlib.Core.Path.{_≡_};
 ghost use mathlib.Core.Bool.{true};
@@ -173,7 +173,7 @@ pub fn field_at(s: &[u8], n: usize, limits: Limits, depths: &[u8; MAX_ROWS]) -> 
     if !tag_ok(tag) {
         return Field::Bad(3);
     }
-    if length(s, n) != length_for(tag) {
+    if said_length(s, n) != length_for(tag) {
         return Field::Bad(4);
     }
     match tag {

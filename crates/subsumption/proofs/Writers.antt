@@ -57,7 +57,7 @@ use Rattle.meaning.specs.Meaning.{pictureTable, pictureTree}
 use Rattle.meaning.specs.NormalTable.{mergedCount, normalFile, normalTreeOf}
 use Rattle.table.proofs.Bools.{by-test, false-is, true-is}
 use Rattle.table.specs.Bounds.{Bounded}
-use Rattle.table.specs.Layout.{lengthAt, numberSize}
+use Rattle.table.specs.Layout.{lengthOffset, numberSize}
 use Rattle.table.specs.Number.{Bytes, be}
 use Rattle.table.specs.declared.layout.Limits.{Limits}
 use Rattle.evidence.specs.declared.check.Verified.the-variants.{MapTaken, RefutationTaken}
@@ -124,7 +124,7 @@ module _ (limits : Limits) (first second : List ℕ) (bounded : Bounded limits) 
             rw (
               mapFile-ends (q .rows) im,
               eq-eqb (getD (mapFile (q .rows) im) 0 0) mapTag (mapFile-tag (q .rows) im),
-              eq-eqb (be (mapFile (q .rows) im) lengthAt numberSize) (numberSize * q .rows) (mapFile-says (q .rows) im (omega (arith, bounded .0))),
+              eq-eqb (be (mapFile (q .rows) im) lengthOffset numberSize) (numberSize * q .rows) (mapFile-says (q .rows) im (omega (arith, bounded .0))),
             );
         maps =
             homomorphism-agrees pictureSignature p q im (imageOf (mapFile (q .rows) im)) (parents second (pair .second-few))

@@ -26,7 +26,7 @@ use borrow.Author.Tests.{eq-eqb, eqb-true}
 use lib.Dec.{eqb}
 use lib.ListN.{length, take, getD, List·getD-append}
 use lib.Seq.{getD-append-add}
-use Rattle.table.specs.Layout.{numberSize, lengthAt, «place», rowTag, endTag, endLength, endSize, headSize, nameBytes, nameCount, parentAt, kindAt, roleAt, impossibleAt, wantedAt, excludedAt, rowLength, rowSize}
+use Rattle.table.specs.Layout.{numberSize, lengthOffset, «place», rowTag, endTag, endLength, endSize, headSize, nameBytes, nameCount, parentOffset, kindOffset, roleOffset, impossibleOffset, wantedOffset, excludedOffset, rowLength, rowSize}
 use Rattle.table.specs.Number.{be, beBytes}
 use Rattle.table.specs.NameSet.{setOf}
 use Rattle.table.specs.Put.{put}
@@ -49,26 +49,26 @@ module _ {k : ℕ} {s : List ℕ} {m : ℕ} {t : List ℕ} {n : ℕ} (e : Same k
   tag-same h = e .byte 0 (omega arith)
 
   pub length-same : headSize ≤ k → lengthOf s m ≡ lengthOf t n
-  length-same h = number-same lengthAt numberSize h
+  length-same h = number-same lengthOffset numberSize h
 
 module _ {s : List ℕ} {m : ℕ} {t : List ℕ} {n : ℕ} (e : Same rowSize s m t n) where
   pub parent-same : parentOf s m ≡ parentOf t n
-  parent-same = number-same e parentAt numberSize (omega arith)
+  parent-same = number-same e parentOffset numberSize (omega arith)
 
   pub kind-same : kindOf s m ≡ kindOf t n
-  kind-same = e .byte kindAt (omega arith)
+  kind-same = e .byte kindOffset (omega arith)
 
   pub role-same : roleOf s m ≡ roleOf t n
-  role-same = e .byte roleAt (omega arith)
+  role-same = e .byte roleOffset (omega arith)
 
   pub impossible-same : impossibleOf s m ≡ impossibleOf t n
-  impossible-same = e .byte impossibleAt (omega arith)
+  impossible-same = e .byte impossibleOffset (omega arith)
 
   pub wanted-same : wantedOf s m ≡ wantedOf t n
-  wanted-same = number-same e wantedAt nameBytes (omega arith)
+  wanted-same = number-same e wantedOffset nameBytes (omega arith)
 
   pub excluded-same : excludedOf s m ≡ excludedOf t n
-  excluded-same = number-same e excludedAt nameBytes (omega arith)
+  excluded-same = number-same e excludedOffset nameBytes (omega arith)
 
 -- a list of two parts
 pub same-first : (k : ℕ) (s t : List ℕ) → k ≤ length s → Same k (s ++ t) 0 s 0
@@ -114,7 +114,7 @@ module _ {s : List ℕ} {n parent kind role impossible wanted excluded : ℕ} (e
 
   pub held-parent : parent < 256 ^ numberSize → parentOf s n ≡ parent
   unfolding rowOf beBytes
-  held-parent f = parent-same (e .same) ∙ be-inside (take parentAt (rowOf parent kind role impossible wanted excluded)) _ numberSize parent f
+  held-parent f = parent-same (e .same) ∙ be-inside (take parentOffset (rowOf parent kind role impossible wanted excluded)) _ numberSize parent f
 
   pub held-kind : kindOf s n ≡ kind
   unfolding rowOf beBytes
@@ -130,11 +130,11 @@ module _ {s : List ℕ} {n parent kind role impossible wanted excluded : ℕ} (e
 
   pub held-wanted : wanted < 2 ^ nameCount → wantedOf s n ≡ wanted
   unfolding rowOf beBytes
-  held-wanted f = wanted-same (e .same) ∙ be-inside (take wantedAt (rowOf parent kind role impossible wanted excluded)) _ nameBytes wanted f
+  held-wanted f = wanted-same (e .same) ∙ be-inside (take wantedOffset (rowOf parent kind role impossible wanted excluded)) _ nameBytes wanted f
 
   pub held-excluded : excluded < 2 ^ nameCount → excludedOf s n ≡ excluded
   unfolding rowOf beBytes
-  held-excluded f = excluded-same (e .same) ∙ be-inside (take excludedAt (rowOf parent kind role impossible wanted excluded)) [] nameBytes excluded f
+  held-excluded f = excluded-same (e .same) ∙ be-inside (take excludedOffset (rowOf parent kind role impossible wanted excluded)) [] nameBytes excluded f
 
 abbrev pub pushed : List ℕ → ℕ → Row → List ℕ
 pushed d n r = put d (place n 0) (rowBytes r)
@@ -177,14 +177,14 @@ module _ (s : List ℕ) (at : ℕ) where
   unfolding endsAt
   ends-parts h =
       let tagged = eqb (getD s at 0) endTag in
-      let empty = eqb (be s (at + lengthAt) numberSize) endLength in
+      let empty = eqb (be s (at + lengthOffset) numberSize) endLength in
       let (a, r) = both (eqb (length s) (at + endSize)) (tagged && empty) h in
       let (b, c) = both tagged empty r in
-      (eqb-true (length s) (at + endSize) a, eqb-true (getD s at 0) endTag b, eqb-true (be s (at + lengthAt) numberSize) endLength c)
+      (eqb-true (length s) (at + endSize) a, eqb-true (getD s at 0) endTag b, eqb-true (be s (at + lengthOffset) numberSize) endLength c)
 
   pub parts-ends : length s ≡ at + 3 → getD s at 0 ≡ 0x2F → be s (at + 1) 2 ≡ 0 → endsAt s at ≡ true
   unfolding endsAt
-  parts-ends a b c = rw (eq-eqb (length s) (at + endSize) a, eq-eqb (getD s at 0) endTag b, eq-eqb (be s (at + lengthAt) numberSize) endLength c)
+  parts-ends a b c = rw (eq-eqb (length s) (at + endSize) a, eq-eqb (getD s at 0) endTag b, eq-eqb (be s (at + lengthOffset) numberSize) endLength c)
 
 pub length-endBytes : length endBytes ≡ endSize
 unfolding endBytes beBytes

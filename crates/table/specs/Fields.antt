@@ -12,7 +12,7 @@ use mathlib.Core.List.{List, [], _∷_, _++_}
 use Prim.Native.Nat.{ℕ, _+_, _≤_, _<_}
 use lib.Dec.{eqb}
 use lib.ListN.{length, getD}
-use Rattle.table.specs.Layout.{«place», numberSize, lengthAt, rowTag, endTag, endLength, endSize, nameBytes, parentAt, kindAt, roleAt, impossibleAt, wantedAt, excludedAt, rowLength, rowSize}
+use Rattle.table.specs.Layout.{«place», numberSize, lengthOffset, rowTag, endTag, endLength, endSize, nameBytes, parentOffset, kindOffset, roleOffset, impossibleOffset, wantedOffset, excludedOffset, rowLength, rowSize}
 use Rattle.table.specs.Bounds.{maxRows}
 use Rattle.table.specs.Number.{be, beBytes}
 use Rattle.table.specs.NameSet.{setOf}
@@ -22,25 +22,25 @@ abbrev pub tagOf : List ℕ → ℕ → ℕ
 tagOf s n = getD s (place n 0) 0
 
 abbrev pub lengthOf : List ℕ → ℕ → ℕ
-lengthOf s n = be s (place n lengthAt) numberSize
+lengthOf s n = be s (place n lengthOffset) numberSize
 
 abbrev pub parentOf : List ℕ → ℕ → ℕ
-parentOf s n = be s (place n parentAt) numberSize
+parentOf s n = be s (place n parentOffset) numberSize
 
 abbrev pub kindOf : List ℕ → ℕ → ℕ
-kindOf s n = getD s (place n kindAt) 0
+kindOf s n = getD s (place n kindOffset) 0
 
 abbrev pub roleOf : List ℕ → ℕ → ℕ
-roleOf s n = getD s (place n roleAt) 0
+roleOf s n = getD s (place n roleOffset) 0
 
 abbrev pub impossibleOf : List ℕ → ℕ → ℕ
-impossibleOf s n = getD s (place n impossibleAt) 0
+impossibleOf s n = getD s (place n impossibleOffset) 0
 
 abbrev pub wantedOf : List ℕ → ℕ → ℕ
-wantedOf s n = be s (place n wantedAt) nameBytes
+wantedOf s n = be s (place n wantedOffset) nameBytes
 
 abbrev pub excludedOf : List ℕ → ℕ → ℕ
-excludedOf s n = be s (place n excludedAt) nameBytes
+excludedOf s n = be s (place n excludedOffset) nameBytes
 
 unfoldable pub rowOf : ℕ → ℕ → ℕ → ℕ → ℕ → ℕ → List ℕ
 rowOf parent kind role impossible wanted excluded =
@@ -55,7 +55,7 @@ unfoldable pub endBytes : List ℕ
 endBytes = (endTag ∷ []) ++ beBytes numberSize endLength
 
 unfoldable pub endsAt : List ℕ → ℕ → Bool
-endsAt s at = eqb (length s) (at + endSize) && (eqb (getD s at 0) endTag && eqb (be s (at + lengthAt) numberSize) endLength)
+endsAt s at = eqb (length s) (at + endSize) && (eqb (getD s at 0) endTag && eqb (be s (at + lengthOffset) numberSize) endLength)
 
 -- ---- what the code needs
 

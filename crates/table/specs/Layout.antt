@@ -2,7 +2,7 @@
 --   tagSize, numberSize, headSize       the parts of a field's head, and the head
 --   rowTag, endTag                      tags
 --   nameBytes, nameCount                a set of names: its bytes, and how many names there are
---   lengthAt, parentAt .. excludedAt    where each part of a field begins, from its tag on
+--   lengthOffset, parentOffset .. excludedOffset    where each part of a field begins, from its tag on
 --   rowLength, endLength                the lengths that heads say
 --   rowSize, endSize                    whole fields
 --   kindRoot, kindExists, kindForAll    kinds of row
@@ -17,11 +17,11 @@ tagSize = 1
 abbrev pub numberSize : ℕ
 numberSize = 2
 
-abbrev pub lengthAt : ℕ
-lengthAt = tagSize
+abbrev pub lengthOffset : ℕ
+lengthOffset = tagSize
 
 abbrev pub headSize : ℕ
-headSize = lengthAt + numberSize
+headSize = lengthOffset + numberSize
 
 abbrev pub rowTag : ℕ
 rowTag = 0x10
@@ -44,26 +44,26 @@ abbrev pub nameCount : ℕ
 nameCount = 8 * nameBytes
 
 -- where the parts of a row's field begin, from its tag on
-abbrev pub parentAt : ℕ
-parentAt = headSize
+abbrev pub parentOffset : ℕ
+parentOffset = headSize
 
-abbrev pub kindAt : ℕ
-kindAt = parentAt + numberSize
+abbrev pub kindOffset : ℕ
+kindOffset = parentOffset + numberSize
 
-abbrev pub roleAt : ℕ
-roleAt = kindAt + 1
+abbrev pub roleOffset : ℕ
+roleOffset = kindOffset + 1
 
-abbrev pub impossibleAt : ℕ
-impossibleAt = roleAt + 1
+abbrev pub impossibleOffset : ℕ
+impossibleOffset = roleOffset + 1
 
-abbrev pub wantedAt : ℕ
-wantedAt = impossibleAt + 1
+abbrev pub wantedOffset : ℕ
+wantedOffset = impossibleOffset + 1
 
-abbrev pub excludedAt : ℕ
-excludedAt = wantedAt + nameBytes
+abbrev pub excludedOffset : ℕ
+excludedOffset = wantedOffset + nameBytes
 
 abbrev pub rowSize : ℕ
-rowSize = excludedAt + nameBytes
+rowSize = excludedOffset + nameBytes
 
 abbrev pub rowLength : ℕ
 rowLength = rowSize - headSize

@@ -54,7 +54,7 @@ pub fn tag(s: &[u8], row: usize) -> u8
     byte(s, row, 0)
 }
 
-pub fn length(s: &[u8], row: usize) -> usize
+pub fn said_length(s: &[u8], row: usize) -> usize
     requires { ⌜ (row ≤ maxRows) × («place» row headSize ≤ length (now s)) ⌝ }
     ensures { λ r. ⌜ (r ≡ lengthOf (now (s .entry)) row) × (r < 256 ^ numberSize) ⌝ }
 {

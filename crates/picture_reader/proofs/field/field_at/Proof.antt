@@ -23,15 +23,15 @@ returns-2 : tie.Need-returns-2
 unfolding fieldAt
 returns-2 c = rw (sym (c .before .before .before .before .place .ensures), sym (c .before .before .tag .ensures)) (simp (le-leb _ _ (c .before .before .before .if1 .left), sym (c .before .tag-ok .ensures) ∙ not-true _ (c .if2 .taken)))
 
-length-requires : tie.Need-length-requires
-length-requires c κs = search needs
+said-length-requires : tie.Need-length-requires
+said-length-requires c κs = search needs
 
 length-for-requires : tie.Need-length-for-requires
 length-for-requires c κs = search needs
 
 returns-3 : tie.Need-returns-3
 unfolding fieldAt
-returns-3 c = rw (sym (c .before .before .before .before .before .before .before .place .ensures), sym (c .before .before .before .before .before .tag .ensures), sym (c .before .before .length .ensures .0), sym (c .before .length-for .ensures)) (simp (le-leb _ _ (c .before .before .before .before .before .before .if1 .left), sym (c .before .before .before .before .tag-ok .ensures) ∙ not-false _ (c .before .before .before .if2 .left), ne-eqb _ _ (c .if3 .taken)))
+returns-3 c = rw (sym (c .before .before .before .before .before .before .before .place .ensures), sym (c .before .before .before .before .before .tag .ensures), sym (c .before .before .said-length .ensures .0), sym (c .before .length-for .ensures)) (simp (le-leb _ _ (c .before .before .before .before .before .before .if1 .left), sym (c .before .before .before .before .tag-ok .ensures) ∙ not-false _ (c .before .before .before .if2 .left), ne-eqb _ _ (c .if3 .taken)))
 
 row-field-requires : tie.Need-row-field-requires
 row-field-requires c κs = search needs
@@ -41,11 +41,11 @@ end-field-requires c κs = search needs
 
 returns-4 : tie.Need-returns-4
 unfolding fieldAt
-returns-4 c = rw (sym (c .before .before .before .before .before .before .before .before .before .place .ensures), sym (c .before .before .before .before .before .before .before .tag .ensures), sym (c .before .before .before .before .length .ensures .0), sym (c .before .before .before .length-for .ensures)) (simp (le-leb _ _ (c .before .before .before .before .before .before .before .before .if1 .left), sym (c .before .before .before .before .before .before .tag-ok .ensures) ∙ not-false _ (c .before .before .before .before .before .if2 .left), eq-eqb _ _ (c .before .before .if3 .left), eq-eqb _ _ (c .before .match .keys1)) (c .row-field .ensures))
+returns-4 c = rw (sym (c .before .before .before .before .before .before .before .before .before .place .ensures), sym (c .before .before .before .before .before .before .before .tag .ensures), sym (c .before .before .before .before .said-length .ensures .0), sym (c .before .before .before .length-for .ensures)) (simp (le-leb _ _ (c .before .before .before .before .before .before .before .before .if1 .left), sym (c .before .before .before .before .before .before .tag-ok .ensures) ∙ not-false _ (c .before .before .before .before .before .if2 .left), eq-eqb _ _ (c .before .before .if3 .left), eq-eqb _ _ (c .before .match .keys1)) (c .row-field .ensures))
 
 returns-5 : tie.Need-returns-5
 unfolding fieldAt
-returns-5 c = rw (sym (c .before .before .before .before .before .before .before .before .before .place .ensures), sym (c .before .before .before .before .before .before .before .tag .ensures), sym (c .before .before .before .before .length .ensures .0), sym (c .before .before .before .length-for .ensures)) (simp (le-leb _ _ (c .before .before .before .before .before .before .before .before .if1 .left), sym (c .before .before .before .before .before .before .tag-ok .ensures) ∙ not-false _ (c .before .before .before .before .before .if2 .left), eq-eqb _ _ (c .before .before .if3 .left), ne-eqb _ _ (c .before .match .rest .1)) (c .end-field .ensures))
+returns-5 c = rw (sym (c .before .before .before .before .before .before .before .before .before .place .ensures), sym (c .before .before .before .before .before .before .before .tag .ensures), sym (c .before .before .before .before .said-length .ensures .0), sym (c .before .before .before .length-for .ensures)) (simp (le-leb _ _ (c .before .before .before .before .before .before .before .before .if1 .left), sym (c .before .before .before .before .before .before .tag-ok .ensures) ∙ not-false _ (c .before .before .before .before .before .if2 .left), eq-eqb _ _ (c .before .before .if3 .left), ne-eqb _ _ (c .before .match .rest .1)) (c .end-field .ensures))
 
 pub field-at-spec : {M : Type 1} → statement M
 field-at-spec =
@@ -56,7 +56,7 @@ field-at-spec =
     tag-requires
     tag-ok-requires
     returns-2
-    length-requires
+    said-length-requires
     length-for-requires
     returns-3
     row-field-requires
