@@ -129,7 +129,7 @@ module _ (first : List ℕ) (few : mergedCount benchLimits first ≤ maxRows) wh
 
     empty-taken : TakesEvidence benchLimits first empty outcomeYes k1-map
     empty-taken work enough =
-        map-verify benchLimits bench first empty k1-map (length work) enough pair
+        map-verify benchLimits first empty k1-map (length work) bench enough pair
         (record { form = empty-form; maps = empty-map })
 
 -- whatever fits a picture fits the empty row

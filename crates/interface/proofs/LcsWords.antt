@@ -16,6 +16,8 @@
 --   lcs-exactly                 with buffers of the lengths laid down and for an acceptable pair: outcome 1 exactly if it
 --                               has no more rows than that, else 15
 --   length-small                that length fits its part of the word
+--   answer, word                in the statements, the call's answer and word by the lengths of its two buffers,
+--   given, written              its word by the result buffer, and that buffer's bytes up to the reported length
 use Prim.Native.Nat.{_<_, _≤_, ℕ}
 use lib.ListN.{getD, length, take}
 use mathlib.Core.List.{List, _++_}
@@ -119,63 +121,72 @@ module _ (limits : Limits) (first second work result : List ℕ) where
 
 -- ---- what a word shows
 
-module _ (limits : Limits) (bounded : Bounded limits) (first second : List ℕ) (work result : ℕ) where
-  answered-small : (n : ℕ) → Answered limits first second work result n → n < valueRange
-  answered-small n a = omega (arith, a .length-is, lcs-size limits first second (a .few))
+module _ (limits : Limits) (first second : List ℕ) (work result : ℕ) where
+  abbrev answer : Common
+  answer = lcsAnswer limits first second work result
 
-  pub length-small : (n : ℕ) → lcsAnswer limits first second work result ≡ common.Length n → n < valueRange
-  length-small n e = answered-small n (answered-length limits first second work result n e)
+  abbrev word : ℕ
+  word = lcsWord limits first second work result
 
-  refusal-zero : (r : Refusal) → lcsAnswer limits first second work result ≡ common.Refused r → outcome (refusalWord r) ≡ 0
+  refusal-zero : (r : Refusal) → answer ≡ common.Refused r → outcome (refusalWord r) ≡ 0
   refusal-zero r e =
       ⊎-elim (known-zero r) (λ h. concerns-zero r Second 15 15 h (omega arith) refl) (lcs-refusal limits first second work result r e)
 
-  yes-word : (a : Common) → lcsAnswer limits first second work result ≡ a → outcome (commonWord a) ≡ outcomeYes →
-      Answered limits first second work result (value (commonWord a)) × (a ≡ common.Length (value (commonWord a)))
-  yes-word (common.Length n) e h =
-      let a = answered-length limits first second work result n e in
-      let is : n ≡ value (valueWord outcomeYes n) = sym (value-value outcomeYes n (answered-small n a)) in
-      (subst (λ k. Answered limits first second work result k) is a, ap common.Length is)
-  yes-word (common.Refused r) e h = absurd (omega (arith, h, refusal-zero r e))
+  module _ (bounded : Bounded limits) where
+    answered-small : (n : ℕ) → Answered limits first second work result n → n < valueRange
+    answered-small n a = omega (arith, a .length-is, lcs-size limits first second (a .few))
 
-  pub lcs-yes : outcome (lcsWord limits first second work result) ≡ outcomeYes →
-      Answered limits first second work result (value (lcsWord limits first second work result))
-  unfolding lcsWord
-  lcs-yes h = yes-word (lcsAnswer limits first second work result) refl h .0
+    pub length-small : (n : ℕ) → answer ≡ common.Length n → n < valueRange
+    length-small n e = answered-small n (answered-length limits first second work result n e)
 
-  -- the word of a length has outcome 1
-  length-yes : (n : ℕ) → lcsAnswer limits first second work result ≡ common.Length n →
-      outcome (lcsWord limits first second work result) ≡ outcomeYes
-  unfolding lcsWord
-  length-yes n e = ap (λ a. outcome (commonWord a)) e ∙ value-outcome outcomeYes n (length-small n e)
+    yes-word : (a : Common) → answer ≡ a → outcome (commonWord a) ≡ outcomeYes →
+        Answered limits first second work result (value (commonWord a)) × (a ≡ common.Length (value (commonWord a)))
+    yes-word (common.Length n) e h =
+        let a = answered-length limits first second work result n e in
+        let is : n ≡ value (valueWord outcomeYes n) = sym (value-value outcomeYes n (answered-small n a)) in
+        (subst (λ k. Answered limits first second work result k) is a, ap common.Length is)
+    yes-word (common.Refused r) e h = absurd (omega (arith, h, refusal-zero r e))
 
-  module _ (enough : workSize limits ≤ work) (long : pictureSize limits ≤ result) (pair : Acceptable limits first second) where
-    large-word : SaysLength (lcsAnswer limits first second work result) → lcsWord limits first second work result ≡ refused 15 Second → ⊥
-    large-word (n, e) h = omega (arith, ap outcome h, length-yes n e)
-
-    pub lcs-exactly :
-        ((outcome (lcsWord limits first second work result) ≡ outcomeYes) ↔ (lcsCount limits first second ≤ limits .rows))
-        × ((lcsWord limits first second work result ≡ refused 15 Second) ↔ (limits .rows < lcsCount limits first second))
+    pub lcs-yes : outcome word ≡ outcomeYes → Answered limits first second work result (value word)
     unfolding lcsWord
-    lcs-exactly =
-        let c = condition-2-common limits bounded first second pair in (
-          (
-            λ h. lcs-yes h .few,
-            λ few. let (n, e) = c .given-exactly work result enough long .1 few in length-yes n e,
-          ),
-          (
-            λ h. ⊎-elim (λ says. absurd (large-word says h)) (λ e. c .refused-exactly work result enough long .0 e) (c .one work result enough long),
-            λ many. ap commonWord (c .refused-exactly work result enough long .1 many),
-          ),
-        )
+    lcs-yes h = yes-word answer refl h .0
+
+    -- the word of a length has outcome 1
+    length-yes : (n : ℕ) → answer ≡ common.Length n → outcome word ≡ outcomeYes
+    unfolding lcsWord
+    length-yes n e = ap (λ a. outcome (commonWord a)) e ∙ value-outcome outcomeYes n (length-small n e)
+
+    module _ (enough : workSize limits ≤ work) (long : pictureSize limits ≤ result) (pair : Acceptable limits first second) where
+      large-word : SaysLength answer → word ≡ refused 15 Second → ⊥
+      large-word (n, e) h = omega (arith, ap outcome h, length-yes n e)
+
+      pub lcs-exactly :
+          ((outcome word ≡ outcomeYes) ↔ (lcsCount limits first second ≤ limits .rows))
+          × ((word ≡ refused 15 Second) ↔ (limits .rows < lcsCount limits first second))
+      unfolding lcsWord
+      lcs-exactly =
+          let c = condition-2-common limits bounded first second pair in (
+            (
+              λ h. lcs-yes h .few,
+              λ few. let (n, e) = c .given-exactly work result enough long .1 few in length-yes n e,
+            ),
+            (
+              λ h. ⊎-elim (λ says. absurd (large-word says h)) (λ e. c .refused-exactly work result enough long .0 e) (c .one work result enough long),
+              λ many. ap commonWord (c .refused-exactly work result enough long .1 many),
+            ),
+          )
 
 -- ---- the common picture
 
-pub lcs-least-common : (limits : Limits) → Bounded limits → (first second : List ℕ) (work : ℕ) (result : List ℕ) →
-    outcome (lcsWord limits first second work (length result)) ≡ outcomeYes →
-    let n = value (lcsWord limits first second work (length result)) in
-    LeastCommon limits first second n (take n (lcsResult limits first second work result))
-unfolding lcsWord
-lcs-least-common limits bounded first second work result h =
-    let (a, is) = yes-word limits bounded first second work (length result) (lcsAnswer limits first second work (length result)) refl h in
-    condition-2-common limits bounded first second (a .pair) .given work result (value (lcsWord limits first second work (length result))) is
+module _ (limits : Limits) (first second : List ℕ) (work : ℕ) (result : List ℕ) where
+  abbrev given : ℕ
+  given = word limits first second work (length result)
+
+  abbrev written : List ℕ
+  written = take (value given) (lcsResult limits first second work result)
+
+  pub lcs-least-common : Bounded limits → outcome given ≡ outcomeYes → LeastCommon limits first second (value given) written
+  unfolding lcsWord
+  lcs-least-common bounded h =
+      let (a, is) = yes-word limits first second work (length result) bounded (answer limits first second work (length result)) refl h in
+      condition-2-common limits bounded first second (a .pair) .given work result (value given) is

@@ -13,6 +13,7 @@
 --   most-specific-none             and not if the book has no card n
 --   most-specific-clear            with outcome 1 the work space's two halves are zero,
 --   most-specific-untouched        with outcome 0 it is as it was
+--   answer, word                   in the statements, the call's answer and word
 use Prim.Native.Nat.{_<_, _≤_, ℕ}
 use lib.ListN.{getD, length}
 use mathlib.Core.Bool.{false, true}
@@ -77,11 +78,17 @@ module _ (limits : Limits) (case book work : List ℕ) where
 -- ---- what a word shows
 
 module _ (limits : Limits) (case book : List ℕ) (room : ℕ) where
+  abbrev answer : Selected
+  answer = mostSpecificAnswer limits case book room
+
+  abbrev word : ℕ
+  word = mostSpecificWord limits case book room
+
   -- the refusal that a word shows: its number, its input and the card's number
   pub record Shown (w : ℕ) : Type 0 where
     pub refusal : Refusal
     pub named : Named book refusal
-    pub answered : mostSpecificAnswer limits case book room ≡ Refused refusal
+    pub answered : answer ≡ Refused refusal
     pub by-question : question w ≡ refusal .number
     pub by-input : input w ≡ inputCode (refusal .input)
     pub by-card : card w ≡ cardOf (refusal .input)
@@ -93,21 +100,19 @@ module _ (limits : Limits) (case book : List ℕ) (room : ℕ) where
   named-fits r (inr (inr (inl (is, a, b)))) = (omega arith, rw is (omega arith))
   named-fits r (inr (inr (inr (k, l, (is, a, b))))) = (omega arith, rw is (omega (arith, count-most book)))
 
-  refusal-fits : (r : Refusal) → mostSpecificAnswer limits case book room ≡ Refused r →
-      (r .number < partRange) × (cardOf (r .input) < partRange)
+  refusal-fits : (r : Refusal) → answer ≡ Refused r → (r .number < partRange) × (cardOf (r .input) < partRange)
   refusal-fits r e = named-fits r (book-refusal limits case book room r e)
 
-  word-small : (n : ℕ) → mostSpecificAnswer limits case book room ≡ Cards n → n < valueRange
+  word-small : (n : ℕ) → answer ≡ Cards n → n < valueRange
   word-small n e = most-specific-condition limits case book .fits room n e
 
   abbrev pub ShowsCards : ℕ → Type 0
-  ShowsCards w = (outcome w ≡ outcomeYes) × (mostSpecificAnswer limits case book room ≡ Cards (value w))
+  ShowsCards w = (outcome w ≡ outcomeYes) × (answer ≡ Cards (value w))
 
   abbrev pub ShowsRefusal : ℕ → Type 0
   ShowsRefusal w = (outcome w ≡ 0) × Shown w
 
-  by-answer : (a : Selected) → mostSpecificAnswer limits case book room ≡ a →
-      ShowsCards (selectedWord a) ⊎ ShowsRefusal (selectedWord a)
+  by-answer : (a : Selected) → answer ≡ a → ShowsCards (selectedWord a) ⊎ ShowsRefusal (selectedWord a)
   by-answer (Cards n) e =
       inl (value-outcome outcomeYes n (word-small n e), e ∙ ap Cards (sym (value-value outcomeYes n (word-small n e))))
   by-answer (Refused r) e =
@@ -124,23 +129,19 @@ module _ (limits : Limits) (case book : List ℕ) (room : ℕ) where
         },
       )
 
-  pub most-specific-shows :
-      ShowsCards (mostSpecificWord limits case book room) ⊎ ShowsRefusal (mostSpecificWord limits case book room)
+  pub most-specific-shows : ShowsCards word ⊎ ShowsRefusal word
   unfolding mostSpecificWord
-  most-specific-shows = by-answer (mostSpecificAnswer limits case book room) refl
+  most-specific-shows = by-answer answer refl
 
   -- the answer of a word with outcome 1
-  yes-cards : outcome (mostSpecificWord limits case book room) ≡ outcomeYes →
-      mostSpecificAnswer limits case book room ≡ Cards (value (mostSpecificWord limits case book room))
+  yes-cards : outcome word ≡ outcomeYes → answer ≡ Cards (value word)
   yes-cards h = ⊎-elim (λ shown. shown .1) (λ shown. absurd (omega (arith, h, shown .0))) most-specific-shows
 
-  pub most-specific-yes : outcome (mostSpecificWord limits case book room) ≡ outcomeYes →
-      Answered limits case book room (value (mostSpecificWord limits case book room))
-  most-specific-yes h = answered-acceptable limits case book room (value (mostSpecificWord limits case book room)) (yes-cards h)
+  pub most-specific-yes : outcome word ≡ outcomeYes → Answered limits case book room (value word)
+  most-specific-yes h = answered-acceptable limits case book room (value word) (yes-cards h)
 
   pub most-specific-answers :
-      (outcome (mostSpecificWord limits case book room) ≡ outcomeYes)
-      ↔ ((workSize limits ≤ room) × AcceptableBook limits case book)
+      (outcome word ≡ outcomeYes) ↔ ((workSize limits ≤ room) × AcceptableBook limits case book)
   unfolding mostSpecificWord
   most-specific-answers = (
     λ h. let a = most-specific-yes h in (a .long, a .acceptable),
@@ -150,13 +151,12 @@ module _ (limits : Limits) (case book : List ℕ) (room : ℕ) where
         ap (λ a. outcome (selectedWord a)) e ∙ value-outcome outcomeYes cards (word-small cards e),
   )
 
-  pub most-specific-cards : outcome (mostSpecificWord limits case book room) ≡ outcomeYes →
-      (n : ℕ) → (has (value (mostSpecificWord limits case book room)) n ≡ true) ↔ MostSpecific limits case book n
-  most-specific-cards h = most-specific-condition limits case book .given room (value (mostSpecificWord limits case book room)) (yes-cards h)
+  pub most-specific-cards : outcome word ≡ outcomeYes →
+      (n : ℕ) → (has (value word) n ≡ true) ↔ MostSpecific limits case book n
+  most-specific-cards h = most-specific-condition limits case book .given room (value word) (yes-cards h)
 
-  pub most-specific-none : outcome (mostSpecificWord limits case book room) ≡ outcomeYes →
-      (n : ℕ) → cardCount book ≤ n → has (value (mostSpecificWord limits case book room)) n ≡ false
-  most-specific-none h = most-specific-condition limits case book .past room (value (mostSpecificWord limits case book room)) (yes-cards h)
+  pub most-specific-none : outcome word ≡ outcomeYes → (n : ℕ) → cardCount book ≤ n → has (value word) n ≡ false
+  most-specific-none h = most-specific-condition limits case book .past room (value word) (yes-cards h)
 
 -- ---- the work space, by the word
 

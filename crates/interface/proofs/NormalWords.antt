@@ -11,6 +11,7 @@
 --   normalize-readable,
 --   normalize-equivalent                  so they are a readable picture, equivalent to the first one
 --   normalize-past, normalize-kept        bytes past the normal table keep their contents, whatever the answer; so does the buffer's length
+--   word, written                         in the statements, the call's word, and the buffer's bytes up to the reported length
 use Prim.Native.Nat.{ℕ, _+_, _<_, _≤_}
 use native.Mathlib.Omega.{arith}
 use borrow.Author.Tests.{leb-false, leb-true}
@@ -41,6 +42,12 @@ use Rattle.interface.specs.Calls.{NormalizeGives, normalizeWord}
 use Rattle.interface.proofs.Words.{value-value}
 
 module _ (limits : Limits) (s out : List ℕ) where
+  abbrev word : ℕ
+  word = normalizeWord limits s (length out)
+
+  abbrev written : List ℕ
+  written = take (value word) (normalizeResult limits s out)
+
   pub normalize-short : length out < pictureSize limits → NormalizeGives limits s out (refused 1 Buffer) out
   unfolding normalizeWord normalizeResult
   normalize-short h = let e = short-answer limits s (length out) h in record { word-is = rw e; buffer-is = rw e }
@@ -64,51 +71,47 @@ module _ (limits : Limits) (s out : List ℕ) where
         normalize-written = let e = few-answer limits s (length out) enough readable few in record { word-is = rw e; buffer-is = rw e }
 
         module _ (bounded : Bounded limits) where
-          pub normalize-value : value (normalizeWord limits s (length out)) ≡ length (normalFile limits s)
+          pub normalize-value : value word ≡ length (normalFile limits s)
           normalize-value =
               rw (sym (normalize-written .word-is))
               (value-value outcomeYes (length (normalFile limits s)) (omega (arith, normal-size limits s few)))
 
-          pub normalize-result :
-              take (value (normalizeWord limits s (length out))) (normalizeResult limits s out) ≡ normalFile limits s
+          pub normalize-result : written ≡ normalFile limits s
           unfolding put
           normalize-result =
               rw (normalize-value, sym (normalize-written .buffer-is))
               (take-at (normalFile limits s) (drop (0 + length (normalFile limits s)) out) (length (normalFile limits s)) refl)
 
-          pub normalize-readable :
-              Readable limits (take (value (normalizeWord limits s (length out))) (normalizeResult limits s out))
+          pub normalize-readable : Readable limits written
           normalize-readable = rw normalize-result (normal-readable limits s few bounded)
 
-          pub normalize-equivalent :
-              Equivalent pictureSignature (pictureTree limits s)
-              (pictureTree limits (take (value (normalizeWord limits s (length out))) (normalizeResult limits s out)))
+          pub normalize-equivalent : Equivalent pictureSignature (pictureTree limits s) (pictureTree limits written)
           normalize-equivalent =
               subst (λ t. Equivalent pictureSignature (pictureTree limits s) (pictureTree limits t)) (sym normalize-result)
               (normalFile-equivalent limits s few bounded readable)
 
   yes-few : (b : Bool) → leb (mergedCount limits s) (limits .rows) ≡ b → pictureSize limits ≤ length out →
-      Readable limits s → outcome (normalizeWord limits s (length out)) ≡ outcomeYes → Accepted limits s (length out)
+      Readable limits s → outcome word ≡ outcomeYes → Accepted limits s (length out)
   yes-few true e enough readable h = record { enough = enough; readable = readable; few = leb-true (mergedCount limits s) (limits .rows) e }
   yes-few false e enough readable h =
       let many = normalize-many enough readable (leb-false (mergedCount limits s) (limits .rows) e) .word-is in
       absurd (omega (arith, many))
 
   yes-reading : (r : Reading) → readingOf limits s ≡ r → pictureSize limits ≤ length out →
-      outcome (normalizeWord limits s (length out)) ≡ outcomeYes → Accepted limits s (length out)
+      outcome word ≡ outcomeYes → Accepted limits s (length out)
   yes-reading (reading.Rows n) e enough h = yes-few (leb (mergedCount limits s) (limits .rows)) refl enough (record { rows = n; reads = e }) h
   yes-reading (reading.Failed q) e enough h =
       let failed = normalize-unreadable enough q e .word-is in
       absurd (omega (arith, failed, reading-number limits s q e .most))
 
   yes-room : (b : Bool) → leb (pictureSize limits) (length out) ≡ b →
-      outcome (normalizeWord limits s (length out)) ≡ outcomeYes → Accepted limits s (length out)
+      outcome word ≡ outcomeYes → Accepted limits s (length out)
   yes-room true e h = yes-reading (readingOf limits s) refl (leb-true (pictureSize limits) (length out) e) h
   yes-room false e h =
       let short = normalize-short (leb-false (pictureSize limits) (length out) e) .word-is in
       absurd (omega (arith, short))
 
-  pub normalize-accepted : outcome (normalizeWord limits s (length out)) ≡ outcomeYes → Accepted limits s (length out)
+  pub normalize-accepted : outcome word ≡ outcomeYes → Accepted limits s (length out)
   normalize-accepted h = yes-room (leb (pictureSize limits) (length out)) refl h
 
   pub normalize-past : (i : ℕ) → length (normalFile limits s) ≤ i →

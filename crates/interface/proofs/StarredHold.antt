@@ -60,20 +60,20 @@ module _ (limits : Limits) (bounded : Bounded limits) (first second e : List ℕ
       verifyWord limits first second e (workSize limits) ≡ valueWord outcomeYes 0 →
       Holds limits (subsumes first second e)
   shown told taken =
-      let (enough, pair, map) = verify-map limits bounded first second e (workSize limits) (omega (arith, taken)) in (
+      let (enough, pair, map) = verify-map limits first second e (workSize limits) bounded (omega (arith, taken)) in (
         writes outcomeYes pair told,
-        λ work long. map-verify limits bounded first second e (length work) long pair map,
-        verify-map-subsumed limits bounded first second e (workSize limits) (omega (arith, taken)),
+        λ work long. map-verify limits first second e (length work) bounded long pair map,
+        verify-map-subsumed limits first second e (workSize limits) bounded (omega (arith, taken)),
       )
 
   shown-not : verdictWord (verdictAnswer limits first second) ≡ valueWord outcomeNo (length e) →
       verifyWord limits first second e (workSize limits) ≡ valueWord outcomeNo 0 →
       Holds limits (subsumesNot first second e)
   shown-not told taken =
-      let (enough, pair, refuting) = verify-refutation limits bounded first second e (workSize limits) (omega (arith, taken)) in (
+      let (enough, pair, refuting) = verify-refutation limits first second e (workSize limits) bounded (omega (arith, taken)) in (
         writes outcomeNo pair told,
-        λ work long. refutation-verify limits bounded first second e (length work) long pair refuting,
-        verify-refutation-not limits bounded first second e (workSize limits) (omega (arith, taken)),
+        λ work long. refutation-verify limits first second e (length work) bounded long pair refuting,
+        verify-refutation-not limits first second e (workSize limits) bounded (omega (arith, taken)),
       )
 
 -- a normal table that is computed stands in any result buffer that is long enough
@@ -91,7 +91,7 @@ module _ (limits : Limits) (bounded : Bounded limits) (first second table : List
   shown-common : outcome (lcsWord limits first second (workSize limits) (pictureSize limits)) ≡ outcomeYes →
       WritesCommon limits first second table × Covers limits table first × Covers limits table second
   shown-common told =
-      let a = lcs-yes limits bounded first second (workSize limits) (pictureSize limits) told in (
+      let a = lcs-yes limits first second (workSize limits) (pictureSize limits) bounded told in (
         λ work result enough long.
             let given = lcs-common limits first second work result enough long (a .pair) (a .few) in
             (sym (given .word-is) ∙ ap (λ (e : List ℕ). valueWord outcomeYes (length e)) is, sym (given .result-is) ∙ ap (λ (e : List ℕ). put result 0 e) is),

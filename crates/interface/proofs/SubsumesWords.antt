@@ -17,6 +17,8 @@
 --   subsumes-map-taken,
 --   subsumes-refutation-taken   and the check takes it: a map where the outcome is 1, a refutation where it is 2
 --   yes-small, no-small         that length fits its part of the word
+--   answer, word                in the statements, the call's answer and word by the lengths of its two buffers,
+--   given, written              its word by the result buffer, and that buffer's bytes up to the reported length
 use Prim.Native.Nat.{ℕ, _<_, _≤_}
 use native.Mathlib.Omega.{arith}
 use lib.ListN.{getD, length, take}
@@ -115,99 +117,102 @@ module _ (limits : Limits) (first second work result : List ℕ) where
 
 -- ---- what a word shows
 
-module _ (limits : Limits) (bounded : Bounded limits) (first second : List ℕ) (work result : ℕ) where
-  answered-small : (b : Bool) (n : ℕ) → Answered limits first second work result b n → n < valueRange
-  answered-small b n a =
-      omega (arith, a .length-is, evidence-size limits first second bounded (a .pair), within-most limits bounded)
+module _ (limits : Limits) (first second : List ℕ) (work result : ℕ) where
+  abbrev answer : Verdict
+  answer = subsumesAnswer limits first second work result
 
-  pub yes-small : (n : ℕ) → subsumesAnswer limits first second work result ≡ verdict.Yes n → n < valueRange
-  yes-small n e = answered-small true n (answered-yes limits first second work result n e)
+  abbrev word : ℕ
+  word = subsumesWord limits first second work result
 
-  pub no-small : (n : ℕ) → subsumesAnswer limits first second work result ≡ verdict.No n → n < valueRange
-  no-small n e = answered-small false n (answered-no limits first second work result n e)
-
-  refusal-zero : (r : Refusal) → subsumesAnswer limits first second work result ≡ verdict.Refused r → outcome (refusalWord r) ≡ 0
+  refusal-zero : (r : Refusal) → answer ≡ verdict.Refused r → outcome (refusalWord r) ≡ 0
   refusal-zero r e = known-zero r (subsumes-refusal limits first second work result r e)
 
-  yes-word : (v : Verdict) → subsumesAnswer limits first second work result ≡ v → outcome (verdictWord v) ≡ outcomeYes →
-      Answered limits first second work result true (value (verdictWord v))
-  yes-word (verdict.Yes n) e h =
-      let a = answered-yes limits first second work result n e in
-      subst (λ k. Answered limits first second work result true k) (sym (value-value outcomeYes n (answered-small true n a))) a
-  yes-word (verdict.No n) e h = absurd (omega (arith, h, value-outcome outcomeNo n (no-small n e)))
-  yes-word (verdict.Refused r) e h = absurd (omega (arith, h, refusal-zero r e))
+  module _ (bounded : Bounded limits) where
+    answered-small : (b : Bool) (n : ℕ) → Answered limits first second work result b n → n < valueRange
+    answered-small b n a =
+        omega (arith, a .length-is, evidence-size limits first second bounded (a .pair), within-most limits bounded)
 
-  no-word : (v : Verdict) → subsumesAnswer limits first second work result ≡ v → outcome (verdictWord v) ≡ outcomeNo →
-      Answered limits first second work result false (value (verdictWord v))
-  no-word (verdict.Yes n) e h = absurd (omega (arith, h, value-outcome outcomeYes n (yes-small n e)))
-  no-word (verdict.No n) e h =
-      let a = answered-no limits first second work result n e in
-      subst (λ k. Answered limits first second work result false k) (sym (value-value outcomeNo n (answered-small false n a))) a
-  no-word (verdict.Refused r) e h = absurd (omega (arith, h, refusal-zero r e))
+    pub yes-small : (n : ℕ) → answer ≡ verdict.Yes n → n < valueRange
+    yes-small n e = answered-small true n (answered-yes limits first second work result n e)
 
-  pub subsumes-yes : outcome (subsumesWord limits first second work result) ≡ outcomeYes →
-      Answered limits first second work result true (value (subsumesWord limits first second work result))
-  unfolding subsumesWord
-  subsumes-yes h = yes-word (subsumesAnswer limits first second work result) refl h
+    pub no-small : (n : ℕ) → answer ≡ verdict.No n → n < valueRange
+    no-small n e = answered-small false n (answered-no limits first second work result n e)
 
-  pub subsumes-no : outcome (subsumesWord limits first second work result) ≡ outcomeNo →
-      Answered limits first second work result false (value (subsumesWord limits first second work result))
-  unfolding subsumesWord
-  subsumes-no h = no-word (subsumesAnswer limits first second work result) refl h
+    yes-word : (v : Verdict) → answer ≡ v → outcome (verdictWord v) ≡ outcomeYes →
+        Answered limits first second work result true (value (verdictWord v))
+    yes-word (verdict.Yes n) e h =
+        let a = answered-yes limits first second work result n e in
+        subst (λ k. Answered limits first second work result true k) (sym (value-value outcomeYes n (answered-small true n a))) a
+    yes-word (verdict.No n) e h = absurd (omega (arith, h, value-outcome outcomeNo n (no-small n e)))
+    yes-word (verdict.Refused r) e h = absurd (omega (arith, h, refusal-zero r e))
 
-  pub subsumes-covers : outcome (subsumesWord limits first second work result) ≡ outcomeYes → Covers limits second first
-  subsumes-covers h = let a = subsumes-yes h in verdict-covers limits first second bounded (a .pair) .1 (a .verdict-is)
+    no-word : (v : Verdict) → answer ≡ v → outcome (verdictWord v) ≡ outcomeNo →
+        Answered limits first second work result false (value (verdictWord v))
+    no-word (verdict.Yes n) e h = absurd (omega (arith, h, value-outcome outcomeYes n (yes-small n e)))
+    no-word (verdict.No n) e h =
+        let a = answered-no limits first second work result n e in
+        subst (λ k. Answered limits first second work result false k) (sym (value-value outcomeNo n (answered-small false n a))) a
+    no-word (verdict.Refused r) e h = absurd (omega (arith, h, refusal-zero r e))
 
-  pub subsumes-not : outcome (subsumesWord limits first second work result) ≡ outcomeNo → Covers limits second first → ⊥
-  subsumes-not h = let a = subsumes-no h in verdict-fails limits first second bounded (a .pair) .0 (a .verdict-is)
+    pub subsumes-yes : outcome word ≡ outcomeYes → Answered limits first second work result true (value word)
+    unfolding subsumesWord
+    subsumes-yes h = yes-word answer refl h
 
-  -- the word of an answer yes, of an answer no
-  says-yes : SaysYes (subsumesAnswer limits first second work result) →
-      outcome (subsumesWord limits first second work result) ≡ outcomeYes
-  unfolding subsumesWord
-  says-yes (n, e) = ap (λ v. outcome (verdictWord v)) e ∙ value-outcome outcomeYes n (yes-small n e)
+    pub subsumes-no : outcome word ≡ outcomeNo → Answered limits first second work result false (value word)
+    unfolding subsumesWord
+    subsumes-no h = no-word answer refl h
 
-  says-no : SaysNo (subsumesAnswer limits first second work result) →
-      outcome (subsumesWord limits first second work result) ≡ outcomeNo
-  unfolding subsumesWord
-  says-no (n, e) = ap (λ v. outcome (verdictWord v)) e ∙ value-outcome outcomeNo n (no-small n e)
+    pub subsumes-covers : outcome word ≡ outcomeYes → Covers limits second first
+    subsumes-covers h = let a = subsumes-yes h in verdict-covers limits first second bounded (a .pair) .1 (a .verdict-is)
 
-  module _ (enough : workSize limits ≤ work) (long : evidenceSize limits ≤ result) (pair : Acceptable limits first second) where
-    pub subsumes-exactly :
-        ((outcome (subsumesWord limits first second work result) ≡ outcomeYes) ↔ Covers limits second first)
-        × ((outcome (subsumesWord limits first second work result) ≡ outcomeNo) ↔ (Covers limits second first → ⊥))
-        × ((outcome (subsumesWord limits first second work result) ≡ outcomeYes)
-        ⊎ (outcome (subsumesWord limits first second work result) ≡ outcomeNo))
-    subsumes-exactly =
-        let c = condition-2-verdict limits bounded first second pair in (
-          (subsumes-covers, λ h. says-yes (c .yes-exactly work result enough long .1 h)),
-          (subsumes-not, λ h. says-no (c .no-exactly work result enough long .1 h)),
-          ⊎-elim (λ h. inl (says-yes h)) (λ h. inr (says-no h)) (c .one work result enough long),
-        )
+    pub subsumes-not : outcome word ≡ outcomeNo → Covers limits second first → ⊥
+    subsumes-not h = let a = subsumes-no h in verdict-fails limits first second bounded (a .pair) .0 (a .verdict-is)
+
+    -- the word of an answer yes, of an answer no
+    says-yes : SaysYes answer → outcome word ≡ outcomeYes
+    unfolding subsumesWord
+    says-yes (n, e) = ap (λ v. outcome (verdictWord v)) e ∙ value-outcome outcomeYes n (yes-small n e)
+
+    says-no : SaysNo answer → outcome word ≡ outcomeNo
+    unfolding subsumesWord
+    says-no (n, e) = ap (λ v. outcome (verdictWord v)) e ∙ value-outcome outcomeNo n (no-small n e)
+
+    module _ (enough : workSize limits ≤ work) (long : evidenceSize limits ≤ result) (pair : Acceptable limits first second) where
+      pub subsumes-exactly :
+          ((outcome word ≡ outcomeYes) ↔ Covers limits second first)
+          × ((outcome word ≡ outcomeNo) ↔ (Covers limits second first → ⊥))
+          × ((outcome word ≡ outcomeYes) ⊎ (outcome word ≡ outcomeNo))
+      subsumes-exactly =
+          let c = condition-2-verdict limits bounded first second pair in (
+            (subsumes-covers, λ h. says-yes (c .yes-exactly work result enough long .1 h)),
+            (subsumes-not, λ h. says-no (c .no-exactly work result enough long .1 h)),
+            ⊎-elim (λ h. inl (says-yes h)) (λ h. inr (says-no h)) (c .one work result enough long),
+          )
 
 -- ---- the evidence
 
 module _ (limits : Limits) (first second : List ℕ) (work : ℕ) (result : List ℕ) where
-  abbrev word : ℕ
-  word = subsumesWord limits first second work (length result)
+  abbrev given : ℕ
+  given = word limits first second work (length result)
 
-  pub subsumes-evidence : (b : Bool) → Answered limits first second work (length result) b (value word) →
-      take (value word) (subsumesResult limits first second work result) ≡ evidenceOf limits first second
-  subsumes-evidence b a = evidence-read limits first second work result b (value word) a
+  abbrev written : List ℕ
+  written = take (value given) (subsumesResult limits first second work result)
+
+  pub subsumes-evidence : (b : Bool) → Answered limits first second work (length result) b (value given) →
+      written ≡ evidenceOf limits first second
+  subsumes-evidence b a = evidence-read limits first second work result b (value given) a
 
   module _ (bounded : Bounded limits) (room : ℕ) (enough : workSize limits ≤ room) where
-    pub subsumes-map-taken : outcome word ≡ outcomeYes →
-        verifyWord limits first second (take (value word) (subsumesResult limits first second work result)) room
-        ≡ verifiedWord verified.MapTaken
+    pub subsumes-map-taken : outcome given ≡ outcomeYes →
+        verifyWord limits first second written room ≡ verifiedWord verified.MapTaken
     unfolding verifyWord
     subsumes-map-taken h =
-        let a = subsumes-yes limits bounded first second work (length result) h in
+        let a = subsumes-yes limits first second work (length result) bounded h in
         rw (subsumes-evidence true a) (ap verifiedWord (yes-verify limits first second bounded (a .pair) room enough (a .verdict-is)))
 
-    pub subsumes-refutation-taken : outcome word ≡ outcomeNo →
-        verifyWord limits first second (take (value word) (subsumesResult limits first second work result)) room
-        ≡ verifiedWord verified.RefutationTaken
+    pub subsumes-refutation-taken : outcome given ≡ outcomeNo →
+        verifyWord limits first second written room ≡ verifiedWord verified.RefutationTaken
     unfolding verifyWord
     subsumes-refutation-taken h =
-        let a = subsumes-no limits bounded first second work (length result) h in
+        let a = subsumes-no limits first second work (length result) bounded h in
         rw (subsumes-evidence false a) (ap verifiedWord (no-verify limits first second bounded (a .pair) room enough (a .verdict-is)))

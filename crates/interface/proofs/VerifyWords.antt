@@ -15,6 +15,7 @@
 --   verify-some-refutation        for an acceptable pair so exactly when the second covers the first, and exactly when it does not;
 --   verify-one                    so exactly one of the two
 --   verify-past, verify-kept      bytes past the two halves keep their contents, whatever the answer; so does the work space's length
+--   answer, word                  in the statements, the call's answer and word
 use Prim.Native.Nat.{ℕ, _<_, _≤_}
 use native.Mathlib.Omega.{arith}
 use lib.ListN.{getD, length, take}
@@ -88,68 +89,70 @@ module _ (limits : Limits) (first second evidence work : List ℕ) where
 
 -- ---- what a word shows
 
-module _ (limits : Limits) (bounded : Bounded limits) (first second evidence : List ℕ) (room : ℕ) where
-  refusal-zero : (r : Refusal) → verifyAnswer limits first second evidence room ≡ verified.Refused r → outcome (refusalWord r) ≡ 0
+module _ (limits : Limits) (first second evidence : List ℕ) (room : ℕ) where
+  abbrev answer : Verified
+  answer = verifyAnswer limits first second evidence room
+
+  abbrev word : ℕ
+  word = verifyWord limits first second evidence room
+
+  refusal-zero : (r : Refusal) → answer ≡ verified.Refused r → outcome (refusalWord r) ≡ 0
   refusal-zero r e =
       ⊎-elim (known-zero r) (λ h. concerns-zero r Evidence 16 23 h (omega arith) refl) (verify-refusal limits first second evidence room r e)
 
-  map-word : (v : Verified) → verifyAnswer limits first second evidence room ≡ v →
-      outcome (verifiedWord v) ≡ outcomeYes → v ≡ verified.MapTaken
+  map-word : (v : Verified) → answer ≡ v → outcome (verifiedWord v) ≡ outcomeYes → v ≡ verified.MapTaken
   map-word verified.MapTaken e h = refl
   map-word verified.RefutationTaken e h = absurd (omega arith)
   map-word (verified.Refused r) e h = absurd (omega (arith, h, refusal-zero r e))
 
-  refutation-word : (v : Verified) → verifyAnswer limits first second evidence room ≡ v →
+  refutation-word : (v : Verified) → answer ≡ v →
       outcome (verifiedWord v) ≡ outcomeNo → v ≡ verified.RefutationTaken
   refutation-word verified.MapTaken e h = absurd (omega arith)
   refutation-word verified.RefutationTaken e h = refl
   refutation-word (verified.Refused r) e h = absurd (omega (arith, h, refusal-zero r e))
 
-  -- outcome 1, whatever the bytes: there is room, the pair is acceptable, and the evidence is a map of it
-  pub verify-map : outcome (verifyWord limits first second evidence room) ≡ outcomeYes →
-      (workSize limits ≤ room) × Acceptable limits first second × MapOf limits first second evidence
-  unfolding verifyWord
-  verify-map h =
-      let taken = map-word (verifyAnswer limits first second evidence room) refl h in
-      let (enough, pair, answer) = verify-taken limits first second evidence room verified.MapTaken map-no-refusal taken in
-      (enough, pair, map-taken limits first second evidence bounded pair .0 answer)
-
-  pub verify-refutation : outcome (verifyWord limits first second evidence room) ≡ outcomeNo →
-      (workSize limits ≤ room) × Acceptable limits first second × RefutationOf limits first second evidence
-  unfolding verifyWord
-  verify-refutation h =
-      let taken = refutation-word (verifyAnswer limits first second evidence room) refl h in
-      let (enough, pair, answer) = verify-taken limits first second evidence room verified.RefutationTaken refutation-no-refusal taken in
-      (enough, pair, refutation-taken limits first second evidence bounded pair .0 answer)
-
-  -- and the reverse
-  module _ (enough : workSize limits ≤ room) (pair : Acceptable limits first second) where
-    pub map-verify : MapOf limits first second evidence →
-        verifyWord limits first second evidence room ≡ verifiedWord verified.MapTaken
+  module _ (bounded : Bounded limits) where
+    -- outcome 1, whatever the bytes: there is room, the pair is acceptable, and the evidence is a map of it
+    pub verify-map : outcome word ≡ outcomeYes →
+        (workSize limits ≤ room) × Acceptable limits first second × MapOf limits first second evidence
     unfolding verifyWord
-    map-verify m =
-        ap verifiedWord
-        (acceptable-verify limits first second evidence room enough pair ∙ map-taken limits first second evidence bounded pair .1 m)
+    verify-map h =
+        let taken = map-word answer refl h in
+        let (enough, pair, same) = verify-taken limits first second evidence room verified.MapTaken map-no-refusal taken in
+        (enough, pair, map-taken limits first second evidence bounded pair .0 same)
 
-    pub refutation-verify : RefutationOf limits first second evidence →
-        verifyWord limits first second evidence room ≡ verifiedWord verified.RefutationTaken
+    pub verify-refutation : outcome word ≡ outcomeNo →
+        (workSize limits ≤ room) × Acceptable limits first second × RefutationOf limits first second evidence
     unfolding verifyWord
-    refutation-verify m =
-        ap verifiedWord
-        (acceptable-verify limits first second evidence room enough pair ∙ refutation-taken limits first second evidence bounded pair .1 m)
+    verify-refutation h =
+        let taken = refutation-word answer refl h in
+        let (enough, pair, same) = verify-taken limits first second evidence room verified.RefutationTaken refutation-no-refusal taken in
+        (enough, pair, refutation-taken limits first second evidence bounded pair .0 same)
 
-  -- a map is taken only if the second covers the first, a refutation only if it does not
-  pub verify-map-subsumed : outcome (verifyWord limits first second evidence room) ≡ outcomeYes →
-      Covers limits second first
-  unfolding verifyWord
-  verify-map-subsumed h =
-      map-covers limits first second evidence room bounded (map-word (verifyAnswer limits first second evidence room) refl h)
+    -- and the reverse
+    module _ (enough : workSize limits ≤ room) (pair : Acceptable limits first second) where
+      pub map-verify : MapOf limits first second evidence → word ≡ verifiedWord verified.MapTaken
+      unfolding verifyWord
+      map-verify m =
+          ap verifiedWord
+          (acceptable-verify limits first second evidence room enough pair ∙ map-taken limits first second evidence bounded pair .1 m)
 
-  pub verify-refutation-not : outcome (verifyWord limits first second evidence room) ≡ outcomeNo →
-      Covers limits second first → ⊥
-  unfolding verifyWord
-  verify-refutation-not h =
-      refutation-fails limits first second evidence room bounded (refutation-word (verifyAnswer limits first second evidence room) refl h)
+      pub refutation-verify : RefutationOf limits first second evidence →
+          word ≡ verifiedWord verified.RefutationTaken
+      unfolding verifyWord
+      refutation-verify m =
+          ap verifiedWord
+          (acceptable-verify limits first second evidence room enough pair ∙ refutation-taken limits first second evidence bounded pair .1 m)
+
+    -- a map is taken only if the second covers the first, a refutation only if it does not
+    pub verify-map-subsumed : outcome word ≡ outcomeYes → Covers limits second first
+    unfolding verifyWord
+    verify-map-subsumed h = map-covers limits first second evidence room bounded (map-word answer refl h)
+
+    pub verify-refutation-not : outcome word ≡ outcomeNo → Covers limits second first → ⊥
+    unfolding verifyWord
+    verify-refutation-not h =
+        refutation-fails limits first second evidence room bounded (refutation-word answer refl h)
 
 -- ---- some evidence: with a work space of the length laid down and for an acceptable pair
 
@@ -172,13 +175,13 @@ module _ (limits : Limits) (first second : List ℕ) (room : ℕ) where
   module _ (bounded : Bounded limits) (enough : workSize limits ≤ room) (pair : Acceptable limits first second) where
     pub verify-some-map : SomeMap ↔ Covers limits second first
     verify-some-map = (
-      λ (e, bytes, h). verify-map-subsumed limits bounded first second e room h,
+      λ (e, bytes, h). verify-map-subsumed limits first second e room bounded h,
       λ c. map-shown (condition-3 limits bounded first second pair .some-map room enough .1 c),
     )
 
     pub verify-some-refutation : SomeRefutation ↔ (Covers limits second first → ⊥)
     verify-some-refutation = (
-      λ (e, bytes, h). verify-refutation-not limits bounded first second e room h,
+      λ (e, bytes, h). verify-refutation-not limits first second e room bounded h,
       λ c. refutation-shown (condition-3 limits bounded first second pair .some-refutation room enough .1 c),
     )
 

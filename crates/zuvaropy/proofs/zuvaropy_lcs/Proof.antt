@@ -20,8 +20,8 @@ common-word-requires c κs =
     let limits = c .before .before .before .before .before .before .before .bench in
     let lcs = c .before .before .before .before .lcs in
     λ n e.
-    length-small (limits .result) (limits .ensures .1) (now (a .first)) (now (a .second)) (length (now (a .work))) (length (now (a .result))) n
-    (sym (lcs .ensures .0) ∙ e)
+    length-small (limits .result) (now (a .first)) (now (a .second)) (length (now (a .work))) (length (now (a .result)))
+    (limits .ensures .1) n (sym (lcs .ensures .0) ∙ e)
 
 same-length : tie.Need-same-length
 same-length c = search needs

@@ -21,8 +21,10 @@ verdict-word-requires c κs =
     let subsumes = c .before .before .before .before .subsumes in
     let given = sym (subsumes .ensures .0) in
     λ n. (
-      λ e. yes-small (limits .result) (limits .ensures .1) (now (a .first)) (now (a .second)) (length (now (a .work))) (length (now (a .result))) n (given ∙ e),
-      λ e. no-small (limits .result) (limits .ensures .1) (now (a .first)) (now (a .second)) (length (now (a .work))) (length (now (a .result))) n (given ∙ e),
+      λ e. yes-small (limits .result) (now (a .first)) (now (a .second)) (length (now (a .work))) (length (now (a .result)))
+          (limits .ensures .1) n (given ∙ e),
+      λ e. no-small (limits .result) (now (a .first)) (now (a .second)) (length (now (a .work))) (length (now (a .result)))
+          (limits .ensures .1) n (given ∙ e),
     )
 
 same-length : tie.Need-same-length
