@@ -23,7 +23,7 @@ returns-2 : tie.Need-returns-2
 unfolding fieldAt
 returns-2 c = rw (sym (c .before .before .before .before .place .ensures), sym (c .before .before .tag .ensures)) (simp (le-leb _ _ (c .before .before .before .if1 .left), sym (c .before .tag-ok .ensures) ∙ not-true _ (c .if2 .taken)))
 
-said-length-requires : tie.Need-length-requires
+said-length-requires : tie.Need-said-length-requires
 said-length-requires c κs = search needs
 
 length-for-requires : tie.Need-length-for-requires
