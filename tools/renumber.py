@@ -1,0 +1,557 @@
+#!/usr/bin/env python3
+"""Repairs proof files after a call, or other code without a loop, was put into a function or taken out of it.
+
+    tools/renumber.py CRATE [MODULE/FUNCTION ..] [--from REV]
+
+Of all functions of a crate, or of those named; a cycle of calls is named by the folder of its proof, as grow/+graft+graft_row.
+The places of the code as it stands (`rt dev CRATE --generated`) are set against those of the code that the file was written
+for: the code of the last run, else that of REV (HEAD). Then, in each file that does not fit the code any more,
+- every path `c .before .. .THING`, bare or bound by a `let`, is counted anew and has the thing's new name,
+- needs get their new names (`cast-t9`, `returns-2`), new ones the answer `search needs`, and those that are gone go,
+- the loop's locals in `Inv-..` and `μ-..`, the claims, parameters in the measures of a cycle, and `use` lines follow.
+What is left to do by hand is printed: a path whose place is gone, a choice between two equal places, the parts `.0 .1 ..` of
+`.came` where the ways of a branch have changed, a loop more or less, and new needs that `search needs` does not close. A file that
+fits is left as it is. The crates below have to be proved; where one of them has changed too, so that REV's code does not
+fit it, run this once before the change, which keeps the places in target/renumber.
+"""
+import difflib
+import glob
+import json
+import os
+import re
+import shutil
+import subprocess
+import sys
+import tempfile
+
+from check_times import OWN, ROOT, check_words
+
+PATH = re.compile(r'(?<![\w·.-])c((?: \.before)*)(?: \.([\w·-]+))?(?![\w·-])')
+CALLED = re.compile(r'(pos = |vAt |vLit |Row\.get )(\d+)')
+
+
+def read(path):
+    with open(path, encoding='utf8') as f:
+        return f.read()
+
+
+def plain(text):
+    """A text without line breaks and what they bring with them, to be compared."""
+    return re.sub(r',? ?\)', ')', re.sub(r'\( ', '(', ' '.join(text.split())))
+
+
+def word(names):
+    """A name that stands by itself, and is not read as a field."""
+    return re.compile(r'(?<![\w·.-])(' + '|'.join(map(re.escape, sorted(names, key=len, reverse=True))) + r')(?![\w·-])')
+
+
+# The places of a function, from its generated Lts file.
+
+def signature(text, parameters):
+    """What a step does with which parameters and numbers: its other locals are counted, and so say nothing."""
+    return [a + (b if a == 'vLit ' or int(b) <= parameters else '') for a, b in CALLED.findall(text)]
+
+
+def places(lts):
+    """The places and needs of an Lts file in their order; the parameters; how many arguments each loop has, and the claims."""
+    text = read(lts)
+    found = {'items': [], 'before': {}, 'fields': {}, 'at': {}, 'came': {}, 'args': [], 'loops': {}, 'claims': 0}
+    own, steps = {}, {}
+    for part in text.split('\n\n'):
+        step = re.match(r'\s+abbrev (s\d+) :', part)
+        of = re.search(r'(?m)^ +(?:pub record|abbrev pub) (\S+)·own :', part)
+        record = re.match(r'\s+pub record (\S+) : Type 0 where', part)
+        need = re.match(r'\s+abbrev pub Need-(\S+) :', part)
+        loop = re.match(r'abbrev pub InvT-(\S+) :', part)
+        if step:
+            steps[step[1]] = part
+        elif of:
+            own[of[1]] = part
+        elif re.search(r'(?m)^ +pub record Args :', part):
+            found['args'] = re.findall(r'(?m)^ +pub (\S+) :', part)
+        elif record:
+            fields = dict(re.findall(r'(?m)^ +pub (\S+) : (\S+)', part))
+            found['before'][record[1]] = fields.pop('before', None)
+            found['fields'][record[1]] = list(fields)
+            text = own.get(record[1], '')
+            arms = text.partition('pub came :')[2]
+            if arms:
+                found['came'][record[1]] = re.findall(r'\(\S+ : (\S+)·own', arms)
+            called = signature(re.sub(r'\(m\d+ .*', '', text, flags=re.S), len(found['args']))
+            found['items'].append(['place', record[1], re.sub(r'\d+$', '', record[1]), called])
+        elif need:
+            found['at'][need[1]] = re.search(r'\(c : (\S+?)\)', part)[1]
+            stem = re.sub(r'-t\d+$', '-t', re.sub(r'-\d+$', '', need[1]))
+            asks = steps.get((re.search(r'\b(s\d+) \.asks', part) or [''])[0].partition(' ')[0], '')
+            found['items'].append(['need', need[1], stem, signature(asks, len(found['args']))])
+        elif loop:
+            found['loops'][loop[1]] = part.count('→')
+        elif part.startswith('abbrev pub Claims :'):
+            found['claims'] = len(re.findall(r'Kinds\.(?:In|Out)\b', part))
+    return found
+
+
+def chain(table, place):
+    """A place and those on the way to it, nearest first."""
+    way = []
+    while place:
+        way.append(place)
+        place = table['before'].get(place)
+    return way
+
+
+def aligned(old, new, late):
+    """Which place or need of the new code is which of the old; of equal ones the later or the earlier."""
+    a, b = (old, new) if late else (old[::-1], new[::-1])
+    best = [[0] * (len(b) + 1) for _ in range(len(a) + 1)]
+
+    def value(i, j):
+        x, y = a[i], b[j]
+        return 0 if x[0] != y[0] or x[2] != y[2] else 3 if x[3] == y[3] else 2
+
+    for i in range(len(a) - 1, -1, -1):
+        for j in range(len(b) - 1, -1, -1):
+            same = value(i, j)
+            best[i][j] = max(best[i + 1][j], best[i][j + 1], best[i + 1][j + 1] + same if same else 0)
+    pairs, i, j = {}, 0, 0
+    while i < len(a) and j < len(b):
+        if best[i][j] == best[i][j + 1]:
+            j += 1
+        elif best[i][j] == best[i + 1][j]:
+            i += 1
+        else:
+            pairs[a[i][0], a[i][1]] = b[j][1]
+            i, j = i + 1, j + 1
+    return pairs
+
+
+# What the code says: places of all functions, and the lines that a check prints for a function without a file.
+
+def proof_files(crate, folder):
+    """The functions and cycles that have a proof file, by their folders."""
+    files = glob.glob(f'{folder}/proofs/**/Proof.antt', recursive=True)
+    return sorted(os.path.relpath(os.path.dirname(f), f'{folder}/proofs') for f in files)
+
+
+def stub(crate, folder, function):
+    """In the place of a proof: nothing is proved when places are asked for."""
+    inner = '' if os.path.basename(function).startswith('+') else '.Statement'
+    name = re.search(r'(?m)^pub (\S+-spec) :', read(f'{folder}/proofs/{function}/Proof.antt'))[1]
+    module = f"Rattle.{crate}.proofs.{function.replace('/', '.')}{inner}"
+    return f'use {module}.{{statement}}\n\npub {name} : {{M : Type 1}} → statement M\n{name} = ?\n'
+
+
+def bare_crate(crate, source, folder):
+    """Copies a crate with its proofs replaced by stubs; gives them."""
+    for part in ('src', 'specs'):
+        if os.path.isdir(f'{source}/{part}'):
+            shutil.copytree(f'{source}/{part}', f'{folder}/{part}')
+    stubs = {f: stub(crate, source, f) for f in proof_files(crate, source)}
+    for function in stubs:
+        put_stub(folder, function, stubs)
+    return stubs
+
+
+def put_stub(folder, function, stubs):
+    os.makedirs(f'{folder}/proofs/{function}', exist_ok=True)
+    with open(f'{folder}/proofs/{function}/Proof.antt', 'w', encoding='utf8') as f:
+        f.write(stubs[function])
+
+
+def checked(crate, folder, *words):
+    run = subprocess.run([f'{OWN}/bin/rattle', 'check', *check_words(crate, f'{folder}/src'), *words],
+                         stdout=subprocess.PIPE, stderr=subprocess.STDOUT, text=True)
+    return run.stdout
+
+
+def code_places(crate, source):
+    """For each function with a proof file its places, by the member of the cycle ('' outside a cycle)."""
+    with tempfile.TemporaryDirectory() as folder:
+        stubs = bare_crate(crate, source, folder)
+        said = checked(crate, folder, '--generated', f'{folder}/out')
+        tables = {}
+        for function in stubs:
+            base = f'{folder}/out/Rattle.{crate}.proofs/proofs/{function}'
+            files = glob.glob(glob.escape(base) + '/Lts*.antt')
+            tables[function] = {os.path.basename(f)[3:-5].lstrip('-'): places(f) for f in files}
+        if not any(tables.values()):
+            print(re.sub(r'(?s)(.{600}).*', r'\1 ..', said), file=sys.stderr)
+        return tables
+
+
+def committed_places(crate, revision):
+    with tempfile.TemporaryDirectory() as folder:
+        archive = subprocess.run(['git', 'archive', revision, f'crates/{crate}'], cwd=ROOT, capture_output=True, check=True)
+        subprocess.run(['tar', 'x', '-C', folder], input=archive.stdout, check=True)
+        return code_places(crate, f'{folder}/crates/{crate}')
+
+
+def printed(crate, functions):
+    """The file that a check prints for each function, as if it had none."""
+    texts = {}
+    with tempfile.TemporaryDirectory() as folder:
+        stubs = bare_crate(crate, f'{ROOT}/crates/{crate}', folder)
+        while set(functions) - set(texts):
+            for function in functions:
+                if function in texts:
+                    put_stub(folder, function, stubs)
+                else:
+                    shutil.rmtree(f'{folder}/proofs/{function}', ignore_errors=True)
+            said = checked(crate, folder, '--allow-holes')
+            more = {os.path.relpath(os.path.dirname(p), f'{folder}/proofs'): re.sub(r'(?m)^    ', '', body)
+                    for p, body in re.findall(r'(?m)^help: write (\S+) with these lines.*\n((?:    .*\n| *\n)+)', said)}
+            if not set(more) & set(functions) - set(texts):
+                break
+            texts.update(more)
+    return texts
+
+
+# A proof file: its parts begin at the margin.
+
+def parts_of(text):
+    return re.split(r'(?m)^(?=\S)', text)
+
+
+def declared(part):
+    """The name that a part gives the type of."""
+    found = re.match(r'(?:(?:abbrev|pub|unfoldable) )*(\S+) :(?=\s)', part)
+    return found[1] if found and not part.startswith(('use ', '--')) else None
+
+
+class Names:
+    """How the file names the members of a cycle; outside a cycle there is one, ''."""
+    def __init__(self, text):
+        self.lts = {n: f for f, n in re.findall(r'(?m)^use \S+\.Lts-(\S+) as (\S+)-lts$', text)}
+
+    def member(self, part):
+        """The member and the need or the place that a part's type is about; the member by its file."""
+        need = re.match(r'\S+ :\s+(?:\(t : ℕ\) → )?(?:tie|(\S+)-lts)\.Need-(\S+)', part)
+        place = re.match(r'\S+ :\s+(?:\(t : ℕ\) )?\(c : (?:tie|(\S+)-lts)\.([^\s)]+)', part)
+        found = need or place
+        if not found:
+            return None
+        return 'need' if need else 'place', self.lts.get(found[1], '') if found[1] else '', found[2]
+
+    def prefix(self, member):
+        return next((n + '-' for n, f in self.lts.items() if f == member), '')
+
+
+def answers(text):
+    """Each part with what it answers: its kind, member and need or place; None where it has no paths."""
+    names, current, result = Names(text), None, []
+    for part in parts_of(text):
+        if declared(part):
+            current = names.member(part)
+        result.append((part, current if not part.startswith(('use ', '--')) else None))
+    return result
+
+
+def halves(part):
+    """What stands before the paths of a part, and the rest."""
+    if declared(part):
+        found = re.match(r'\S+ :\s+(?:\(t : ℕ\) )?\(c : [^)]*\)', part)
+        return (found[0], part[found.end():]) if found else (part, '')
+    head, sign, body = part.partition('=')
+    return (head + sign, body) if re.match(r'\S+ (t )?c\b', part) else (part, '')
+
+
+def heads(text):
+    """The arguments of each loop's invariant and measure."""
+    found = re.findall(r'(?m)^((?:\S+-)?(?:Inv|μ)-\S+) (.*) =(?=\s)', text)
+    return {n: a.split() for n, a in found if a != 'κs a'}
+
+
+def fits(text, tables):
+    """Whether needs, paths, arguments of invariants and claims of a file are those of the code."""
+    names = Names(text)
+    needs = {(n[1], n[2]) for n in map(names.member, parts_of(text)) if n and n[0] == 'need'}
+    if needs != {(m, n) for m in tables for n in tables[m]['at']}:
+        return False
+    for part, of in answers(text):
+        if not of:
+            continue
+        table = tables.get(of[1], {'at': {}, 'before': {}, 'fields': {}})
+        place = table['at'].get(of[2]) if of[0] == 'need' else of[2]
+        way = chain(table, place)
+        for before, thing in PATH.findall(halves(part)[1]):
+            at = before.count('.before')
+            if at >= len(way) or thing and thing not in table['fields'].get(way[at], []):
+                return False
+    for member, table in tables.items():
+        for loop, arity in table['loops'].items():
+            arguments = heads(text).get(f'{names.prefix(member)}Inv-{loop}')
+            if arguments is None or len(arguments) != arity:
+                return False
+        claims = re.search(rf"(?m)^{re.escape(names.prefix(member))}claims t =\s+\(([^=]*)\)\n", text)
+        if claims and len(claims[1].rstrip(', \n').split(',')) != table['claims']:
+            return False
+    return True
+
+
+class Move:
+    """What of a member's old places and needs is what of its new ones."""
+    def __init__(self, old, new):
+        self.old, self.new = old, new
+        self.to = aligned(old['items'], new['items'], True)
+        other = aligned(old['items'], new['items'], False)
+        self.unsure = {k for k in self.to if other.get(k) != self.to[k]} | {k for k in other if k not in self.to}
+
+    def place(self, place):
+        return self.to.get(('place', place))
+
+    def thing(self, place, thing):
+        was, now = self.old['fields'][place], self.new['fields'][self.place(place)]
+        if thing in now and len(now) > 1:
+            return thing
+        return now[was.index(thing)] if thing in was and len(was) == len(now) else None
+
+    def came_changed(self, place):
+        old = [self.place(p) for p in self.old['came'].get(place, [])]
+        return old != self.new['came'].get(self.place(place), [])
+
+
+def moved(body, move, old_way, new_way, say):
+    """An answer with its paths counted anew."""
+    lets = dict(re.findall(r'let (\S+) = c(?: \.before)* \.(\S+) in', body))
+    renamed = {}
+
+    def path(p):
+        at = p[1].count('.before')
+        place = old_way[at] if at < len(old_way) else None
+        now = move.place(place)
+        thing = p[2] and now and move.thing(place, p[2])
+        if now not in new_way or p[2] and not thing:
+            say(f'`{p[0]}` has no place any more ({place})')
+            return p[0]
+        if ('place', place) in move.unsure:
+            say(f'`{p[0]}` ({place}) was taken for {now}; there is another like it')
+        if re.match(r' \.came\b', p.string[p.end():]) and move.came_changed(place):
+            say(f'`.came` of {p[2]}: the ways to it have changed')
+        if thing and thing != p[2] and lets.get(p[2]) == p[2]:
+            renamed[p[2]] = thing
+        result = 'c' + ' .before' * new_way.index(now) + (f' .{thing}' if thing else '')
+        return f'({result})' if p[0] == 'c' and result != 'c' else result
+
+    body = PATH.sub(path, body).replace('(c)', 'c')
+    taken = set(word(renamed.values()).findall(body)) - set(renamed) if renamed else set()
+    if renamed and not taken:
+        body = word(renamed).sub(lambda m: renamed[m[1]], body)
+    return body
+
+
+class Printed:
+    """The lines that the check prints for a file: types, clauses, `use` lines, and the needs of each member in order."""
+    def __init__(self, text, kept):
+        aliases = dict(re.findall(r'(?m)^use (\S+) as (\S+)$', kept))
+        self.uses = re.findall(r'(?m)^use .*', text)
+        for module, alias in re.findall(r'(?m)^use (\S+) as (\S+)$', text):
+            if aliases.get(module, alias) != alias:
+                text = word([alias]).sub(aliases[module], text)
+        self.types, self.clauses, names = {}, {}, Names(text)
+        self.needs = {}
+        for part in parts_of(text):
+            name = declared(part)
+            if name:
+                self.types[name] = part
+                of = names.member(part)
+                if of:
+                    self.needs.setdefault(of[1], []).append(name)
+            elif not part.startswith(('use ', '--')):
+                self.clauses[part.split()[0]] = part
+        self.arguments = heads(text)
+
+    def claims(self, member, prefix):
+        """The tuple of a member's claims, as its needs have it."""
+        found = re.search(r'\.Need-\S+ \((.*)\) \(\S+-at t\)', plain(self.types[self.needs[member][0]]))
+        return found[1] if found and prefix else None
+
+    def type_of(self, name, member, prefix, short):
+        """The type of a need in one line, with the claims by their name where the file has one."""
+        text = plain(self.types[name])
+        return text.replace(f'({self.claims(member, prefix)})', f'({prefix}claims t)') if prefix and short else text
+
+
+def with_arguments(text, name, new, say):
+    """The clause of an invariant or measure, with the arguments that the code gives it."""
+    found = re.search(rf'(?m)^{re.escape(name)} (.*) =(?=\s)((?:.*\n)(?:\s.*\n|\n)*)', text)
+    old, result = found[1].split(), []
+    for kind, a, b, c, d in difflib.SequenceMatcher(None, old, new, autojunk=False).get_opcodes():
+        if kind in ('equal', 'replace') and b - a == d - c:
+            result += old[a:b]
+            continue
+        used = [n for n in old[a:b] if word([n]).search(found[2])]
+        if used:
+            say(f"{name}: {' '.join(used)} is now {' '.join(new[c:d]) or 'gone'}")
+        shadows = [n for n in new[c:d] if word([n]).search(found[2])]
+        if shadows:
+            say(f"{name}: the new argument {' '.join(shadows)} hides what its body names")
+        result += new[c:d]
+    return text[:found.start(1)] + ' '.join(result) + text[found.end(1):]
+
+
+def with_parameters(text, name, old, new, say):
+    """The measure of a member of a cycle, which names parameters by their position."""
+    def path(p):
+        was = old[p[0].count('.1')] if p[0].count('.1') < len(old) else None
+        if was in new:
+            return 'a' + ' .1' * new.index(was) + ' .0'
+        say(f'{name}: `{p[0]}` is no parameter any more')
+        return p[0]
+
+    return re.sub(rf'(?m)^{re.escape(name)} κs a =.*\n(?:\s.*\n)*',
+                  lambda m: re.sub(r'(?<![\w·.-])a((?: \.1)*) \.0(?![\w·-])', path, m[0]), text)
+
+
+def with_uses(text, lines, dropped):
+    """`use` lines for what the repaired text names, and none for callees that it does not name any more."""
+    body = '\n'.join(line for line in text.split('\n') if not line.startswith('use '))
+    have = re.findall(r'(?m)^use .*', text)
+    previous = None
+    for line in lines:
+        alias = re.match(r'use \S+\.Reads as (\S+)$', line)
+        wanted = alias and word([alias[1]]).search(body) or line.endswith('.{needs}') and 'search needs' in body
+        if line in have:
+            previous = line
+        elif wanted and not any(line.partition(' as ')[0] == h.partition(' as ')[0] for h in have):
+            after = previous or next((h for h in reversed(have) if not h.startswith('use Rattle')), have[-1])
+            text = text.replace(f'\n{after}\n', f'\n{after}\n{line}\n', 1)
+            have.insert(have.index(after) + 1, line)
+            previous = line
+    for line in have if dropped else []:
+        alias = re.match(r'use \S+\.Reads as (\S+)$', line)
+        unused = alias and line not in lines and not word([alias[1]]).search(body)
+        if unused or line == 'use borrow.Author.Needs.{needs}' and not word(['needs']).search(body):
+            text = text.replace(line + '\n', '', 1)
+    return text
+
+
+def repaired(text, old, new, lines, say):
+    """A proof file as the code wants it."""
+    names, show = Names(text), Printed(lines, text)
+    moves = {m: Move(old[m], new[m]) for m in new if m in old}
+    if set(old) != set(new) or set(heads(text)) != set(show.arguments):
+        say('functions of the cycle, or loops, have changed: left as it is')
+        return text
+    renamed, gone = {}, set()
+    for member, move in moves.items():
+        prefix = names.prefix(member)
+        for need in move.old['at']:
+            now = move.to.get(('need', need))
+            if now is None:
+                gone.add(prefix + need)
+            elif now != need:
+                renamed[prefix + need] = prefix + now
+            if now and ('need', need) in move.unsure:
+                say(f'need {need} was taken for {now}; there is another like it')
+    result = []
+    for part, of in answers(text):
+        head, body = halves(part)
+        name = head.split()[0] if head.split() else ''
+        if of and of[0] == 'need' and names.prefix(of[1]) + of[2] in gone:
+            if body.strip() and body.strip() != 'search needs':
+                say(f'need {of[2]} is gone; its answer was:{body.rstrip()}')
+            continue
+        if of:
+            move = moves[of[1]]
+            at, kind = (move.old['at'][of[2]], 'need') if of[0] == 'need' else (of[2], 'place')
+            now = move.to.get((kind, of[2]))
+            if now is None:
+                say(f'{name}: its place {of[2]} is gone')
+            else:
+                way = chain(move.new, move.new['at'][now] if kind == 'need' else now)
+                body = moved(body, move, chain(move.old, at), way, lambda t, n=name: say(f'{n}: {t}'))
+                if kind == 'place':
+                    head = head.replace('.' + of[2], '.' + now)
+                elif kind == 'need' and now != of[2]:
+                    head = head.replace('Need-' + of[2], 'Need-' + now)
+        if renamed and not part.startswith(('use ', '--')):
+            head, body = (word(renamed).sub(lambda m: renamed[m[1]], t) for t in (head, body))
+        result.append(head + body)
+    text = with_needs(''.join(result), names, show, say)
+    return with_rest(text, names, show, moves, bool(gone), say)
+
+
+def with_needs(text, names, show, say):
+    """New needs after the need before them, and all in the order of the code where the proof ends."""
+    for member, needs in show.needs.items():
+        prefix, short = names.prefix(member), f'\nabbrev {names.prefix(member)}claims :' in text
+        parts = parts_of(text)
+        have = [n for n in map(declared, parts) if n in set(needs)]
+        for at, need in enumerate(needs):
+            if need in have:
+                continue
+            clause = ' '.join(show.clauses[need].split()).rpartition(' = ')[0]
+            owner = needs[at - 1] if at else None
+            here = [i for i, part in enumerate(parts) if owner and owner in (declared(part), part.split(' ')[0])]
+            first = next((i for i, part in enumerate(parts) if declared(part) in have), len(parts) - 2)
+            where = here[-1] + 1 if here else first
+            parts[where:where] = [f'{show.type_of(need, member, prefix, short)}\n', f'{clause} = search needs\n\n']
+            say(f'need {need} is new: search needs')
+        text = ''.join(parts)
+        last = re.search(r'(?m)^pub \S+-spec :', text).start()
+        run = r'(?:\s+(?:\((?:%s) t\)|(?:%s)(?![\w·-])))+'
+        known = '|'.join(map(re.escape, sorted(set(needs) | set(have), key=len, reverse=True)))
+        found = re.search(run % (known, known), text[last:])
+        space = re.match(r'\s+', found[0])[0]
+        order = ''.join(space + (f'({n} t)' if prefix else n) for n in needs)
+        if re.findall(known, found[0]) != needs:
+            text = text[:last + found.start()] + order + text[last + found.end():]
+    return text
+
+
+def with_rest(text, names, show, moves, dropped, say):
+    """Invariants, measures, claims and `use` lines."""
+    for name, arguments in show.arguments.items():
+        text = with_arguments(text, name, arguments, say)
+    for member, move in moves.items():
+        prefix = names.prefix(member)
+        if not prefix:
+            continue
+        if move.old['args'] != move.new['args']:
+            text = with_parameters(text, 'μ-' + prefix[:-1], move.old['args'], move.new['args'], say)
+        claims = show.claims(member, prefix)
+        found = re.search(rf'(?m)^{re.escape(prefix)}claims t =\s+\(([^=]*)\)\n', text)
+        if found and plain(found[1]).rstrip(', ') != claims:
+            text = text[:found.start(1)] + claims + text[found.end(1):]
+        for name in (f'μ-{prefix[:-1]}', prefix + 'at', prefix + 'below'):
+            for kept, new in ((part, show.types[name]) for part in parts_of(text) if declared(part) == name):
+                if plain(kept) != plain(new):
+                    text = text.replace(kept, new, 1)
+            for kept in [p for p in parts_of(text) if p.startswith(name + ' t ')]:
+                if plain(kept) != plain(show.clauses[name]):
+                    text = text.replace(kept, show.clauses[name].rstrip('\n') + '\n\n', 1)
+    return with_uses(text, show.uses, dropped)
+
+
+def main():
+    words = sys.argv[1:]
+    revision = words.pop(words.index('--from') + 1) if '--from' in words else 'HEAD'
+    crate, *wanted = [w for w in words if w != '--from']
+    source, kept = f'{ROOT}/crates/{crate}', f'{ROOT}/target/renumber/{crate}.json'
+    new = code_places(crate, source)
+    last = json.loads(read(kept)) if os.path.exists(kept) and '--from' not in words else {}
+    files = {f: read(f'{source}/proofs/{f}/Proof.antt') for f in new if not wanted or f in wanted}
+    todo = [f for f in files if new[f] and not fits(files[f], new[f])]
+    olds = [last] if all(fits(files[f], last.get(f, {})) for f in todo) else [last, committed_places(crate, revision)]
+    lines = printed(crate, todo) if todo else {}
+    for function in todo:
+        old = next((o[function] for o in olds if o.get(function) and fits(files[function], o[function])), None)
+        print(function)
+        if not old or function not in lines:
+            print(f'  not known what it was written for: it fits neither the code of the last run nor that of {revision}'
+                  if not old else '  the check prints no lines for it')
+            new[function] = last.get(function, {})
+            continue
+        text = repaired(files[function], old, new[function], lines[function], lambda t: print('  ' + t))
+        with open(f'{source}/proofs/{function}/Proof.antt', 'w', encoding='utf8') as f:
+            f.write(text)
+        if not fits(text, new[function]):
+            new[function] = old
+    os.makedirs(os.path.dirname(kept), exist_ok=True)
+    with open(kept, 'w', encoding='utf8') as f:
+        json.dump({**last, **new}, f)
+    print(f'{crate}: {len(files)} proof files, {len(todo)} did not fit the code')
+
+
+if __name__ == '__main__':
+    main()
