@@ -209,7 +209,7 @@ def printed(crate, functions):
 # A proof file: its parts begin at the margin.
 
 def parts_of(text):
-    return re.split(r'(?m)^(?=\S)', text)
+    return [p for p in re.split(r'(?m)^(?=[^\s)])', text) if p.strip()]
 
 
 def declared(part):
