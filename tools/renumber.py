@@ -3,16 +3,17 @@
 
     tools/renumber.py CRATE [MODULE/FUNCTION ..] [--from REV]
 
-Of all functions of a crate, or of those named; a cycle of calls is named by the folder of its proof, as grow/+graft+graft_row.
-The places of the code as it stands (`rt dev CRATE --generated`) are set against those of the code that the file was written
-for: the code of the last run, else that of REV (HEAD). Then, in each file that does not fit the code any more,
+Of all functions of a crate, or of those named; a cycle of calls is named by the folder of its proof, as
+grow/+graft+graft_row. The places of the code as it stands (`rt dev CRATE --generated`) are set against those of the
+code that the file was written for: the code of the last run, else that of REV (HEAD). In each file that does not fit,
 - every path `c .before .. .THING`, bare or bound by a `let`, is counted anew and has the thing's new name,
 - needs get their new names (`cast-t9`, `returns-2`), new ones the answer `search needs`, and those that are gone go,
-- the loop's locals in `Inv-..` and `μ-..`, the claims, parameters in the measures of a cycle, and `use` lines follow.
-What is left to do by hand is printed: a path whose place is gone, a choice between two equal places, the parts `.0 .1 ..` of
-`.came` where the ways of a branch have changed, a loop more or less, and new needs that `search needs` does not close. A file that
-fits is left as it is. The crates below have to be proved; where one of them has changed too, so that REV's code does not
-fit it, run this once before the change, which keeps the places in target/renumber.
+- the arguments of `Inv-..` and `μ-..`, the parts `w .0`, `w .1` in `⊎-elim (λ w. ..) (λ w. ..) (c .. .came)`, the
+  claims of a cycle, the parameters in its measures, and `use` lines follow.
+What is left to do by hand is printed: a path whose place is gone, a choice between two equal places, a loop more or
+less, and which needs are new, for `search needs` may not close them. The crates below have to be proved; where one of
+them has changed too, so that REV's code does not fit it, run this once before the change: it keeps the places in
+target/renumber.
 """
 import difflib
 import glob
@@ -40,9 +41,13 @@ def plain(text):
     return re.sub(r',? ?\)', ')', re.sub(r'\( ', '(', ' '.join(text.split())))
 
 
+def any_of(names):
+    return '|'.join(map(re.escape, sorted(names, key=len, reverse=True)))
+
+
 def word(names):
     """A name that stands by itself, and is not read as a field."""
-    return re.compile(r'(?<![\w·.-])(' + '|'.join(map(re.escape, sorted(names, key=len, reverse=True))) + r')(?![\w·-])')
+    return re.compile(rf'(?<![\w·.-])({any_of(names)})(?![\w·-])')
 
 
 # The places of a function, from its generated Lts file.
@@ -52,8 +57,33 @@ def signature(text, parameters):
     return [a + (b if a == 'vLit ' or int(b) <= parameters else '') for a, b in CALLED.findall(text)]
 
 
+def closing(text, at):
+    """Where a bracket that opens at a position is closed, past it."""
+    depth = 0
+    for i in range(at, len(text)):
+        depth += (text[i] in '({') - (text[i] in ')}')
+        if depth == 0:
+            return i + 1
+    return len(text)
+
+
+def ways(text):
+    """Of a branch that has joined again, what each of its two ways went through; '=' for what a variable is by then."""
+    result, at = [], text.find('(')
+    while at >= 0 and len(result) < 2:
+        end = closing(text, at)
+        inner, parts, depth = text[at + 1:end - 1], [''], 0
+        for letter in inner:
+            depth += (letter in '({') - (letter in ')}')
+            parts = parts + [''] if letter == '×' and depth == 0 else parts[:-1] + [parts[-1] + letter]
+        owns = [re.match(r'\(?(?:\S+ : )?(\S+)·own', part.strip()) for part in parts]
+        result.append([own[1] if own else '=' for own in owns])
+        at = text.find('(', end)
+    return result
+
+
 def places(lts):
-    """The places and needs of an Lts file in their order; the parameters; how many arguments each loop has, and the claims."""
+    """The places and needs of an Lts file in order; parameters; how many arguments each loop has, how many claims."""
     text = read(lts)
     found = {'items': [], 'before': {}, 'fields': {}, 'at': {}, 'came': {}, 'args': [], 'loops': {}, 'claims': 0}
     own, steps = {}, {}
@@ -74,9 +104,8 @@ def places(lts):
             found['before'][record[1]] = fields.pop('before', None)
             found['fields'][record[1]] = list(fields)
             text = own.get(record[1], '')
-            arms = text.partition('pub came :')[2]
-            if arms:
-                found['came'][record[1]] = re.findall(r'\(\S+ : (\S+)·own', arms)
+            if 'pub came :' in text:
+                found['came'][record[1]] = ways(text.partition('pub came :')[2])
             called = signature(re.sub(r'\(m\d+ .*', '', text, flags=re.S), len(found['args']))
             found['items'].append(['place', record[1], re.sub(r'\d+$', '', record[1]), called])
         elif need:
@@ -181,8 +210,9 @@ def code_places(crate, source):
 
 def committed_places(crate, revision):
     with tempfile.TemporaryDirectory() as folder:
-        archive = subprocess.run(['git', 'archive', revision, f'crates/{crate}'], cwd=ROOT, capture_output=True, check=True)
-        subprocess.run(['tar', 'x', '-C', folder], input=archive.stdout, check=True)
+        pack = ['git', '-C', ROOT, 'archive', revision, f'crates/{crate}']
+        packed = subprocess.run(pack, stdout=subprocess.PIPE, check=True).stdout
+        subprocess.run(['tar', 'x', '-C', folder], input=packed, check=True)
         return code_places(crate, f'{folder}/crates/{crate}')
 
 
@@ -305,13 +335,64 @@ class Move:
             return thing
         return now[was.index(thing)] if thing in was and len(was) == len(now) else None
 
-    def came_changed(self, place):
-        old = [self.place(p) for p in self.old['came'].get(place, [])]
-        return old != self.new['came'].get(self.place(place), [])
+    def ways(self, place):
+        """The ways to a place where a branch has joined: the old ones by their new names, and the new ones."""
+        old = [['=' if p == '=' else self.place(p) for p in way] for way in self.old['came'].get(place, [])]
+        return old, self.new['came'].get(self.place(place), [])
+
+
+def with_way(function, old, new, say):
+    """A function of one of two ways, `(λ w. ..)`, whose parts `w .0`, `w .1` are counted anew."""
+    variable = re.match(r'\(λ (\S+)\.', function)
+
+    def part(p):
+        at = int(p[1]) if p[1] else 0
+        if variable and at < len(old) and (p[1] is None) == (len(old) == 1):
+            nth = old[:at].count(old[at])
+            found = [i for i, name in enumerate(new) if name == old[at]]
+            if old[at] and nth < len(found):
+                return variable[1] + (f' .{found[nth]}' if len(new) > 1 else '')
+        say(f'`{p[0]}` of `.came` has no part any more')
+        return p[0]
+
+    if not variable:
+        say('the ways of `.came` have changed')
+        return function
+    start = variable.end()
+    name = re.escape(variable[1])
+    return function[:start] + re.sub(rf'(?<![\w·.-]){name}(?: \.(\d+))?(?![\w·-])', part, function[start:])
+
+
+def with_ways(body, move, old_way, say):
+    """An answer in which what came to a branch's end is counted anew."""
+    for use in reversed(list(re.finditer(r'\.came\b', body))):
+        path = re.search(PATH.pattern + r' $', body[:use.start()])
+        at = path[1].count('.before') if path else len(old_way)
+        old, new = move.ways(old_way[at]) if at < len(old_way) else ([], [])
+        if path and old == new:
+            continue
+        spans = []
+        for start in [m.end() for m in re.finditer('⊎-elim', body[:use.start()])]:
+            spans = []
+            while len(spans) < 3 and re.match(r'\s*[({]', body[start:]):
+                start += re.match(r'\s*', body[start:]).end()
+                if body[start] == '(':
+                    spans.append((start, closing(body, start)))
+                start = closing(body, start)
+            if len(spans) == 3 and spans[2][0] < use.start() < spans[2][1]:
+                break
+            spans = []
+        if len(spans) < 3 or len(old) != 2 or len(new) != 2:
+            say(f'`{body[path.start() if path else use.start():use.end()]}`: the ways to it have changed')
+            continue
+        for (start, end), was, now in list(zip(spans, old, new))[::-1]:
+            body = body[:start] + with_way(body[start:end], was, now, say) + body[end:]
+    return body
 
 
 def moved(body, move, old_way, new_way, say):
     """An answer with its paths counted anew."""
+    body = with_ways(body, move, old_way, say)
     lets = dict(re.findall(r'let (\S+) = c(?: \.before)* \.(\S+) in', body))
     renamed = {}
 
@@ -325,8 +406,6 @@ def moved(body, move, old_way, new_way, say):
             return p[0]
         if ('place', place) in move.unsure:
             say(f'`{p[0]}` ({place}) was taken for {now}; there is another like it')
-        if re.match(r' \.came\b', p.string[p.end():]) and move.came_changed(place):
-            say(f'`.came` of {p[2]}: the ways to it have changed')
         if thing and thing != p[2] and lets.get(p[2]) == p[2]:
             renamed[p[2]] = thing
         result = 'c' + ' .before' * new_way.index(now) + (f' .{thing}' if thing else '')
@@ -340,13 +419,13 @@ def moved(body, move, old_way, new_way, say):
 
 
 class Printed:
-    """The lines that the check prints for a file: types, clauses, `use` lines, and the needs of each member in order."""
+    """The lines that the check prints for a file: types, clauses, `use` lines, each member's needs in order."""
     def __init__(self, text, kept):
         aliases = dict(re.findall(r'(?m)^use (\S+) as (\S+)$', kept))
         self.uses = re.findall(r'(?m)^use .*', text)
         for module, alias in re.findall(r'(?m)^use (\S+) as (\S+)$', text):
             if aliases.get(module, alias) != alias:
-                text = word([alias]).sub(aliases[module], text)
+                text = re.sub(rf'(?<![\w·.-]){re.escape(alias)}(?=\.\w)', aliases[module], text)
         self.types, self.clauses, names = {}, {}, Names(text)
         self.needs = {}
         for part in parts_of(text):
@@ -354,7 +433,7 @@ class Printed:
             if name:
                 self.types[name] = part
                 of = names.member(part)
-                if of:
+                if of and of[0] == 'need':
                     self.needs.setdefault(of[1], []).append(name)
             elif not part.startswith(('use ', '--')):
                 self.clauses[part.split()[0]] = part
@@ -445,6 +524,8 @@ def repaired(text, old, new, lines, say):
                 say(f'need {need} was taken for {now}; there is another like it')
     result = []
     for part, of in answers(text):
+        if gone and re.match(r'\S+-spec\b', part):
+            part = re.sub(r'\s+(?:\((?:%s) t\)|(?:%s)(?![\w·-]))' % (any_of(gone), any_of(gone)), '', part)
         head, body = halves(part)
         name = head.split()[0] if head.split() else ''
         if of and of[0] == 'need' and names.prefix(of[1]) + of[2] in gone:
@@ -490,11 +571,11 @@ def with_needs(text, names, show, say):
         text = ''.join(parts)
         last = re.search(r'(?m)^pub \S+-spec :', text).start()
         run = r'(?:\s+(?:\((?:%s) t\)|(?:%s)(?![\w·-])))+'
-        known = '|'.join(map(re.escape, sorted(set(needs) | set(have), key=len, reverse=True)))
+        known = any_of(needs)
         found = re.search(run % (known, known), text[last:])
         space = re.match(r'\s+', found[0])[0]
         order = ''.join(space + (f'({n} t)' if prefix else n) for n in needs)
-        if re.findall(known, found[0]) != needs:
+        if word(needs).findall(found[0]) != needs:
             text = text[:last + found.start()] + order + text[last + found.end():]
     return text
 
@@ -538,8 +619,8 @@ def main():
         old = next((o[function] for o in olds if o.get(function) and fits(files[function], o[function])), None)
         print(function)
         if not old or function not in lines:
-            print(f'  not known what it was written for: it fits neither the code of the last run nor that of {revision}'
-                  if not old else '  the check prints no lines for it')
+            print(f'  left as it is: it fits neither the code of the last run nor that of {revision}'
+                  if not old else '  left as it is: the check prints no lines for it')
             new[function] = last.get(function, {})
             continue
         text = repaired(files[function], old, new[function], lines[function], lambda t: print('  ' + t))
