@@ -110,7 +110,7 @@ def places(lts):
             found['items'].append(['place', record[1], re.sub(r'\d+$', '', record[1]), called])
         elif need:
             found['at'][need[1]] = re.search(r'\(c : (\S+?)\)', part)[1]
-            stem = re.sub(r'-t\d+$', '-t', re.sub(r'-\d+$', '', need[1]))
+            stem = re.sub(r'(-t|-if|^loop|)\d+$', r'\1', re.sub(r'-\d+$', '', need[1]))
             asks = steps.get((re.search(r'\b(s\d+) \.asks', part) or [''])[0].partition(' ')[0], '')
             found['items'].append(['need', need[1], stem, signature(asks, len(found['args']))])
         elif loop:
@@ -255,8 +255,8 @@ class Names:
 
     def member(self, part):
         """The member and the need or the place that a part's type is about; the member by its file."""
-        need = re.match(r'\S+ :\s+(?:\(t : ℕ\) → )?(?:tie|(\S+)-lts)\.Need-(\S+)', part)
-        place = re.match(r'\S+ :\s+(?:\(t : ℕ\) )?\(c : (?:tie|(\S+)-lts)\.([^\s)]+)', part)
+        need = re.match(r'\S+ :\s+(?:\(t : ℕ\) →\s+)?(?:tie|(\S+)-lts)\.Need-(\S+)', part)
+        place = re.match(r'\S+ :\s+(?:\(t : ℕ\)\s+)?\(c : (?:tie|(\S+)-lts)\.([^\s)]+)', part)
         found = need or place
         if not found:
             return None
@@ -279,7 +279,7 @@ def answers(text):
 def halves(part):
     """What stands before the paths of a part, and the rest."""
     if declared(part):
-        found = re.match(r'\S+ :\s+(?:\(t : ℕ\) )?\(c : [^)]*\)', part)
+        found = re.match(r'\S+ :\s+(?:\(t : ℕ\)\s+)?\(c : [^)]*\)', part)
         return (found[0], part[found.end():]) if found else (part, '')
     head, sign, body = part.partition('=')
     return (head + sign, body) if re.match(r'\S+ (t )?c\b', part) else (part, '')
@@ -324,7 +324,14 @@ class Move:
         self.old, self.new = old, new
         self.to = aligned(old['items'], new['items'], True)
         other = aligned(old['items'], new['items'], False)
-        self.unsure = {k for k in self.to if other.get(k) != self.to[k]} | {k for k in other if k not in self.to}
+        self.unsure = {k for k in self.to if other.get(k) != self.to[k]}
+        things = {}
+        for place in old['fields']:
+            if len(old['fields'][place]) == 1 and self.place(place):
+                things.setdefault(old['fields'][place][0], {})[place] = new['fields'][self.place(place)]
+        for of in things.values():   # a test's ways and their end are of one test
+            if any(now != list(of.values())[0] for now in of.values()):
+                self.unsure |= {('place', place) for place in of}
 
     def place(self, place):
         return self.to.get(('place', place))
@@ -363,27 +370,31 @@ def with_way(function, old, new, say):
     return function[:start] + re.sub(rf'(?<![\w·.-]){name}(?: \.(\d+))?(?![\w·-])', part, function[start:])
 
 
+def bracketed(body, start):
+    """Where the bracketed arguments after a position stand; those in braces are left out."""
+    spans = []
+    while re.match(r'\s*[({]', body[start:]):
+        start += re.match(r'\s*', body[start:]).end()
+        if body[start] == '(':
+            spans.append((start, closing(body, start)))
+        start = closing(body, start)
+    return spans
+
+
 def with_ways(body, move, old_way, say):
     """An answer in which what came to a branch's end is counted anew."""
     for use in reversed(list(re.finditer(r'\.came\b', body))):
-        path = re.search(PATH.pattern + r' $', body[:use.start()])
+        bound = re.search(r'([^\s(]+) $', body[:use.start()])
+        path = re.search(PATH.pattern + r' $', body[:use.start()]) or \
+            bound and re.search(rf'let {re.escape(bound[1])} = {PATH.pattern} in', body)
         at = path[1].count('.before') if path else len(old_way)
         old, new = move.ways(old_way[at]) if at < len(old_way) else ([], [])
         if path and old == new:
             continue
-        spans = []
-        for start in [m.end() for m in re.finditer('⊎-elim', body[:use.start()])]:
-            spans = []
-            while len(spans) < 3 and re.match(r'\s*[({]', body[start:]):
-                start += re.match(r'\s*', body[start:]).end()
-                if body[start] == '(':
-                    spans.append((start, closing(body, start)))
-                start = closing(body, start)
-            if len(spans) == 3 and spans[2][0] < use.start() < spans[2][1]:
-                break
-            spans = []
-        if len(spans) < 3 or len(old) != 2 or len(new) != 2:
-            say(f'`{body[path.start() if path else use.start():use.end()]}`: the ways to it have changed')
+        elims = [bracketed(body, m.end())[:3] for m in re.finditer('⊎-elim', body[:use.start()])]
+        spans = next((e for e in elims if len(e) == 3 and e[2][0] < use.start() < e[2][1]), None)
+        if not spans or len(old) != 2 or len(new) != 2:
+            say(f"`{bound[1] if bound else 'c'} .came`: the ways to it have changed")
             continue
         for (start, end), was, now in list(zip(spans, old, new))[::-1]:
             body = body[:start] + with_way(body[start:end], was, now, say) + body[end:]
@@ -486,9 +497,9 @@ def with_uses(text, lines, dropped):
     body = '\n'.join(line for line in text.split('\n') if not line.startswith('use '))
     have = re.findall(r'(?m)^use .*', text)
     previous = None
-    for line in lines:
+    for line in ['use borrow.Author.Needs.{needs}'] + lines:
         alias = re.match(r'use \S+\.Reads as (\S+)$', line)
-        wanted = alias and word([alias[1]]).search(body) or line.endswith('.{needs}') and 'search needs' in body
+        wanted = word([alias[1]]).search(body) if alias else line.endswith('.{needs}') and 'search needs' in body
         if line in have:
             previous = line
         elif wanted and not any(line.partition(' as ')[0] == h.partition(' as ')[0] for h in have):
@@ -504,13 +515,8 @@ def with_uses(text, lines, dropped):
     return text
 
 
-def repaired(text, old, new, lines, say):
-    """A proof file as the code wants it."""
-    names, show = Names(text), Printed(lines, text)
-    moves = {m: Move(old[m], new[m]) for m in new if m in old}
-    if set(old) != set(new) or set(heads(text)) != set(show.arguments):
-        say('functions of the cycle, or loops, have changed: left as it is')
-        return text
+def renamings(moves, names, say):
+    """The needs that have another name now, and those that are gone."""
     renamed, gone = {}, set()
     for member, move in moves.items():
         prefix = names.prefix(member)
@@ -521,63 +527,79 @@ def repaired(text, old, new, lines, say):
             elif now != need:
                 renamed[prefix + need] = prefix + now
             if now and ('need', need) in move.unsure:
-                say(f'need {need} was taken for {now}; there is another like it')
+                say(f'need {prefix}{need} was taken for {prefix}{now}; there is another like it')
+    return renamed, gone
+
+
+def with_place(part, of, move, say):
+    """A need's type or answer, or a helper over a place, for the place that it is at now."""
+    (head, body), (kind, _, name) = halves(part), of
+    now = move.to.get((kind, name))
+    if now is None:
+        say(f'its place {name} is gone')
+        return part
+    way = chain(move.new, move.new['at'][now] if kind == 'need' else now)
+    body = moved(body, move, chain(move.old, move.old['at'][name] if kind == 'need' else name), way, say)
+    mark = 'Need-' if kind == 'need' else '.'
+    return (head.replace(mark + name, mark + now) if now != name else head) + body
+
+
+def repaired(text, old, new, lines, say):
+    """A proof file as the code wants it."""
+    names, show = Names(text), Printed(lines, text)
+    if set(old) != set(new) or set(heads(text)) != set(show.arguments):
+        say('functions of the cycle, or loops, have changed: left as it is')
+        return text
+    moves = {m: Move(old[m], new[m]) for m in new}
+    renamed, gone = renamings(moves, names, say)
+    listed = re.compile(r'\s+(?:\((?:%s) t\)|(?:%s)(?![\w·-]))' % (any_of(gone), any_of(gone)))
     result = []
     for part, of in answers(text):
-        if gone and re.match(r'\S+-spec\b', part):
-            part = re.sub(r'\s+(?:\((?:%s) t\)|(?:%s)(?![\w·-]))' % (any_of(gone), any_of(gone)), '', part)
-        head, body = halves(part)
-        name = head.split()[0] if head.split() else ''
         if of and of[0] == 'need' and names.prefix(of[1]) + of[2] in gone:
-            if body.strip() and body.strip() != 'search needs':
-                say(f'need {of[2]} is gone; its answer was:{body.rstrip()}')
+            answer = halves(part)[1].strip()
+            if answer not in ('', 'search needs'):
+                say(f'need {names.prefix(of[1])}{of[2]} is gone; its answer was: {answer}')
             continue
+        if gone and re.match(r'\S+-spec\b', part):
+            part = listed.sub('', part)
         if of:
-            move = moves[of[1]]
-            at, kind = (move.old['at'][of[2]], 'need') if of[0] == 'need' else (of[2], 'place')
-            now = move.to.get((kind, of[2]))
-            if now is None:
-                say(f'{name}: its place {of[2]} is gone')
-            else:
-                way = chain(move.new, move.new['at'][now] if kind == 'need' else now)
-                body = moved(body, move, chain(move.old, at), way, lambda t, n=name: say(f'{n}: {t}'))
-                if kind == 'place':
-                    head = head.replace('.' + of[2], '.' + now)
-                elif kind == 'need' and now != of[2]:
-                    head = head.replace('Need-' + of[2], 'Need-' + now)
+            part = with_place(part, of, moves[of[1]], lambda t, n=part.split()[0]: say(f'{n}: {t}'))
         if renamed and not part.startswith(('use ', '--')):
-            head, body = (word(renamed).sub(lambda m: renamed[m[1]], t) for t in (head, body))
-        result.append(head + body)
-    text = with_needs(''.join(result), names, show, say)
+            part = word(renamed).sub(lambda m: renamed[m[1]], part)
+        result.append(part)
+    text = ''.join(result)
+    for member in show.needs:
+        text = with_order(with_needs(text, member, names, show, say), member, names, show)
     return with_rest(text, names, show, moves, bool(gone), say)
 
 
-def with_needs(text, names, show, say):
-    """New needs after the need before them, and all in the order of the code where the proof ends."""
-    for member, needs in show.needs.items():
-        prefix, short = names.prefix(member), f'\nabbrev {names.prefix(member)}claims :' in text
-        parts = parts_of(text)
-        have = [n for n in map(declared, parts) if n in set(needs)]
-        for at, need in enumerate(needs):
-            if need in have:
-                continue
-            clause = ' '.join(show.clauses[need].split()).rpartition(' = ')[0]
-            owner = needs[at - 1] if at else None
-            here = [i for i, part in enumerate(parts) if owner and owner in (declared(part), part.split(' ')[0])]
-            first = next((i for i, part in enumerate(parts) if declared(part) in have), len(parts) - 2)
-            where = here[-1] + 1 if here else first
-            parts[where:where] = [f'{show.type_of(need, member, prefix, short)}\n', f'{clause} = search needs\n\n']
-            say(f'need {need} is new: search needs')
-        text = ''.join(parts)
-        last = re.search(r'(?m)^pub \S+-spec :', text).start()
-        run = r'(?:\s+(?:\((?:%s) t\)|(?:%s)(?![\w·-])))+'
-        known = any_of(needs)
-        found = re.search(run % (known, known), text[last:])
-        space = re.match(r'\s+', found[0])[0]
-        order = ''.join(space + (f'({n} t)' if prefix else n) for n in needs)
-        if word(needs).findall(found[0]) != needs:
-            text = text[:last + found.start()] + order + text[last + found.end():]
-    return text
+def with_needs(text, member, names, show, say):
+    """New needs, each after the need that stands before it in the code."""
+    prefix, needs = names.prefix(member), show.needs[member]
+    short, parts = f'\nabbrev {prefix}claims :' in text, parts_of(text)
+    have = [n for n in map(declared, parts) if n in needs]
+    for at, need in enumerate(needs):
+        if need in have:
+            continue
+        clause = ' '.join(show.clauses[need].split()).rpartition(' = ')[0]
+        here = [i for i, part in enumerate(parts) if at and needs[at - 1] in (declared(part), part.split(' ')[0])]
+        first = next((i for i, part in enumerate(parts) if declared(part) in have), len(parts) - 2)
+        where = here[-1] + 1 if here else first
+        parts[where:where] = [f'{show.type_of(need, member, prefix, short)}\n', f'{clause} = search needs\n\n']
+        say(f'need {need} is new: search needs')
+    return ''.join(parts)
+
+
+def with_order(text, member, names, show):
+    """The list of a member's needs at the end of the proof, in the order of the code."""
+    needs = show.needs[member]
+    last = re.search(r'(?m)^pub \S+-spec :', text).start()
+    found = re.search(r'(?:\s+(?:\((?:%s) t\)|(?:%s)(?![\w·-])))+' % (any_of(needs), any_of(needs)), text[last:])
+    if word(needs).findall(found[0]) == needs:
+        return text
+    space = re.match(r'\s+', found[0])[0]
+    order = ''.join(space + (f'({n} t)' if names.prefix(member) else n) for n in needs)
+    return text[:last + found.start()] + order + text[last + found.end():]
 
 
 def with_rest(text, names, show, moves, dropped, say):
@@ -610,12 +632,15 @@ def main():
     crate, *wanted = [w for w in words if w != '--from']
     source, kept = f'{ROOT}/crates/{crate}', f'{ROOT}/target/renumber/{crate}.json'
     new = code_places(crate, source)
+    if not any(new.values()):
+        sys.exit(f'{crate}: the code has no places')
     last = json.loads(read(kept)) if os.path.exists(kept) and '--from' not in words else {}
     files = {f: read(f'{source}/proofs/{f}/Proof.antt') for f in new if not wanted or f in wanted}
     todo = [f for f in files if new[f] and not fits(files[f], new[f])]
     olds = [last] if all(fits(files[f], last.get(f, {})) for f in todo) else [last, committed_places(crate, revision)]
     lines = printed(crate, todo) if todo else {}
     for function in todo:
+        said = []
         old = next((o[function] for o in olds if o.get(function) and fits(files[function], o[function])), None)
         print(function)
         if not old or function not in lines:
@@ -623,11 +648,10 @@ def main():
                   if not old else '  left as it is: the check prints no lines for it')
             new[function] = last.get(function, {})
             continue
-        text = repaired(files[function], old, new[function], lines[function], lambda t: print('  ' + t))
+        text = repaired(files[function], old, new[function], lines[function], said.append)
+        print(*(f'  {t}' for t in dict.fromkeys(said)), sep='\n')
         with open(f'{source}/proofs/{function}/Proof.antt', 'w', encoding='utf8') as f:
             f.write(text)
-        if not fits(text, new[function]):
-            new[function] = old
     os.makedirs(os.path.dirname(kept), exist_ok=True)
     with open(kept, 'w', encoding='utf8') as f:
         json.dump({**last, **new}, f)
