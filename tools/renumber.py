@@ -54,7 +54,8 @@ def word(names):
 
 def signature(text, parameters):
     """What a step does with which parameters and numbers: its other locals are counted, and so say nothing."""
-    return [a + (b if a == 'vLit ' or int(b) <= parameters else '') for a, b in CALLED.findall(text)]
+    names = {str(i + 1): name for i, name in enumerate(parameters)}
+    return [a + (b if a == 'vLit ' else names.get(b, '')) for a, b in CALLED.findall(text)]
 
 
 def closing(text, at):
@@ -106,13 +107,13 @@ def places(lts):
             text = own.get(record[1], '')
             if 'pub came :' in text:
                 found['came'][record[1]] = ways(text.partition('pub came :')[2])
-            called = signature(re.sub(r'\(m\d+ .*', '', text, flags=re.S), len(found['args']))
+            called = signature(re.sub(r'\(m\d+ .*', '', text, flags=re.S), found['args'])
             found['items'].append(['place', record[1], re.sub(r'\d+$', '', record[1]), called])
         elif need:
             found['at'][need[1]] = re.search(r'\(c : (\S+?)\)', part)[1]
             stem = re.sub(r'(-t|-if|^loop|)\d+$', r'\1', re.sub(r'-\d+$', '', need[1]))
             asks = steps.get((re.search(r'\b(s\d+) \.asks', part) or [''])[0].partition(' ')[0], '')
-            found['items'].append(['need', need[1], stem, signature(asks, len(found['args']))])
+            found['items'].append(['need', need[1], stem, signature(asks, found['args'])])
         elif loop:
             found['loops'][loop[1]] = part.count('→')
         elif part.startswith('abbrev pub Claims :'):
