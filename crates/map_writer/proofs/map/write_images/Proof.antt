@@ -36,7 +36,7 @@ next-image-requires c κs =
     let back : (k : ℕ) → k < l .i → imageOf (l .out) k ≡ images k =
     λ k b. rw (l .inv .1 .0) (images-read images (now (a .out)) (l .i) k (omega (arith, pre .1 .1 .1)) b
     (omega (arith, pre .0 .most, image-below (pre .0) (pre .1 .0) (pre .1 .1 .0) k (omega arith)))) in
-    (pre .0, (pre .1 .0, (pre .1 .1 .0, (c .before .loop-test .taken, (omega (arith, l .inv, pre .1 .1 .1), back)))))
+    (pre .0, (pre .1 .0, (pre .1 .1 .0, (omega arith, (omega (arith, l .inv, pre .1 .1 .1), back)))))
 
 cast-t15 : tie.Need-cast-t15 Inv-loop μ-loop
 cast-t15 c = search needs
