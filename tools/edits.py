@@ -3,8 +3,8 @@
 
     tools/edits.py CRATE[/EDIT] ..
 
-The crates have to be proved (`rt check`). Prints a line for each edit: whether it was refused, how long that took, and the
-first error, which should be about a fact that is false with the edit.
+The crates have to be proved (`rt check`). Prints a line for each edit: whether it was refused, how long that took, and by
+which statement first, as tools/refusals.py does (! if it is not the one that the edit names).
 """
 import concurrent.futures
 import os
@@ -15,6 +15,7 @@ import tempfile
 import time
 
 from check_times import OWN, ROOT, check_words
+from refusals import refusal
 
 
 def edited(crate, edit, folder):
@@ -48,9 +49,9 @@ def tried(item):
         began = time.time()
         run = subprocess.run([f'{OWN}/bin/rattle', 'check', *check_words(crate, f'{folder}/src')], stdout=subprocess.PIPE,
                              stderr=subprocess.STDOUT, text=True)
-        first = next((line for line in run.stdout.split('\n') if ': error' in line), '').replace(f'{folder}/', '')
+        fits, line = refusal(crate, edit, run.stdout)
     refused = run.returncode == 1 and 'logic=not-proved' in run.stdout
-    return f'{crate}/{edit}: {"refused" if refused else "NOT REFUSED"}, {time.time() - began:.0f} s: {first[:240]}'
+    return f'{" " if fits else "!"} {"refused" if refused else "NOT REFUSED"}, {time.time() - began:.0f} s: {line}'
 
 
 def items(words):

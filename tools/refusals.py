@@ -1,17 +1,72 @@
-#!/bin/sh
-# Prints the first error of each must-fail edit, from the logs that `rt ci` or `rt must-fail` left in target/.
-#
-#   sh tools/refusals.sh [CRATE ..]
-#
-# Each should be about a fact that is false with the edit. The last line counts those that only say that the proof file does
-# not fit the code any more; such an edit shows nothing.
-cd "$(dirname "$0")/.." || exit 2
+#!/usr/bin/env python3
+"""Says by which statement each must-fail edit is refused first, from the logs that `rt ci` or `rt must-fail` left in target/.
 
-[ $# -gt 0 ] || set -- $(cd target/must-fail && ls)
-for crate; do
-    for log in target/must-fail/"$crate"/*/.log; do
-        edit=$(basename "$(dirname "$log")")
-        first=$(grep -m 1 ': error' "$log" | sed "s|^.*/must-fail/$crate/$edit/||" | cut -c 1-240)
-        echo "$crate/$edit: ${first:-no error}"
-    done
-done | awk '{ print } /that can be named from here|no error$|not in scope/ { unfit++ } END { print NR " edits, " unfit + 0 " unfit" }'
+    tools/refusals.py [CRATE[/EDIT] ..]
+
+An edit names the fact that it makes false in a line of its own, `false: MODULE: STATEMENT`. What stands there is
+
+    case       a statement without variables: it is false if it does not compute
+    contract   `returns`, what a function promises
+    law, need  any other. A proof of it can fail for its text's sake while it holds, so the line says when it is false:
+               `false: MODULE: STATEMENT: WHEN`
+
+Marked with ! are edits whose first error is in another statement than the one named, in a law or need with no `WHEN`, or
+about a proof file that does not fit any more. The exit status is 1 if there is one.
+"""
+import os
+import re
+import subprocess
+import sys
+
+ROOT = subprocess.run(['git', 'rev-parse', '--show-toplevel'], capture_output=True, text=True, check=True).stdout.strip()
+FIRST = re.compile(r'^(?:\S*/)?((?:proofs|src)/\S+?):\d+:\d+: error: `([^`]+)`: (.*)', re.M)
+# of a function that is proved without a file
+UNANSWERED = re.compile(r'^note: what antt said .*? made: (?:\S*/)?(src/\S+?):\d+:\d+: `([^`]+)`: (.*)', re.M)
+UNFIT = re.compile('that can be named from here|not in scope|was not admitted')
+
+
+def claim(crate, edit):
+    """The fact that an edit names, and when it is false."""
+    with open(f'{ROOT}/crates/{crate}/must-fail/{edit}.edit', encoding='utf8') as f:
+        named = next((line[len('false: '):].strip() for line in f if line.startswith('false: ')), '')
+    module, statement, when = (named.split(': ', 2) + ['', ''])[:3]
+    return f'{module}: {statement}', when
+
+
+def kind(crate, path, statement):
+    if path.startswith('src/') or path.endswith('/Proof.antt'):
+        return 'contract' if re.search(r'(^|-)returns(-\d+)?$', statement) else 'need'
+    with open(f'{ROOT}/crates/{crate}/{path}', encoding='utf8') as f:
+        said = re.search(rf'^(?:pub )?{re.escape(statement)} : (.*?)^(?:unfolding|{re.escape(statement)}) ', f.read(), re.M | re.S)
+    return 'law' if not said or re.search(r'[({][^(){}]* : ', said[1]) else 'case'
+
+
+def refusal(crate, edit, log):
+    """Whether an edit is refused by the fact that it names, and a line about it."""
+    first = FIRST.search(log) or UNANSWERED.search(log)
+    if not first:
+        return False, f'{crate}/{edit}: no error'
+    path, statement, message = first.groups()
+    parts = path.removesuffix('/Proof.antt').removesuffix('.antt').split('/')
+    place, what = f'{parts[-1]}: {statement}', kind(crate, path, statement)
+    named, when = claim(crate, edit)
+    fits = place == named and (when or what in ('case', 'contract')) and not UNFIT.search(message)
+    return fits, f'{crate}/{edit}: {what} {place}' + ('' if fits else f' (named: {named}): {message[:160]}')
+
+
+def main():
+    words = sys.argv[1:] or sorted(os.listdir(f'{ROOT}/target/must-fail'))
+    told = []
+    for word in words:
+        crate, _, one = word.partition('/')
+        for edit in [one] if one else sorted(f.removesuffix('.edit') for f in os.listdir(f'{ROOT}/crates/{crate}/must-fail')):
+            with open(f'{ROOT}/target/must-fail/{crate}/{edit}/.log', encoding='utf8') as f:
+                told.append(refusal(crate, edit, f.read()))
+            print(' ' if told[-1][0] else '!', told[-1][1])
+    marked = sum(not fits for fits, _ in told)
+    print(f'{len(told)} edits, {marked} marked')
+    sys.exit(1 if marked else 0)
+
+
+if __name__ == '__main__':
+    main()
