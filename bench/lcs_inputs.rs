@@ -1,12 +1,9 @@
 //! Pairs of pictures whose common picture is timed: each maker gives the first and the second tree.
 
-use super::parts::{card, coded, hang, Pair, DEPTH};
+use super::parts::{card, coded, hang, regathered, Pair, DEPTH, R, S};
 use super::reference::table::{KIND_FORALL, MAX_ROWS};
 use super::rng::Rng;
 use super::trees::{all, root, some, spread, Node, Tree};
-
-const R: u8 = 8;
-const S: u8 = 9;
 
 /// A card and the same with a quarter of the names changed and another end.
 pub fn card_near(rows: usize, depth: usize, rng: &mut Rng) -> Pair {
@@ -117,6 +114,11 @@ pub fn pairs_dropped() -> Pair {
 /// Few rows that merge to the most there may be, with a picture that has every restriction once.
 pub fn merged() -> Pair {
     (spread(16, 14, R), vec![root(), some(0, R, 0), some(1, S, 0)])
+}
+
+/// The slowest normal table twice.
+pub fn regathered_twice() -> Pair {
+    twice(regathered(MAX_ROWS, &[3, 4, 10]))
 }
 
 /// All roles below the root, by both kinds.

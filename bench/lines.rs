@@ -1,7 +1,7 @@
 //! What is timed: the lines of the table, and those of the growth.
 
 use super::calls::{Call, Input, LCS, MOST_SPECIFIC, NORMALIZE, SUBSUMES, VALIDATE, VERIFY};
-use super::parts::{card, Pair};
+use super::parts::{card, regathered, Pair};
 use super::reference::most_specific::MAX_CARDS;
 use super::reference::table::MAX_ROWS;
 use super::reference::{self, value, MAX_EVIDENCE_BYTES, MAX_INDIVIDUALS, NO, WORK_BYTES, YES};
@@ -77,7 +77,9 @@ pub static LINES: [(Call, &[Line]); 6] = [
             (Typical, "card, depth 2", YES, |rng| one(card(10, 2, rng))),
             (Typical, "card, depth 3", YES, |rng| one(card(20, 3, rng))),
             (Typical, "card, depth 4", YES, |rng| one(card(30, 4, rng))),
-            (Worst, "both kinds, 32 roles", YES, |rng| one(picture_inputs::spread_roles(MAX_ROWS, rng))),
+            (Worst, "120 times 238 alls", YES, |_| one(regathered(MAX_ROWS, &[3, 4, 10]))),
+            (Other, "127 times 128 alls", YES, |_| one(regathered(MAX_ROWS, &[127]))),
+            (Other, "both kinds, 32 roles", YES, |rng| one(picture_inputs::spread_roles(MAX_ROWS, rng))),
             (Other, "fan", YES, |rng| one(picture_inputs::fan(MAX_ROWS, rng))),
             (Other, "chain", YES, |rng| one(picture_inputs::chains(1, rng))),
             (Other, "21 chains", YES, |rng| one(picture_inputs::chains(21, rng))),
@@ -98,7 +100,9 @@ pub static LINES: [(Call, &[Line]); 6] = [
             (Typical, "cards, depth 3, no", NO, |rng| two(subsumes_inputs::card_no(20, 3, rng))),
             (Typical, "cards, depth 4, yes", YES, |rng| two(subsumes_inputs::card_yes(30, 4, rng))),
             (Typical, "cards, depth 4, no", NO, |rng| two(subsumes_inputs::card_no(30, 4, rng))),
-            (Worst, "127 x 2, last candidate, no", NO, |_| two(subsumes_inputs::last_no())),
+            (Worst, "120 times 211 alls, no", NO, |_| two(subsumes_inputs::regathered_no())),
+            (Other, "120 times 211 alls, yes", YES, |_| two(subsumes_inputs::regathered_yes())),
+            (Other, "127 x 2, last candidate, no", NO, |_| two(subsumes_inputs::last_no())),
             (Other, "127 x 2, last candidate, yes", YES, |_| two(subsumes_inputs::last_yes())),
             (Other, "15 x 17, nearly map, yes", YES, |_| two(subsumes_inputs::nearly_yes())),
             (Other, "15 x 17, nearly map, no", NO, |_| two(subsumes_inputs::nearly_no())),
@@ -123,7 +127,8 @@ pub static LINES: [(Call, &[Line]); 6] = [
             (Typical, "refutation, cards of depth 3", NO, |rng| evident(subsumes_inputs::card_no(20, 3, rng))),
             (Typical, "map, cards of depth 4", YES, |rng| evident(subsumes_inputs::card_yes(30, 4, rng))),
             (Typical, "refutation, cards of depth 4", NO, |rng| evident(subsumes_inputs::card_no(30, 4, rng))),
-            (Worst, "siblings, 2 rows each", NO, |_| verify_inputs::inner_siblings(0)),
+            (Worst, "siblings that reach one", NO, |_| verify_inputs::reaching()),
+            (Other, "siblings, 2 rows each", NO, |_| verify_inputs::inner_siblings(0)),
             (Other, "siblings", NO, |_| verify_inputs::siblings(MAX_ROWS, MAX_INDIVIDUALS)),
             (Other, "siblings at depth 12", NO, |_| verify_inputs::deep_siblings()),
             (Other, "siblings, 5 rows each", NO, |_| verify_inputs::inner_siblings(3)),
@@ -140,7 +145,8 @@ pub static LINES: [(Call, &[Line]); 6] = [
             (Typical, "cards apart, depth 2", YES, |rng| two(lcs_inputs::card_apart(10, 2, rng))),
             (Typical, "near cards, depth 3", YES, |rng| two(lcs_inputs::card_near(20, 3, rng))),
             (Typical, "cards apart, depth 3", YES, |rng| two(lcs_inputs::card_apart(20, 3, rng))),
-            (Worst, "15 x 17, chains dropped", YES, |_| two(lcs_inputs::pairs_dropped())),
+            (Worst, "120 times 238 alls, refused", REFUSED, |_| two(lcs_inputs::regathered_twice())),
+            (Other, "15 x 17, chains dropped", YES, |_| two(lcs_inputs::pairs_dropped())),
             (Other, "fans, 15 x 17", YES, |_| two(lcs_inputs::fans(15, 17))),
             (Other, "fans, 16 x 16, refused", REFUSED, |_| two(lcs_inputs::fans(16, 16))),
             (Other, "fans, 255 x 1", YES, |_| two(lcs_inputs::fans(255, 1))),
@@ -164,8 +170,10 @@ pub static LINES: [(Call, &[Line]); 6] = [
         &[
             (Typical, "5 subsume the case", YES, |rng| case(most_specific_inputs::typical(rng))),
             (Typical, "none subsumes the case", YES, |rng| case(most_specific_inputs::apart(rng))),
-            (Worst, "256 rows, all compared", YES, |rng| case(most_specific_inputs::worst(rng))),
-            (Other, "256 rows, chain", YES, |rng| case(most_specific_inputs::worst_chain(rng))),
+            (Worst, "120 times 211 alls", YES, |rng| case(most_specific_inputs::worst(rng))),
+            (Other, "127 x 2, all compared", YES, |rng| case(most_specific_inputs::some_some(rng))),
+            (Other, "256 rows, all compared", YES, |rng| case(most_specific_inputs::fans(rng))),
+            (Other, "256 rows, chain", YES, |rng| case(most_specific_inputs::fans_chain(rng))),
             (Other, "all subsume the case", YES, |rng| case(most_specific_inputs::covering(rng))),
             (Other, "none subsumes another", YES, |rng| case(most_specific_inputs::antichain(MAX_CARDS, rng))),
             (Other, "chain, specific first", YES, |rng| case(most_specific_inputs::chain(rng))),
@@ -180,9 +188,10 @@ pub static LINES: [(Call, &[Line]); 6] = [
 const ROWS: [usize; 5] = [16, 32, 64, 128, MAX_ROWS];
 const INDIVIDUALS: [usize; 5] = [208, 416, 832, 1664, MAX_INDIVIDUALS];
 
-pub static GROWTH: [Growth; 9] = [
+pub static GROWTH: [Growth; 10] = [
     (VALIDATE, "chains and fans", "rows", ROWS, |rows, rng| one(picture_inputs::mixed(rows, rng))),
     (NORMALIZE, "fan", "rows", ROWS, |rows, rng| one(picture_inputs::fan(rows, rng))),
+    (NORMALIZE, "alls gathered again", "rows", ROWS, |rows, _| one(regathered(rows, &[rows / 2 - 1]))),
     (NORMALIZE, "both kinds, 32 roles", "rows", ROWS, |rows, rng| one(picture_inputs::spread_roles(rows, rng))),
     (SUBSUMES, "fans, each with each", "rows", ROWS, |rows, _| two(subsumes_inputs::wide_yes(rows))),
     (VERIFY, "siblings, 3328 individuals", "rows", ROWS, |rows, _| verify_inputs::siblings(rows, MAX_INDIVIDUALS)),

@@ -1,6 +1,6 @@
 //! Cases and books that are timed: each maker gives the case and the cards.
 
-use super::parts::card;
+use super::parts::{card, regathered_late, R, S};
 use super::reference::most_specific::MAX_CARDS;
 use super::reference::table::MAX_ROWS;
 use super::rng::Rng;
@@ -8,7 +8,6 @@ use super::trees::{root, some, spread, Tree};
 
 pub type Book = (Tree, Vec<Tree>);
 
-const R: u8 = 8;
 const ROWS: usize = 20;
 const LETTERED_ROWS: usize = MAX_CARDS / 2;
 const DEPTH: usize = 3;
@@ -111,27 +110,57 @@ pub fn empty(rng: &mut Rng) -> Book {
     (named(rng), Vec::new())
 }
 
-/// 255 existential restrictions with these names each, but the last.
-fn fan(names: u64, last: u64) -> Tree {
+/// A tree whose rows ask for these names, but the last, which asks for every one that others ask for and for some
+/// besides.
+type Late = fn(names: u64, every: u64, besides: u64) -> Tree;
+
+/// 255 existential restrictions.
+fn fan(names: u64, every: u64, besides: u64) -> Tree {
+    let mut tree = vec![some(0, R, names); MAX_ROWS];
+    tree[0] = root();
+    tree[MAX_ROWS - 1].wanted = every | besides;
+    tree
+}
+
+/// 127 with one below each.
+fn pairs(names: u64, every: u64, besides: u64) -> Tree {
     let mut tree = vec![root()];
-    tree.extend((1..MAX_ROWS).map(|number| some(0, R, if number == MAX_ROWS - 1 { last } else { names })));
+    for _ in 0..127 {
+        tree.push(some(0, R, 0));
+        tree.push(some(tree.len() - 1, S, names));
+    }
+    tree[254].wanted = every | besides;
     tree
 }
 
 /// Each row of a card asks for a name that in any other card, and in the case, only the last row has; the last row of a
 /// card asks for these higher names too, which decide.
-fn late(higher: fn(usize) -> u64) -> Book {
-    let last = |card| 0xFFFF_FFFF | higher(card) << 32;
-    (fan(0, !0), (0..MAX_CARDS).map(|card| fan(1 << card, last(card))).collect())
+fn late(tree: Late, higher: fn(usize) -> u64) -> Book {
+    let lower = 0xFFFF_FFFF;
+    let card = |card: usize| tree(1 << card, lower, higher(card) << 32);
+    (tree(0, lower, !0), (0..MAX_CARDS).map(card).collect())
 }
 
 /// No card subsumes another: each is compared with each, and every row with every row.
-pub fn worst(_: &mut Rng) -> Book {
-    late(|card| 1 << card)
+fn apart_late(tree: Late) -> Book {
+    late(tree, |card| 1 << card)
 }
 
-pub fn worst_chain(_: &mut Rng) -> Book {
-    late(|card| (2 << card) - 1)
+pub fn fans(_: &mut Rng) -> Book {
+    apart_late(fan)
+}
+
+pub fn fans_chain(_: &mut Rng) -> Book {
+    late(fan, |card| (2 << card) - 1)
+}
+
+pub fn some_some(_: &mut Rng) -> Book {
+    apart_late(pairs)
+}
+
+/// Tables that are slow to make, for each pair again.
+pub fn worst(_: &mut Rng) -> Book {
+    apart_late(regathered_late)
 }
 
 /// Few rows that merge to the most there may be, with a name each.

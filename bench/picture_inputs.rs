@@ -1,13 +1,10 @@
 //! Pictures whose test and whose normal table are timed. Labels are drawn so that they never contradict each other, and
 //! the whole table is written.
 
-use super::parts::DEPTH;
+use super::parts::{DEPTH, R, S};
 use super::reference::ROLES;
 use super::rng::Rng;
 use super::trees::{all, root, some, spread, Node, Tree};
-
-const R: u8 = 8;
-const S: u8 = 9;
 
 fn labelled(mut tree: Tree, rng: &mut Rng) -> Tree {
     for node in &mut tree {

@@ -1,8 +1,7 @@
-//! Several implementations of one call timed in turn. The best of many short rounds counts, so that all see the same
-//! machine and a round that is interrupted does not matter.
+//! Several implementations of one call timed in turn, by the time of the thread, so that what else the machine does
+//! counts little. The best of many short rounds counts, so that all see the same machine.
 
 use std::hint::black_box;
-use std::time::Instant;
 
 use super::calls::{Buffers, Input, Side};
 
@@ -11,6 +10,26 @@ const ROUNDS: usize = 41;
 /// What a round should take at least, and all rounds of one side at most, in nanoseconds.
 const ROUND: f64 = 200_000.0;
 const ALL_ROUNDS: f64 = 50_000_000.0;
+
+/// `struct timespec`.
+#[repr(C)]
+struct Time {
+    seconds: i64,
+    nanoseconds: i64,
+}
+
+const CLOCK_THREAD_CPUTIME_ID: i32 = 3;
+
+extern "C" {
+    fn clock_gettime(clock: i32, time: *mut Time) -> i32;
+}
+
+/// How long the thread has run, in nanoseconds.
+fn now() -> f64 {
+    let mut time = Time { seconds: 0, nanoseconds: 0 };
+    unsafe { clock_gettime(CLOCK_THREAD_CPUTIME_ID, &mut time) };
+    time.seconds as f64 * 1e9 + time.nanoseconds as f64
+}
 
 pub struct Race {
     sides: Vec<Side>,
@@ -27,13 +46,13 @@ impl Race {
 
     /// Nanoseconds for each call.
     fn round(&self, side: Side, buffers: &mut Buffers, turns: usize) -> f64 {
-        let start = Instant::now();
+        let start = now();
         for _ in 0..turns {
             for input in &self.inputs {
                 black_box(side(black_box(input), buffers));
             }
         }
-        start.elapsed().as_nanos() as f64 / (turns * self.inputs.len()) as f64
+        (now() - start) / (turns * self.inputs.len()) as f64
     }
 
     /// Some more rounds.

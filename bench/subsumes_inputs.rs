@@ -1,12 +1,9 @@
 //! Pairs of pictures whose verdict is timed: each maker gives the first and the second tree.
 
-use super::parts::{card, coded, hang, Pair, DEPTH};
+use super::parts::{card, coded, hang, regathered_late, Pair, DEPTH, R, S};
 use super::reference::table::{KIND_EXISTS, KIND_FORALL, MAX_ROWS};
 use super::rng::Rng;
 use super::trees::{chain, root, some, spread, Node};
-
-const R: u8 = 8;
-const S: u8 = 9;
 
 /// A label that no coded one carries.
 const ABSENT: u64 = 1 << 63;
@@ -148,6 +145,16 @@ pub fn last_no() -> Pair {
     let (first, mut second) = last_yes();
     second.last_mut().expect("a tree has a root").wanted = 4;
     (first, second)
+}
+
+/// Tables nearly as slow to make as the slowest, and rows that agree, of which only the last candidate will do.
+pub fn regathered_yes() -> Pair {
+    (regathered_late(0, 1, 0), regathered_late(1, 1, 0))
+}
+
+/// The same, where none will do for the last of the second's.
+pub fn regathered_no() -> Pair {
+    (regathered_late(0, 1, 0), regathered_late(1, 1, 2))
 }
 
 /// 255 successors, each of which needs a chain of 12 individuals to fail the one that is asked for.

@@ -2,13 +2,12 @@
 //! siblings every individual meets every row of its depth first, of both tables.
 
 use super::calls::Input;
-use super::parts::DEPTH;
+use super::parts::{DEPTH, R};
 use super::reference::field;
 use super::reference::table::{MAX_ROWS, TAG_END};
 use super::reference::{INDIVIDUAL_VALUE_BYTES, MAX_INDIVIDUALS, ROLES, TAG_INDIVIDUAL};
 use super::trees::{all, encode, root, some, Node, Tree};
 
-const R: u8 = 8;
 const LAST_ROLE: u8 = ROLES - 1;
 
 /// What late rows ask for: one name, and not another. Nearly all individuals have both, so that a row is failed by its
@@ -106,6 +105,30 @@ pub fn inner_siblings(values: usize) -> Input {
     model.extend((2..MAX_INDIVIDUALS).map(|_| Individual { role: R, names: WANTED, ..WITNESS }));
     model.push(Individual { parent: MAX_INDIVIDUALS - 2, role: LAST_ROLE, names: WANTED });
     input(&inner(values, 0), &inner(values, EXCLUDED), &model)
+}
+
+/// Rows with 50 below each.
+fn groups(last: u64) -> Tree {
+    let mut tree = vec![root()];
+    for _ in 0..5 {
+        let parent = tree.len();
+        tree.push(some(0, R, WANTED));
+        tree.extend((1..50).map(|_| some(parent, LAST_ROLE, WANTED)));
+        tree.push(some(parent, LAST_ROLE, WANTED | EXCLUDED));
+    }
+    tree[5 * 51].wanted |= last;
+    tree
+}
+
+/// Siblings that reach one individual each. That is an instance of all 50 but the last, and the last one's of that too.
+pub fn reaching() -> Input {
+    let mut model = vec![WITNESS];
+    while model.len() + 2 <= MAX_INDIVIDUALS {
+        model.push(Individual { role: R, names: WANTED, ..WITNESS });
+        model.push(Individual { parent: model.len() - 1, role: LAST_ROLE, names: WANTED });
+    }
+    model.last_mut().expect("there is the witness").names |= EXCLUDED;
+    input(&groups(0), &groups(EXCLUDED << 1), &model)
 }
 
 /// Value restrictions by all roles, and as many individuals by each. The last one fails the second's last row.
