@@ -8,6 +8,7 @@
 #                 program
 # make bench      print one table of the time of each call beside the same call hand-written in Rust and in C, and how
 #                 it grows with the size
+# make counts     print how many instructions each call takes on the same inputs, whatever else the machine does
 # make fuzz       fuzz all calls with libFuzzer, each for a minute; or CALL=lcs SECONDS=600
 # make valgrind   run the calls, the fuzz targets and the smaller C tests under valgrind
 # make shared     link the built library as build/shared/libzuvaropy.so
@@ -30,7 +31,7 @@ PKGCONFIGDIR = $(LIBDIR)/pkgconfig
 MANDIR = $(PREFIX)/share/man
 INSTALL = install
 
-.PHONY: all library program test gate demo bench fuzz valgrind shared install uninstall clean tools
+.PHONY: all library program test gate demo bench counts fuzz valgrind shared install uninstall clean tools
 
 all: library program
 
@@ -72,10 +73,18 @@ demo: library program
 # What the library is timed beside: the plain C, and the Rust of tests/rust.
 PLAIN = $(patsubst %,build/bench/%.o,scan merge audit)
 
-bench: library $(PLAIN)
+BENCH = build/bench/bench
+
+bench: $(BENCH)
+	@$(BENCH)
+
+counts: $(BENCH)
+	@sh bench/counts.sh $(BENCH)
+
+.PHONY: $(BENCH)
+$(BENCH): library $(PLAIN)
 	@rustc --edition 2021 -O -C panic=abort -D warnings bench/bench.rs \
-	    $(patsubst %,-C link-arg=%,$(PLAIN) $(LIBRARY)) -o build/bench/bench
-	@build/bench/bench
+	    $(patsubst %,-C link-arg=%,$(PLAIN) $(LIBRARY)) -o $@
 
 build/bench/%.o: bench/%.c bench/%.h include/zuvaropy.h
 	@mkdir -p $(@D)

@@ -2,10 +2,13 @@
 //! how the time grows with the size.
 //!
 //! All sides answer alike before they are timed. A ratio above 1.3, which is the goal, is marked.
+//!
+//! With the argument `counts`, what bench/counts.sh counts.
 
 #[path = "../tests/rust/book.rs"]
 mod book;
 mod calls;
+mod counts;
 mod lcs_inputs;
 #[path = "../tests/rust/library.rs"]
 mod library;
@@ -27,10 +30,11 @@ mod subsumes_inputs;
 mod trees;
 mod verify_inputs;
 
+use std::env;
 use std::process::exit;
 
 use calls::{Call, Input, Side};
-use lines::{Growth, Line, GROWTH, LINES};
+use lines::{Growth, Line, Sort, GROWTH, LINES};
 use race::Race;
 use reference::outcome;
 use report::{Size, Timed};
@@ -99,6 +103,10 @@ fn sizes((call, name, _, sizes, make): &Growth) -> Vec<Race> {
 
 fn main() {
     let lines = LINES.iter().flat_map(|(call, lines)| lines.iter().map(move |line| (call, line)));
+    if env::args().nth(1).as_deref() == Some("counts") {
+        let counted = lines.filter(|(_, line)| line.0 != Sort::Other);
+        return counted.for_each(|(call, line)| counts::print(call, line, &draw(call, line)));
+    }
     let mut table: Vec<Timed> = lines.map(timed).collect();
     let mut growth: Vec<Vec<Race>> = GROWTH.iter().map(sizes).collect();
     for _ in 0..TURNS {
