@@ -118,15 +118,10 @@ example() {
 
 # The files that the verdict programs are run on are samples.
 data() {
-    while read -r program first second; do
-        cmp "samples/$first.pic" "crates/$program/data/first.pic" &&
-            cmp "samples/$second.pic" "crates/$program/data/second.pic" || return
-    done <<END
-verdict both each
-verdict_no each both
-verdict_refused_first cut deep
-verdict_refused_second spread deep
-END
+    cmp samples/both.pic crates/verdict/data/first.pic && cmp samples/each.pic crates/verdict/data/second.pic &&
+        for file in crates/verdict_cases/data/*; do
+            cmp "samples/$(basename "$file")" "$file" || return
+        done
 }
 verdict_samples() {
     sh samples/verdict.sh "$verdict" >"$out/verdict_samples.log" && diff samples/verdict.stdout "$out/verdict_samples.log"

@@ -1,5 +1,5 @@
-// The verdict program: reads two pictures from the current folder, and prints whether the second covers the first. It is a library, so that programs
-// with files of their own can run it.
+// The verdict program: reads two pictures, and prints whether the second covers the first. It is a library, so that programs with files of their own
+// can run it.
 mod load;
 mod tell;
 
@@ -28,10 +28,11 @@ fn decide(first: &[u8], second: &[u8]) {
     tell(verdict, &result);
 }
 
-pub fn run() {
+// Of the files with these names.
+pub fn run(first_name: &[u8], second_name: &[u8]) {
     let mut first = [0u8; PICTURE];
-    let n = load(b"first.pic", &mut first);
+    let n = load(first_name, &mut first);
     let mut second = [0u8; PICTURE];
-    let m = load(b"second.pic", &mut second);
+    let m = load(second_name, &mut second);
     decide(&first[..n], &second[..m]);
 }

@@ -1,4 +1,0 @@
-// The verdict program, where neither file is there.
-fn main() {
-    verdict_tool::run();
-}

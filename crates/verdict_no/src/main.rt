@@ -1,4 +1,0 @@
-// The verdict program, on a pair whose second picture does not cover its first.
-fn main() {
-    verdict_tool::run();
-}

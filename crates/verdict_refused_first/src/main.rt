@@ -1,4 +1,0 @@
-// The verdict program, on a pair whose pictures are both refused.
-fn main() {
-    verdict_tool::run();
-}
