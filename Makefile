@@ -1,5 +1,6 @@
 # make            prove the library and the verdict program, and write target/staticlib/libzuvaropy.a and
 #                 target/bin/verdict
+# make quick      prove what changed, run the tests, and say which must-fail edits are left to try
 # make test       prove everything, then run the C tests, bounded fuzzing, the comparison with the Rust
 #                 implementation, the tests of the verdict program and those of the installed library;
 #                 the last line is 'N passed, M failed'
@@ -31,7 +32,7 @@ PKGCONFIGDIR = $(LIBDIR)/pkgconfig
 MANDIR = $(PREFIX)/share/man
 INSTALL = install
 
-.PHONY: all library program test gate demo bench counts fuzz valgrind shared install uninstall clean tools
+.PHONY: all library program quick test gate demo bench counts fuzz valgrind shared install uninstall clean tools
 
 all: library program
 
@@ -41,6 +42,9 @@ library: tools
 
 program: tools library
 	@rt check verdict
+
+quick: tools
+	@CC='$(CC)' sh tests/quick.sh
 
 # Where a recipe fails, the last line is make's own. So that it counts the failures all the same, the
 # gate leaves its status and its last line, and make's message is made of that line.

@@ -1,9 +1,10 @@
 #!/bin/sh
-# The gate: proves every crate, tries the must-fail edits and runs the programs, then builds the library
-# from what was proved and runs the C tests, the Rust comparison and the tests of the verdict program.
+# The gate: checks the layout of the crates and what the documents cite; proves every crate, tries the must-fail
+# edits and runs the programs; then builds the library from what was proved and runs the C tests, the Rust
+# comparison and the tests of the verdict program.
 #
-# The last line is 'N passed, M failed': rt's own, or, where something failed that rt does not count, with
-# the number of failures. It is kept in build/gate.last too. Exits 0 only if nothing failed.
+# The last line is 'N passed, M failed': N is what rt counts, M its failures or, where it has none, those of the tests,
+# and of the text. It is kept in build/gate.last too. Exits 0 only if nothing failed.
 set -u
 cd "$(dirname "$0")/.." || exit 1
 
@@ -13,17 +14,21 @@ rm -f build/gate.last build/rt-ci.ok build/tests/failed
 
 # finish FAILED
 finish() {
-    echo "$passed passed, $1 failed" | tee build/gate.last
-    [ "$1" -eq 0 ]
+    failures=$(($1 + text))
+    echo "$passed passed, $failures failed" | tee build/gate.last
+    [ "$failures" -eq 0 ]
     exit
 }
+
+sh tests/text.sh
+text=$?
 
 { rt ci 2>&1 && : >build/rt-ci.ok; } | tee build/rt-ci.log
 counts=$(sed -n '$s/^\([0-9][0-9]*\) passed, \([0-9][0-9]*\) failed$/\1 \2/p' build/rt-ci.log)
 counts=${counts:-0 0}
 passed=${counts% *}
 failed=${counts#* }
-[ "$failed" -eq 0 ] || finish "$failed" >/dev/null  # rt has printed it
+[ "$failed" -eq 0 ] || finish "$failed"
 [ "$passed" -gt 0 ] && [ -e build/rt-ci.ok ] || finish 1
 
 rt staticlib zuvaropy || finish 1
