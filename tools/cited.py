@@ -10,10 +10,9 @@ exits 1 if one is missing.
 import glob
 import os
 import re
-import subprocess
 import sys
 
-ROOT = subprocess.run(['git', 'rev-parse', '--show-toplevel'], capture_output=True, text=True, check=True).stdout.strip()
+ROOT = os.path.dirname(os.path.dirname(os.path.abspath(__file__)))
 FOLDERS = ['crates', 'include', 'tests', 'tools', 'examples', 'bench', 'samples', 'package']
 MADE = {'build', 'target'}                 # folders that make writes
 KIT = {'cond'}                             # the toolchain's, and not used here
