@@ -4,8 +4,9 @@
     tools/uses.py CRATE [FILE ..]
 
 The lines stand after the opening comment. A name is taken from the crate's own files, else from what the repository's files
-import from the libraries, else from the crates below (crates.txt). A local variable that has the name of a public definition
-is taken for it, unless a `let`, a `λ` or a signature in the file binds it. Files that use a module under another name are left alone.
+import from the libraries, else from the crates below (crates.txt has to list each that is named then). A local variable that
+has the name of a public definition is taken for it, unless a `let`, a `λ` or a signature in the file binds it. Files that use
+a module under another name are left alone.
 """
 import glob
 import os
@@ -86,11 +87,15 @@ def files(crate):
 
 
 def crates_below(crate):
-    for line in read(f'{ROOT}/crates.txt').split('\n'):
-        name, _, below = line.split('#')[0].partition(':')
-        if name.strip() == crate:
-            return [b for b in below.split() if os.path.isdir(f'{ROOT}/crates/{b}')]
-    return []
+    """Every crate that a crate stands on, and those that they stand on, the highest first."""
+    lines = [line.split('#')[0].partition(':') for line in read(f'{ROOT}/crates.txt').split('\n')]
+    listed = {name: below.split() for name, colon, below in lines if colon}
+    below, left = set(), [crate]
+    while left:
+        more = set(listed.get(left.pop(), [])) - below
+        below |= more
+        left += more
+    return [name for name in reversed(listed) if name in below]
 
 
 def library_names():
