@@ -5,7 +5,7 @@
 
 An edit names the fact that it makes false in a line of its own, `false: MODULE: STATEMENT`. What stands there is
 
-    case       a statement without variables: it is false if it does not compute
+    case       a statement without variables: it computes, or it is false
     contract   `returns`, what a function promises
     law, need  any other. A proof of it can fail for its text's sake while it holds, so the line says when it is false:
                `false: MODULE: STATEMENT: WHEN`
@@ -19,7 +19,7 @@ import subprocess
 import sys
 
 ROOT = subprocess.run(['git', 'rev-parse', '--show-toplevel'], capture_output=True, text=True, check=True).stdout.strip()
-FIRST = re.compile(r'^(?:\S*/)?((?:proofs|src)/\S+?):\d+:\d+: error: `([^`]+)`: (.*)', re.M)
+FIRST = re.compile(r'^(?:\S*/)?((?:proofs|specs|src)/\S+?):\d+:\d+: error: (?:`([^`]+)`: )?(.*)', re.M)
 # of a function that is proved without a file
 UNANSWERED = re.compile(r'^note: what antt said .*? made: (?:\S*/)?(src/\S+?):\d+:\d+: `([^`]+)`: (.*)', re.M)
 UNFIT = re.compile('that can be named from here|not in scope|was not admitted')
@@ -34,6 +34,7 @@ def claim(crate, edit):
 
 
 def kind(crate, path, statement):
+    """What kind of statement that is: case, contract, law or need."""
     if path.startswith('src/') or path.endswith('/Proof.antt'):
         return 'contract' if re.search(r'(^|-)returns(-\d+)?$', statement) else 'need'
     with open(f'{ROOT}/crates/{crate}/{path}', encoding='utf8') as f:
@@ -46,7 +47,7 @@ def refusal(crate, edit, log):
     first = FIRST.search(log) or UNANSWERED.search(log)
     if not first:
         return False, f'{crate}/{edit}: no error'
-    path, statement, message = first.groups()
+    path, statement, message = first[1], first[2] or 'text', first[3]
     parts = path.removesuffix('/Proof.antt').removesuffix('.antt').split('/')
     place, what = f'{parts[-1]}: {statement}', kind(crate, path, statement)
     named, when = claim(crate, edit)
@@ -60,8 +61,12 @@ def main():
     for word in words:
         crate, _, one = word.partition('/')
         for edit in [one] if one else sorted(f.removesuffix('.edit') for f in os.listdir(f'{ROOT}/crates/{crate}/must-fail')):
-            with open(f'{ROOT}/target/must-fail/{crate}/{edit}/.log', encoding='utf8') as f:
-                told.append(refusal(crate, edit, f.read()))
+            log = f'{ROOT}/target/must-fail/{crate}/{edit}/.log'
+            if os.path.exists(log):
+                with open(log, encoding='utf8') as f:
+                    told.append(refusal(crate, edit, f.read()))
+            else:
+                told.append((False, f'{crate}/{edit}: not tried'))
             print(' ' if told[-1][0] else '!', told[-1][1])
     marked = sum(not fits for fits, _ in told)
     print(f'{len(told)} edits, {marked} marked')
