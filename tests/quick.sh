@@ -5,6 +5,7 @@
 # Exits 0 only if nothing failed. It trusts what target/ says was proved before; the gate does not.
 set -u
 cd "$(dirname "$0")/.." || exit 1
+. tests/memory.sh
 
 sh tests/text.sh
 failures=$?
