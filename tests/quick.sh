@@ -15,6 +15,7 @@ archive=target/staticlib/libzuvaropy.a
 [ -n "$(find "$archive" -newer target/stamp/zuvaropy 2>/dev/null)" ] || rt staticlib zuvaropy || exit 1
 sh tests/run.sh "$archive" target/bin/verdict || failures=$((failures + 1))
 
+[ "$failures" -eq 0 ] || echo 'quick: FAILED, see above'
 base=$(git merge-base HEAD origin/main 2>/dev/null || echo HEAD)
 edited=$({ git diff --name-only "$base" -- crates && git ls-files --others --exclude-standard crates; } |
     cut -d/ -f2 | sort -u | while read -r crate; do
