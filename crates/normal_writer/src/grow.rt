@@ -221,20 +221,15 @@ fn graft_value(
     requires { ⌜ (Surveyed (now s) rows (now links) (now masks)) × ((Valued (now s) rows (holds all) values) × ((Room limit branch (now out)) × (0 < branch .table .rows))) ⌝ }
     ensures { λ r. ⌜ Grown limit parent branch (now (out .entry)) (valuePartAt (now (s .entry)) rows depth role (holds all) (values .first)) r (now (out .exit)) ⌝ }
 {
-    let start = branch.table;
     if rows <= values.first {
-        return Branch {
-            table: start,
-            merged: branch.merged,
-            bottom: branch.bottom,
-        };
+        return branch;
     }
     let edge = Edge {
         parent,
         kind: KIND_FOR_ALL,
         role,
     };
-    let grown = graft_row(
+    graft_row(
         s,
         rows,
         limit,
@@ -245,13 +240,7 @@ fn graft_value(
         out,
         branch,
         edge,
-    );
-    let table = grown.table;
-    Branch {
-        table,
-        merged: grown.merged,
-        bottom: grown.bottom,
-    }
+    )
 }
 
 fn graft_exists(
@@ -281,28 +270,13 @@ fn graft_exists(
     let mut j = some.next(0, rows);
     while j < rows {
         let whole = values.add(s, rows, links, j);
-        let more = graft_row(s, rows, limit, links, masks, whole, depth, out, grown, edge);
-        let table = more.table;
-        grown = Branch {
-            table,
-            merged: more.merged,
-            bottom: more.bottom,
-        };
-        if limit < more.merged {
-            return Branch {
-                table,
-                merged: more.merged,
-                bottom: more.bottom,
-            };
+        grown = graft_row(s, rows, limit, links, masks, whole, depth, out, grown, edge);
+        if limit < grown.merged {
+            return grown;
         }
         j = some.next(j + 1, rows);
     }
-    let table = grown.table;
-    Branch {
-        table,
-        merged: grown.merged,
-        bottom: grown.bottom,
-    }
+    grown
 }
 
 // Builds the normal table of a picture in a scratch table, from its first byte on.

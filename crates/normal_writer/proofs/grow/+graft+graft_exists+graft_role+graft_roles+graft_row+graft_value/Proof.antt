@@ -246,18 +246,52 @@ graft-exists-graft-row-requires t c κs =
 
 graft-exists-same-length : (t : ℕ) → graft-exists-lts.Need-same-length (graft-exists-claims t) (graft-exists-at t) graft-exists.Post graft-exists-Inv-loop graft-exists-μ-loop
 graft-exists-same-length t c =
-    let st = c .before .before .before .before .before .before .before .before .before .before .before .before .before in
+    let st = c .before .before .before .before .before .before .before .before .before .before .before .before in
     let a = st .args in
     let pre = st .pre .1 in
-    let l = c .before .before .before .before .before .before .before .before .before .loop in
-    let ad = c .before .before .before .before .before .before .before .add in
-    let more = c .before .before .before .before .before .before .before .before .loop-test .taken in
+    let l = c .before .before .before .before .before .before .before .before .loop in
+    let ad = c .before .before .before .before .before .before .add in
+    let more = c .before .before .before .before .before .before .before .loop-test .taken in
     let q = holds (a .all) in
     let v = pre .1 .0 in
-    c .before .before .before .before .before .graft-row .ensures (also (l .j) q) (valued-with (now (a .s)) (a .rows) q (a .values) (l .j) (ad .result) more v (ad .ensures)) .same ∙ l .inv .0 q v .same
+    c .before .before .before .before .graft-row .ensures (also (l .j) q) (valued-with (now (a .s)) (a .rows) q (a .values) (l .j) (ad .result) more v (ad .ensures)) .same ∙ l .inv .0 q v .same
 
 graft-exists-returns : (t : ℕ) → graft-exists-lts.Need-returns (graft-exists-claims t) (graft-exists-at t) graft-exists.Post graft-exists-Inv-loop graft-exists-μ-loop
 graft-exists-returns t c =
+    let st = c .before .before .before .before .before .before .before .before .before .before .before .before in
+    let a = st .args in
+    let pre = st .pre .1 in
+    let l = c .before .before .before .before .before .before .before .before .loop in
+    let ad = c .before .before .before .before .before .before .add in
+    let gr = c .before .before .before .before .graft-row in
+    let more = c .before .before .before .before .before .before .before .loop-test .taken in
+    let q = holds (a .all) in
+    let v = pre .1 .0 in
+    turn-full (now (a .s)) (a .rows) (a .depth) (a .role) (a .some) q (a .limit) (a .parent) (a .branch) (now (a .out)) (l .j) more (l .grown) (l .out) (l .inv .0 q v) (gr .result) _ (l .inv .1 more) (gr .ensures (also (l .j) q) (valued-with (now (a .s)) (a .rows) q (a .values) (l .j) (ad .result) more v (ad .ensures))) (c .if1 .taken)
+
+graft-exists-add-next : (t : ℕ) → graft-exists-lts.Need-add-next (graft-exists-claims t) (graft-exists-at t) graft-exists.Post graft-exists-Inv-loop graft-exists-μ-loop
+graft-exists-add-next t c =
+    let st = c .before .before .before .before .before .before .before .before .before .before .before .before in
+    let a = st .args in
+    let pre = st .pre .1 in
+    omega (arith, c .before .before .before .before .before .before .before .loop-test .taken, pre .0 .checked .most)
+
+graft-exists-next-requires-2 : (t : ℕ) → graft-exists-lts.Need-next-requires-2 (graft-exists-claims t) (graft-exists-at t) graft-exists.Post graft-exists-Inv-loop graft-exists-μ-loop
+graft-exists-next-requires-2 t c κs =
+    let st = c .before .before .before .before .before .before .before .before .before .before .before .before in
+    let a = st .args in
+    let pre = st .pre .1 in
+    pre .0 .checked .most
+
+graft-exists-loop-less : (t : ℕ) → graft-exists-lts.Need-loop-less (graft-exists-claims t) (graft-exists-at t) graft-exists.Post graft-exists-Inv-loop graft-exists-μ-loop
+graft-exists-loop-less t c =
+    let st = c .before .before .before .before .before .before .before .before .before .before .before .before .before in
+    let a = st .args in
+    let pre = st .pre .1 in
+    omega (arith, c .before .before .before .before .before .before .before .before .loop-test .taken, c .next2 .ensures .onward)
+
+graft-exists-loop-again : (t : ℕ) → graft-exists-lts.Need-loop-again (graft-exists-claims t) (graft-exists-at t) graft-exists.Post graft-exists-Inv-loop graft-exists-μ-loop
+graft-exists-loop-again t c =
     let st = c .before .before .before .before .before .before .before .before .before .before .before .before .before in
     let a = st .args in
     let pre = st .pre .1 in
@@ -265,54 +299,20 @@ graft-exists-returns t c =
     let ad = c .before .before .before .before .before .before .before .add in
     let gr = c .before .before .before .before .before .graft-row in
     let more = c .before .before .before .before .before .before .before .before .loop-test .taken in
-    let q = holds (a .all) in
-    let v = pre .1 .0 in
-    turn-full (now (a .s)) (a .rows) (a .depth) (a .role) (a .some) q (a .limit) (a .parent) (a .branch) (now (a .out)) (l .j) more (l .grown) (l .out) (l .inv .0 q v) (gr .result) _ (l .inv .1 more) (gr .ensures (also (l .j) q) (valued-with (now (a .s)) (a .rows) q (a .values) (l .j) (ad .result) more v (ad .ensures))) (c .if1 .taken)
-
-graft-exists-add-next : (t : ℕ) → graft-exists-lts.Need-add-next (graft-exists-claims t) (graft-exists-at t) graft-exists.Post graft-exists-Inv-loop graft-exists-μ-loop
-graft-exists-add-next t c =
-    let st = c .before .before .before .before .before .before .before .before .before .before .before .before .before in
-    let a = st .args in
-    let pre = st .pre .1 in
-    omega (arith, c .before .before .before .before .before .before .before .before .loop-test .taken, pre .0 .checked .most)
-
-graft-exists-next-requires-2 : (t : ℕ) → graft-exists-lts.Need-next-requires-2 (graft-exists-claims t) (graft-exists-at t) graft-exists.Post graft-exists-Inv-loop graft-exists-μ-loop
-graft-exists-next-requires-2 t c κs =
-    let st = c .before .before .before .before .before .before .before .before .before .before .before .before .before in
-    let a = st .args in
-    let pre = st .pre .1 in
-    pre .0 .checked .most
-
-graft-exists-loop-less : (t : ℕ) → graft-exists-lts.Need-loop-less (graft-exists-claims t) (graft-exists-at t) graft-exists.Post graft-exists-Inv-loop graft-exists-μ-loop
-graft-exists-loop-less t c =
-    let st = c .before .before .before .before .before .before .before .before .before .before .before .before .before .before in
-    let a = st .args in
-    let pre = st .pre .1 in
-    omega (arith, c .before .before .before .before .before .before .before .before .before .loop-test .taken, c .next2 .ensures .onward)
-
-graft-exists-loop-again : (t : ℕ) → graft-exists-lts.Need-loop-again (graft-exists-claims t) (graft-exists-at t) graft-exists.Post graft-exists-Inv-loop graft-exists-μ-loop
-graft-exists-loop-again t c =
-    let st = c .before .before .before .before .before .before .before .before .before .before .before .before .before .before in
-    let a = st .args in
-    let pre = st .pre .1 in
-    let l = c .before .before .before .before .before .before .before .before .before .before .loop in
-    let ad = c .before .before .before .before .before .before .before .before .add in
-    let gr = c .before .before .before .before .before .before .graft-row in
-    let more = c .before .before .before .before .before .before .before .before .before .loop-test .taken in
     (λ q v. turn-on (now (a .s)) (a .rows) (a .depth) (a .role) (a .some) q (a .limit) (a .parent) (a .branch) (now (a .out)) (l .j) more (l .grown) (l .out) (l .inv .0 q v) (gr .result) _ (l .inv .1 more) (gr .ensures (also (l .j) q) (valued-with (now (a .s)) (a .rows) q (a .values) (l .j) (ad .result) more v (ad .ensures))) (c .next2 .result) (c .next2 .ensures), c .next2 .ensures .held)
 
 graft-exists-same-length-2 : (t : ℕ) → graft-exists-lts.Need-same-length-2 (graft-exists-claims t) (graft-exists-at t) graft-exists.Post graft-exists-Inv-loop graft-exists-μ-loop
 graft-exists-same-length-2 t c =
-    let st = c .before .before .before .before .before .before in
-    c .before .before .loop .inv .0 (holds (st .args .all)) (st .pre .1 .1 .0) .same
+    let st = c .before .before .before .before .before in
+    c .before .loop .inv .0 (holds (st .args .all)) (st .pre .1 .1 .0) .same
 
 graft-exists-returns-2 : (t : ℕ) → graft-exists-lts.Need-returns-2 (graft-exists-claims t) (graft-exists-at t) graft-exists.Post graft-exists-Inv-loop graft-exists-μ-loop
 graft-exists-returns-2 t c =
-    let st = c .before .before .before .before .before .before in
+    let st = c .before .before .before .before .before in
     let a = st .args in
     let pre = st .pre .1 in
-    let l = c .before .before .loop in
-    turn-end (now (a .s)) (a .rows) (a .depth) (a .role) (a .some) (holds (a .all)) (a .limit) (a .parent) (a .branch) (now (a .out)) (l .j) (l .grown) (l .out) (c .before .loop-test .left) (l .inv .0 (holds (a .all)) (pre .1 .0))
+    let l = c .before .loop in
+    turn-end (now (a .s)) (a .rows) (a .depth) (a .role) (a .some) (holds (a .all)) (a .limit) (a .parent) (a .branch) (now (a .out)) (l .j) (l .grown) (l .out) (c .loop-test .left) (l .inv .0 (holds (a .all)) (pre .1 .0))
 
 graft-role-of-edge-requires : (t : ℕ) → graft-role-lts.Need-of-edge-requires (graft-role-claims t) (graft-role-at t) graft-role.Post
 graft-role-of-edge-requires t c κs =
@@ -487,14 +487,14 @@ graft-value-returns :
     (t : ℕ) →
     graft-value-lts.Need-returns (graft-value-claims t) (graft-value-at t) graft-value.Post
 graft-value-returns t c =
-    let st = c .before .before .before .before .before in
+    let st = c .before .before .before .before in
     let a = st .args in
     let pre = st .pre .1 in
     grown-same (a .limit) (a .parent) (a .branch) (a .branch) (now (a .out)) (now (a .out)) _ _ (sym (value-none (now (a .s)) (a .rows) (a .depth) (a .role) (holds (a .all)) (a .values .first) (c .if1 .taken))) (grown-nil (a .limit) (a .parent) (a .branch) (now (a .out)) (pre .1 .1 .0))
 
 graft-value-graft-row-requires : (t : ℕ) → graft-value-lts.Need-graft-row-requires (graft-value-claims t) (graft-value-at t) graft-value.Post
 graft-value-graft-row-requires t c κs =
-    let st = c .before .before .before .before .before .before in
+    let st = c .before .before .before .before .before in
     let a = st .args in
     let pre = st .pre .1 in
     (omega (arith, st .pre .0), (pre .0, (pre .1 .0 .known, (pre .1 .1 .0, code-later (a .branch .table .rows) forAll (pre .1 .1 .1)))))
@@ -511,11 +511,11 @@ graft-value-returns-2 :
     (t : ℕ) →
     graft-value-lts.Need-returns-2 (graft-value-claims t) (graft-value-at t) graft-value.Post
 graft-value-returns-2 t c =
-    let st = c .before .before .before .before .before .before .before .before .before .before in
+    let st = c .before .before .before .before .before .before .before .before in
     let a = st .args in
     let pre = st .pre .1 in
-    let gr = c .before .before .before .graft-row in
-    grown-same (a .limit) (a .parent) (a .branch) (gr .result) (now (a .out)) _ _ _ (sym (value-one (now (a .s)) (a .rows) (a .depth) (a .role) (holds (a .all)) (a .values .first) (omega (arith, c .before .before .before .before .before .if1 .left)))) (gr .ensures (holds (a .all)) (pre .1 .0))
+    let gr = c .before .before .graft-row in
+    grown-same (a .limit) (a .parent) (a .branch) (gr .result) (now (a .out)) _ _ _ (sym (value-one (now (a .s)) (a .rows) (a .depth) (a .role) (holds (a .all)) (a .values .first) (omega (arith, c .before .before .before .before .if1 .left)))) (gr .ensures (holds (a .all)) (pre .1 .0))
 
 pub +graft+graft-exists+graft-role+graft-roles+graft-row+graft-value-spec : {M : Type 1} → statement M
 +graft+graft-exists+graft-role+graft-roles+graft-row+graft-value-spec =
