@@ -15,7 +15,7 @@ import sys
 ROOT = os.path.dirname(os.path.dirname(os.path.abspath(__file__)))
 FOLDERS = ['crates', 'include', 'tests', 'tools', 'examples', 'bench', 'samples', 'package']
 MADE = {'build', 'target'}                 # folders that make writes
-KIT = {'cond'}                             # the toolchain's, and not used here
+KIT = {'cond', 'packet'}                   # the toolchain's, and not used here
 LAW = re.compile(r"[^\W\d](?:[\w'′]|-(?=\w))*")
 WORD = re.compile(r'[^\W\d]\w*')
 SPAN = re.compile(r'`([^`]+)`')
