@@ -650,7 +650,8 @@ def main():
             new[function] = last.get(function, {})
             continue
         text = repaired(files[function], old, new[function], lines[function], said.append)
-        print(*(f'  {t}' for t in dict.fromkeys(said)), sep='\n')
+        for line in dict.fromkeys(said):
+            print('  ' + line)
         with open(f'{source}/proofs/{function}/Proof.antt', 'w', encoding='utf8') as f:
             f.write(text)
     os.makedirs(os.path.dirname(kept), exist_ok=True)
