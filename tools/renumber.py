@@ -292,6 +292,12 @@ def heads(text):
     return {n: a.split() for n, a in found if a != 'κs a'}
 
 
+def claimed(text, prefix):
+    """Where the tuple of a member's claims stands, without its brackets; 0, 0 if the file has no name for it."""
+    found = re.search(rf'(?m)^{re.escape(prefix)}claims t =\s+(?=\()', text)
+    return (found.end() + 1, closing(text, found.end()) - 1) if found else (0, 0)
+
+
 def fits(text, tables):
     """Whether needs, paths, arguments of invariants and claims of a file are those of the code."""
     names = Names(text)
@@ -313,8 +319,8 @@ def fits(text, tables):
             arguments = heads(text).get(f'{names.prefix(member)}Inv-{loop}')
             if arguments is None or len(arguments) != arity:
                 return False
-        claims = re.search(rf"(?m)^{re.escape(names.prefix(member))}claims t =\s+\(([^=]*)\)\n", text)
-        if claims and len(claims[1].rstrip(', \n').split(',')) != table['claims']:
+        start, end = claimed(text, names.prefix(member))
+        if end and len(plain(text[start:end]).rstrip(', ').split(',')) != table['claims']:
             return False
     return True
 
@@ -614,9 +620,9 @@ def with_rest(text, names, show, moves, dropped, say):
         if move.old['args'] != move.new['args']:
             text = with_parameters(text, 'μ-' + prefix[:-1], move.old['args'], move.new['args'], say)
         claims = show.claims(member, prefix)
-        found = re.search(rf'(?m)^{re.escape(prefix)}claims t =\s+\(([^=]*)\)\n', text)
-        if found and plain(found[1]).rstrip(', ') != claims:
-            text = text[:found.start(1)] + claims + text[found.end(1):]
+        start, end = claimed(text, prefix)
+        if end and plain(text[start:end]).rstrip(', ') != claims:
+            text = text[:start] + claims + text[end:]
         for name in (f'μ-{prefix[:-1]}', prefix + 'at', prefix + 'below'):
             for kept, new in ((part, show.types[name]) for part in parts_of(text) if declared(part) == name):
                 if plain(kept) != plain(new):
@@ -633,8 +639,8 @@ def main():
     crate, *wanted = [w for w in words if w != '--from']
     source, kept = f'{ROOT}/crates/{crate}', f'{ROOT}/target/renumber/{crate}.json'
     new = code_places(crate, source)
-    if not any(new.values()):
-        sys.exit(f'{crate}: the code has no places')
+    if not any(new.values()) or set(wanted) - set(new):
+        sys.exit(f"{crate}: no places, or no proof file of {' '.join(set(wanted) - set(new)) or 'any function'}")
     last = json.loads(read(kept)) if os.path.exists(kept) and '--from' not in words else {}
     files = {f: read(f'{source}/proofs/{f}/Proof.antt') for f in new if not wanted or f in wanted}
     todo = [f for f in files if new[f] and not fits(files[f], new[f])]
@@ -656,7 +662,7 @@ def main():
             f.write(text)
     os.makedirs(os.path.dirname(kept), exist_ok=True)
     with open(kept, 'w', encoding='utf8') as f:
-        json.dump({**last, **new}, f)
+        json.dump({**last, **{function: new[function] for function in files}}, f)
     print(f'{crate}: {len(files)} proof files, {len(todo)} did not fit the code')
 
 
