@@ -11,9 +11,10 @@ code that the file was written for: the code of the last run, else that of REV (
 - the arguments of `Inv-..` and `μ-..`, the parts `w .0`, `w .1` in `⊎-elim (λ w. ..) (λ w. ..) (c .. .came)`, the
   claims of a cycle, the parameters in its measures, and `use` lines follow.
 What is left to do by hand is printed: a path whose place is gone, a choice between two equal places, a loop more or
-less, and which needs are new, for `search needs` may not close them. The crates below have to be proved; where one of
-them has changed too, so that REV's code does not fit it, run this once before the change: it keeps the places in
-target/renumber.
+less, and which needs are new, for `search needs` may not close them. A measure of a cycle names parameters by position:
+where nothing else shows that the parameters have changed, the file is left, with a note if the last run saw others. The
+crates below have to be proved; where one of them has changed too, so that REV's code does not fit it, run this once
+before the change: it keeps the places in target/renumber.
 """
 import difflib
 import glob
@@ -28,6 +29,7 @@ import tempfile
 from check_times import OWN, ROOT, check_words
 
 PATH = re.compile(r'(?<![\w·.-])c((?: \.before)*)(?: \.([\w·-]+))?(?![\w·-])')
+FAR = 16
 CALLED = re.compile(r'(pos = |vAt |vLit |Row\.get )(\d+)')
 
 
@@ -551,6 +553,19 @@ def with_place(part, of, move, say):
     return (head.replace(mark + name, mark + now) if now != name else head) + body
 
 
+def far(text, names, moves, say):
+    """Says which answers `search needs` are further from the entry than they were, and than the search may look."""
+    for member, move in moves.items():
+        prefix = names.prefix(member)
+        old = {move.to.get(('need', need)): len(chain(move.old, at)) for need, at in move.old['at'].items()}
+        for need, at in move.new['at'].items():
+            way = len(chain(move.new, at))
+            found = re.search(rf'(?m)^{re.escape(prefix + need)} (?:t )?c(?: κs)? = search needs$', text)
+            if found and way > max(FAR, old.get(need, way)):
+                say(f'{prefix}{need}: if `search needs` fails now, bind the entry before it: '
+                    f'`let start = c .before .. in`, {way - 1} times')
+
+
 def repaired(text, old, new, lines, say):
     """A proof file as the code wants it."""
     names, show = Names(text), Printed(lines, text)
@@ -575,6 +590,7 @@ def repaired(text, old, new, lines, say):
             part = word(renamed).sub(lambda m: renamed[m[1]], part)
         result.append(part)
     text = ''.join(result)
+    far(text, names, moves, say)
     for member in show.needs:
         text = with_order(with_needs(text, member, names, show, say), member, names, show)
     return with_rest(text, names, show, moves, bool(gone), say)
@@ -660,6 +676,9 @@ def main():
             print('  ' + line)
         with open(f'{source}/proofs/{function}/Proof.antt', 'w', encoding='utf8') as f:
             f.write(text)
+    for function, member in [(f, m) for f in files if f not in todo for m in new[f] if m]:
+        if last.get(function, {}).get(member, new[function][member])['args'] != new[function][member]['args']:
+            print(f'{function}\n  parameters of {member} have changed: its measure names them by position')
     os.makedirs(os.path.dirname(kept), exist_ok=True)
     with open(kept, 'w', encoding='utf8') as f:
         json.dump({**last, **{function: new[function] for function in files}}, f)
