@@ -288,6 +288,12 @@ def halves(part):
     return (head + sign, body) if re.match(r'\S+ (t )?c\b', part) else (part, '')
 
 
+def argument(path):
+    """Whether `c` is an argument, as in `is-row c .0`: a field after it is then one of what is made of it."""
+    before = re.search(r'(\S+)\s+$', path.string[:path.start()])
+    return bool(before and re.search(r'[\w·)-]$', before[1]) and before[1] not in ('in', 'at', 'rw', 'simp', 'cc'))
+
+
 def heads(text):
     """The arguments of each loop's invariant and measure."""
     found = re.findall(r'(?m)^((?:\S+-)?(?:Inv|μ)-\S+) (.*) =(?=\s)', text)
@@ -312,9 +318,10 @@ def fits(text, tables):
         table = tables.get(of[1], {'at': {}, 'before': {}, 'fields': {}})
         place = table['at'].get(of[2]) if of[0] == 'need' else of[2]
         way = chain(table, place)
-        for before, thing in PATH.findall(halves(part)[1]):
-            at = before.count('.before')
-            if at >= len(way) or thing and thing not in table['fields'].get(way[at], []):
+        for path in PATH.finditer(halves(part)[1]):
+            at, thing = path[1].count('.before'), path[2]
+            missing = at >= len(way) or thing and thing not in table['fields'].get(way[at], [])
+            if missing and not argument(path):
                 return False
     for member, table in tables.items():
         for loop, arity in table['loops'].items():
@@ -417,6 +424,8 @@ def moved(body, move, old_way, new_way, say):
     renamed = {}
 
     def path(p):
+        if argument(p) and p[0] != 'c':
+            return path(PATH.match('c')) + p[0][1:]
         at = p[1].count('.before')
         place = old_way[at] if at < len(old_way) else None
         now = move.place(place)
