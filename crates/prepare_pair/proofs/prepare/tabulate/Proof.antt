@@ -33,8 +33,11 @@ returns-2 c =
     let built = c .before .before .before .before .before .before .before .before .before .before .before .build .ensures in
     let within = c .before .before .before .before .before .before .before .if1 .left in
     let built-second = c .before .before .before .before .before .build2 .ensures in
-    rw (c .too-many2 .ensures) (sym (many-second (a .limits) (now (a .first)) (now (a .second)) (few-rows built within)
-    (many-rows built-second (omega (arith, within, c .before .if2 .taken)))), refl)
+    rw (c .too-many2 .ensures) (
+      sym (many-second (a .limits) (now (a .first)) (now (a .second)) (few-rows built within)
+          (many-rows built-second (omega (arith, within, c .before .if2 .taken)))),
+      refl,
+    )
 
 slice-aggregate-write-halves : tie.Need-slice-aggregate-write-halves
 slice-aggregate-write-halves c = search needs
