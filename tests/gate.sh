@@ -3,15 +3,15 @@
 # edits and runs the programs; then builds the library from what was proved and runs the C tests, the Rust
 # comparison and the tests of the verdict program.
 #
-# The last line is 'N passed, M failed': N as rt counts it, M the failures of the text and of rt or, where rt has none, of
-# the tests. It is kept in build/gate.last too. Exits 0 only if nothing failed.
+# The last line is 'N passed, M failed': N as rt counts it, M the failures of the text and of rt or, where rt has none,
+# of the tests. It is kept in build/gate.last too. Exits 0 only if nothing failed.
 set -u
 cd "$(dirname "$0")/.." || exit 1
-. tests/memory.sh
 
 # rt ci removes target/, so what has to last is in build/.
 mkdir -p build
 rm -f build/gate.last build/rt-ci.ok build/tests/failed
+. tests/memory.sh
 
 # finish FAILED
 finish() {

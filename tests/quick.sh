@@ -12,7 +12,7 @@ failures=$?
 
 rt check || exit 1
 archive=target/staticlib/libzuvaropy.a
-[ -n "$(find "$archive" -newer target/stamp/zuvaropy 2>/dev/null)" ] || rt staticlib zuvaropy || exit 1
+rt staticlib zuvaropy || exit 1
 sh tests/run.sh "$archive" target/bin/verdict || failures=$((failures + 1))
 
 [ "$failures" -eq 0 ] || echo 'quick: FAILED, see above'

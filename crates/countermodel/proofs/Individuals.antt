@@ -35,7 +35,7 @@ use Rattle.table.specs.Number.{Bytes}
 use Rattle.table.specs.Range.{each}
 use Rattle.table.specs.declared.layout.Limits.{Limits}
 use Rattle.countermodel.specs.Individual.{Individuals, individualHead, individualNames, individualOk, individualParent, individualRole, individualTable, individuals, refutationForm}
-use Rattle.countermodel.specs.Layout.{individualCount, individualPlace, individualsWithin, mostIndividuals, namesOffset}
+use Rattle.countermodel.specs.Layout.{individualCount, individualPlace, individualsWithin, mostIndividuals, individualNamesOffset}
 
 -- ---- 16: the form
 
@@ -130,4 +130,4 @@ module _ (e : List ℕ) (some : 0 < individualCount e) where
   holds-is n x l = ap (λ s. has s n) (mod-eq-of-lt l)
 
 pub names-below : (e : List ℕ) → Bytes e → (x : ℕ) → individualNames e x < 2 ^ nameCount
-names-below e bytes x = be-bound e (individualPlace x namesOffset) nameBytes (λ i l. bytes (individualPlace x namesOffset + i))
+names-below e bytes x = be-bound e (individualPlace x individualNamesOffset) nameBytes (λ i l. bytes (individualPlace x individualNamesOffset + i))

@@ -39,7 +39,7 @@ use Rattle.table.specs.Layout.{endSize, lengthOffset, nameBytes, numberSize}
 use Rattle.table.specs.Number.{be, beBytes}
 use Rattle.table.specs.Range.{each}
 use Rattle.countermodel.specs.Individual.{individualNames, individualOk, individualParent, individualRole, individualTable, individuals, refutationForm}
-use Rattle.countermodel.specs.Layout.{individualCount, individualLength, individualPlace, individualSize, individualTag, individualsWithin, namesOffset, parentOffset, roleOffset}
+use Rattle.countermodel.specs.Layout.{individualCount, individualLength, individualPlace, individualSize, individualTag, individualsWithin, individualNamesOffset, individualParentOffset, individualRoleOffset}
 use Rattle.countermodel.specs.Writing.{individualBytes, individualsOf, refutationFile}
 use Rattle.countermodel.proofs.Files.{file-refutation, question-21}
 use Rattle.countermodel.proofs.Writings.{length-individual, length-individuals}
@@ -99,17 +99,17 @@ module _ (b : Tree pictureSignature) where
 
     pub written-parent : (rowIn ws k) .parent < 256 ^ numberSize → individualParent (refutationFile b) k ≡ (rowIn ws k) .parent
     unfolding individualBytes beBytes
-    written-parent f = number parentOffset numberSize (omega arith) ∙ be-inside (take parentOffset (bytesOf (rowIn ws k))) _ numberSize ((rowIn ws k) .parent) f
+    written-parent f = number individualParentOffset numberSize (omega arith) ∙ be-inside (take individualParentOffset (bytesOf (rowIn ws k))) _ numberSize ((rowIn ws k) .parent) f
 
     pub written-role : individualRole (refutationFile b) k ≡ (rowIn ws k) .role
     unfolding individualBytes beBytes
-    written-role = byte roleOffset (omega arith)
+    written-role = byte individualRoleOffset (omega arith)
 
     pub written-names : individualNames (refutationFile b) k ≡ (rowIn ws k) .label .wanted .set
     unfolding individualBytes beBytes
     written-names =
-        number namesOffset nameBytes (omega arith)
-        ∙ be-inside (take namesOffset (bytesOf (rowIn ws k))) [] nameBytes ((rowIn ws k) .label .wanted .set) (below ((rowIn ws k) .label .wanted))
+        number individualNamesOffset nameBytes (omega arith)
+        ∙ be-inside (take individualNamesOffset (bytesOf (rowIn ws k))) [] nameBytes ((rowIn ws k) .label .wanted .set) (below ((rowIn ws k) .label .wanted))
 
   -- the end field stands after the last individual
   end-byte : (i : ℕ) → getD e (individualPlace (length ws) i) 0 ≡ getD endBytes i 0

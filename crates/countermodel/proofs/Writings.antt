@@ -24,20 +24,20 @@ use Rattle.ale.specs.Countermodel.{individual}
 use Rattle.ale.specs.Encoding.{Row, encodeForest, encodeTree}
 use Rattle.ale.specs.PictureSignature.{NameSet, pictureSignature}
 use Rattle.ale.specs.Tree.{Forest, exists}
-use Rattle.countermodel.specs.Layout.{individualLength, individualPlace, individualSize, individualTag, mostIndividuals, namesOffset}
+use Rattle.countermodel.specs.Layout.{individualLength, individualPlace, individualSize, individualTag, mostIndividuals, individualNamesOffset}
 use Rattle.countermodel.specs.Writing.{Room, Written, individualBytes, individualsOf}
 
 pub length-individual : (parent role names : ℕ) → length (individualBytes parent role names) ≡ individualSize
 unfolding individualBytes beBytes
 length-individual parent role names = refl
 
-pub put-individual : (d mid end : List ℕ) (k parent role names i j : ℕ) → i ≡ individualPlace k 0 → j ≡ individualPlace k namesOffset →
+pub put-individual : (d mid end : List ℕ) (k parent role names i j : ℕ) → i ≡ individualPlace k 0 → j ≡ individualPlace k individualNamesOffset →
     mid ≡ put d i (individualTag ∷ individualLength / 256 ∷ individualLength % 256 ∷ parent / 256 % 256 ∷ parent % 256 ∷ role ∷ []) →
     end ≡ put mid j (beBytes nameBytes names) → individualPlace k individualSize ≤ length d →
     end ≡ put d (individualPlace k 0) (individualBytes parent role names)
 unfolding individualBytes beBytes
 put-individual d mid end k parent role names i j ei ej first rest room =
-    let at : individualPlace k namesOffset ≡ individualPlace k 0 + 6 = omega arith in
+    let at : individualPlace k individualNamesOffset ≡ individualPlace k 0 + 6 = omega arith in
     rw (rest, first, ei, ej, at, div-one parent)
     (put-put d (individualPlace k 0) (individualTag ∷ 0 ∷ 11 ∷ parent / 256 % 256 ∷ parent % 256 ∷ role ∷ []) (beBytes nameBytes names) (omega arith))
 

@@ -27,16 +27,16 @@ use Rattle.ale.specs.PictureSignature.{pictureSignature}
 use Rattle.ale.specs.Table.{Table}
 use Rattle.ale.specs.Tree.{exists}
 use Rattle.meaning.specs.Meaning.{setAt}
-use Rattle.countermodel.specs.Layout.{individualCount, individualLength, individualPlace, individualSize, individualTag, individualsWithin, mostIndividuals, namesOffset, parentOffset, roleOffset}
+use Rattle.countermodel.specs.Layout.{individualCount, individualLength, individualPlace, individualSize, individualTag, individualsWithin, mostIndividuals, individualNamesOffset, individualParentOffset, individualRoleOffset}
 
 abbrev pub individualParent : List ℕ → ℕ → ℕ
-individualParent e k = be e (individualPlace k parentOffset) numberSize
+individualParent e k = be e (individualPlace k individualParentOffset) numberSize
 
 abbrev pub individualRole : List ℕ → ℕ → ℕ
-individualRole e k = getD e (individualPlace k roleOffset) 0
+individualRole e k = getD e (individualPlace k individualRoleOffset) 0
 
 abbrev pub individualNames : List ℕ → ℕ → ℕ
-individualNames e k = be e (individualPlace k namesOffset) nameBytes
+individualNames e k = be e (individualPlace k individualNamesOffset) nameBytes
 
 unfoldable pub individualHead : List ℕ → ℕ → Bool
 individualHead e k = eqb (getD e (individualPlace k 0) 0) individualTag && eqb (be e (individualPlace k lengthOffset) numberSize) individualLength

@@ -1,6 +1,7 @@
 -- 01, "A refutation file: 1 to 3,328 fields, tag 42, length 11: parent (2), role (1), names that hold (8); then the end field."
 --   individualTag                      the tag
---   parentOffset, roleOffset, namesOffset         where the parts of a field begin, from its tag on
+--   individualParentOffset ..
+--   individualNamesOffset              where the parts of a field begin, from its tag on
 --   individualSize, individualLength   a whole field, and the length that its head says
 --   individualPlace                    where a part of an individual's field stands
 --   individualCount                    the individuals of a file; the end field is shorter than a field
@@ -16,17 +17,17 @@ use Rattle.ale.specs.Countermodel.{maxIndividuals}
 abbrev pub individualTag : ℕ
 individualTag = 0x42
 
-abbrev pub parentOffset : ℕ
-parentOffset = headSize
+abbrev pub individualParentOffset : ℕ
+individualParentOffset = headSize
 
-abbrev pub roleOffset : ℕ
-roleOffset = parentOffset + numberSize
+abbrev pub individualRoleOffset : ℕ
+individualRoleOffset = individualParentOffset + numberSize
 
-abbrev pub namesOffset : ℕ
-namesOffset = roleOffset + 1
+abbrev pub individualNamesOffset : ℕ
+individualNamesOffset = individualRoleOffset + 1
 
 abbrev pub individualSize : ℕ
-individualSize = namesOffset + nameBytes
+individualSize = individualNamesOffset + nameBytes
 
 abbrev pub individualLength : ℕ
 individualLength = individualSize - headSize

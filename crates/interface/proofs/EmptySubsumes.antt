@@ -1,5 +1,4 @@
 -- K1: one empty row subsumes every picture. Whatever fits a picture fits it; and its one row is sent to row 0, whose label carries no less than nothing.
---   bench                      paper 01's limits are such as the code can hold
 --   empty-counted              it has one row
 --   empty-tree                 its tree is one node without names and without a mark
 --   empty-rows, empty-label    its normal table is one such row
@@ -39,7 +38,7 @@ use Rattle.subsumption.proofs.Answers.{acceptable-result, yes-subsumes}
 use Rattle.meaning.specs.Covering.{Covers}
 use Rattle.subsumption.proofs.Writers.{verdict-covers}
 use Rattle.subsumption.specs.Verdict.{evidenceOf, mapOf, verdictOf}
-use Rattle.table.specs.Bounds.{Bounded, benchLimits, maxRows}
+use Rattle.table.specs.Bounds.{benchLimits, maxRows}
 use Rattle.table.specs.Fields.{endBytes, endsAt, rowOf}
 use Rattle.table.specs.Number.{be, beBytes}
 use Rattle.table.specs.Put.{put}
@@ -49,9 +48,7 @@ use Rattle.interface.specs.Starred.{empty, k1, k1-map}
 use Rattle.interface.specs.StarredClaims.{HasRows, Holds, TakesEvidence, WritesEvidence}
 use Rattle.interface.specs.Word.{outcomeYes, valueWord, verdictWord}
 use Rattle.interface.proofs.VerifyWords.{map-verify}
-
-pub bench : Bounded benchLimits
-bench = (omega arith, omega arith)
+use Rattle.interface.proofs.Words.{bench-bounded}
 
 abbrev q : Table pictureSignature
 q = pictureTable (normalFile benchLimits empty)
@@ -99,7 +96,7 @@ module _ (first : List ℕ) (few : mergedCount benchLimits first ≤ maxRows) wh
 
   empty-map : IsHomomorphism pictureSignature p q (imageOf k1-map)
   empty-map =
-      let some : 0 < p .rows = normal-some benchLimits first bench few in
+      let some : 0 < p .rows = normal-some benchLimits first bench-bounded few in
       record {
         inside = λ i l. subst (λ j. imageOf k1-map j < p .rows) (only i l) (omega (arith, empty-image));
         root = empty-image;
@@ -121,7 +118,7 @@ module _ (first : List ℕ) (few : mergedCount benchLimits first ≤ maxRows) wh
     empty-writes : WritesEvidence benchLimits first empty outcomeYes k1-map
     unfolding subsumesWord
     empty-writes work result enough long =
-        let decided = verdict-covers benchLimits first empty bench pair .0 covers in (
+        let decided = verdict-covers benchLimits first empty bench-bounded pair .0 covers in (
           ap verdictWord (yes-subsumes benchLimits first empty (length work) (length result) enough long pair decided)
               ∙ ap (λ (e : List ℕ). valueWord outcomeYes (length e)) (empty-evidence decided),
           acceptable-result benchLimits first empty (length work) result enough long pair ∙ ap (λ (e : List ℕ). put result 0 e) (empty-evidence decided),
@@ -129,7 +126,7 @@ module _ (first : List ℕ) (few : mergedCount benchLimits first ≤ maxRows) wh
 
     empty-taken : TakesEvidence benchLimits first empty outcomeYes k1-map
     empty-taken work enough =
-        map-verify benchLimits first empty k1-map (length work) bench enough pair
+        map-verify benchLimits first empty k1-map (length work) bench-bounded enough pair
         (record { form = empty-form; maps = empty-map })
 
 -- whatever fits a picture fits the empty row

@@ -36,10 +36,10 @@ use Rattle.interface.specs.Calls.{lcsWord, validateWord, verifyWord}
 use Rattle.interface.specs.Starred.{empty, k10-first, k10-second, k11-first, k11-second, k12-first, k12-normal, k12-normal-again, k2-first, k2-normal, k3-first, k3-normal, k4-first, k4-normal, k5-first, k6-first, k6-added-first, k6-added-normal, k7-first, k7-map, k7-refutation, k7-second, k8-first, k8-map, k8-other, k8-refutation, k8-second, k9-common, k9-first, k9-second, starred}
 use Rattle.interface.specs.StarredClaims.{WritesNormal, WritesCommon, AllHold, Holds, WritesEvidence, subsumes, subsumesNot}
 use Rattle.interface.specs.Word.{outcome, outcomeNo, outcomeYes, valueWord, verdictWord}
-use Rattle.interface.proofs.EmptySubsumes.{bench, empty-subsumes}
+use Rattle.interface.proofs.EmptySubsumes.{empty-subsumes}
 use Rattle.interface.proofs.LcsWords.{lcs-common, lcs-yes}
 use Rattle.interface.proofs.VerifyWords.{map-verify, refutation-verify, verify-map, verify-map-subsumed, verify-refutation, verify-refutation-not}
-use Rattle.interface.proofs.Words.{validate-readable}
+use Rattle.interface.proofs.Words.{bench-bounded, validate-readable}
 use lib.Dec.{leb}
 use borrow.Author.Tests.{leb-true}
 use mathlib.Core.Bool.{true}
@@ -119,19 +119,19 @@ starred-hold = (
             (
               (refl, refl, shown-normal benchLimits k6-added-first k6-added-normal refl refl refl),
               (
-                shown benchLimits bench k7-first k7-second k7-map refl refl refl,
+                shown benchLimits bench-bounded k7-first k7-second k7-map refl refl refl,
                 (
-                  shown-not benchLimits bench k7-second k7-first k7-refutation refl refl refl,
+                  shown-not benchLimits bench-bounded k7-second k7-first k7-refutation refl refl refl,
                   (
-                    shown benchLimits bench k8-first k8-second k8-map refl refl refl,
+                    shown benchLimits bench-bounded k8-first k8-second k8-map refl refl refl,
                     (
-                      shown-not benchLimits bench k8-first k8-other k8-refutation refl refl refl,
+                      shown-not benchLimits bench-bounded k8-first k8-other k8-refutation refl refl refl,
                       (
-                        (refl, shown-common benchLimits bench k9-first k9-second k9-common refl refl),
+                        (refl, shown-common benchLimits bench-bounded k9-first k9-second k9-common refl refl),
                         (
-                          (refl, shown-common benchLimits bench k10-first k10-second empty refl refl),
+                          (refl, shown-common benchLimits bench-bounded k10-first k10-second empty refl refl),
                           (
-                            (refl, shown-common benchLimits bench k11-first k11-second k11-second refl refl),
+                            (refl, shown-common benchLimits bench-bounded k11-first k11-second k11-second refl refl),
                             (
                               (refl, refl, shown-normal benchLimits k12-first k12-normal refl refl refl),
                               (

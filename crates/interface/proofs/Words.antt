@@ -2,11 +2,13 @@
 --   refusal-outcome .. refusal-card         the parts of a refusal's word
 --   value-outcome, value-value              the parts of an answer's word
 --   codes-agree                             the words of a refusal of each input, and of an answer of each call, computed
+--   bench-bounded                           paper 01's limits are such as the code can hold
 --   validate-readable, readable-validate    the plain test answers with a row count exactly when the picture is readable
 use mathlib.Core.Path.{_≡_, refl}
 use mathlib.Core.List.{List, [], _∷_}
 use Prim.Native.Nat.{ℕ, _<_}
 use native.Mathlib.Omega.{arith}
+use Rattle.table.specs.Bounds.{Bounded, benchLimits}
 use Rattle.table.specs.declared.layout.Limits.{Limits}
 use Rattle.picture.specs.declared.answer.Input.{Input}
 use Rattle.picture.specs.declared.answer.Input.the-variants.{Buffer, First, Second, Evidence, Book, Card}
@@ -26,6 +28,9 @@ use Rattle.subsumption.specs.declared.verdict.Verdict.the-variants as verdict
 use Rattle.picture.proofs.Readables.{reading-answer, reading-number, readable-count}
 use Rattle.interface.specs.Word.{card, cardOf, commonWord, input, inputCode, normalizedWord, outcome, outcomeYes, partRange, question, readWord, refusalWord, refused, selectedWord, value, valueRange, valueWord, verdictWord, verifiedWord}
 use Rattle.interface.specs.Calls.{validateWord}
+
+pub bench-bounded : Bounded benchLimits
+bench-bounded = (omega arith, omega arith)
 
 code-small : (i : Input) → inputCode i < partRange
 code-small Buffer = omega arith

@@ -1,5 +1,5 @@
 -- 01, "The calls": the word that each call gives, from the bytes it is lent, and what each buffer lent for writing
--- holds then, at any limits. The exported contracts have paper 01's limits, `benchLimits`, and the comments its numbers.
+-- holds then, at any limits. The exported contracts have paper 01's limits, `benchLimits`; the comments, its numbers.
 --   OneBuffer, TwoBuffers                    the word and what is left in the buffers are those of given definitions
 --   validateWord                             the plain test
 --   normalizeWord, NormalizeGives            the normal table
@@ -8,7 +8,8 @@
 --   verifyWord, VerifyGives                  the check of evidence
 --   mostSpecificWord, MostSpecificGives      the nearest cards
 -- `..Gives` is what a call promises: of the inputs, the buffers as lent, the word, and the buffers as left. What it
--- leaves in them, `..Work` and `..Result`, stands beside its answer (specs/Call of normal, subsumption, lcs, evidence, book).
+-- leaves in them, `..Work` and `..Result`, stands beside its answer (specs/Call of normal, subsumption, lcs, evidence,
+-- book).
 use lib.ListN.{length}
 use mathlib.Core.List.{List}
 use mathlib.Core.Path.{_≡_}

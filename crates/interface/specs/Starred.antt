@@ -3,7 +3,7 @@
 use Prim.Native.Nat.{ℕ}
 use lib.ListN.{replicate}
 use mathlib.Core.List.{List, [], _++_, _∷_}
-use Rattle.interface.specs.StarredClaims.{Case, allRow, common, contradictoryRoot, impossibleAllRow, impossibleRoot, individualBytes, mapBytes, normal, picture, r, refutation, rootRow, s, someRow, subsumes, subsumesAll, subsumesNot}
+use Rattle.interface.specs.StarredClaims.{Case, allRow, common, contradictoryRoot, impossibleAllRow, impossibleRoot, individualField, mapBytes, normal, picture, r, refutation, rootRow, s, someRow, subsumes, subsumesAll, subsumesNot}
 
 -- ---- the cases
 
@@ -81,7 +81,7 @@ abbrev pub k7-map : List ℕ
 k7-map = mapBytes (0 ∷ 1 ∷ 1 ∷ [])
 
 abbrev pub k7-refutation : List ℕ
-k7-refutation = refutation (individualBytes 0 0 [] ∷ individualBytes 0 r (3 ∷ []) ∷ individualBytes 0 r (5 ∷ []) ∷ [])
+k7-refutation = refutation (individualField 0 0 [] ∷ individualField 0 r (3 ∷ []) ∷ individualField 0 r (5 ∷ []) ∷ [])
 
 abbrev pub k7 : Case
 k7 = subsumes k7-first k7-second k7-map
@@ -103,7 +103,7 @@ abbrev pub k8-map : List ℕ
 k8-map = mapBytes (0 ∷ 1 ∷ [])
 
 abbrev pub k8-refutation : List ℕ
-k8-refutation = refutation (individualBytes 0 0 [] ∷ [])
+k8-refutation = refutation (individualField 0 0 [] ∷ [])
 
 abbrev pub k8 : Case
 k8 = subsumes k8-first k8-second k8-map

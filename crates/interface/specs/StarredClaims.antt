@@ -6,7 +6,7 @@
 --   impossibleRoot,
 --   impossibleAllRow              rows with the impossible mark
 --   picture                       rows, and the end field
---   mapBytes, individualBytes     a map by its images; an individual by its parent, its role and the names that hold
+--   mapBytes, individualField     a map by its images; an individual by its parent, its role and the names that hold
 --   refutation                    individuals, and the end field
 --   Case                          normal: a picture of so many rows, and its normal table of so many
 --                                 subsumes: the second covers the first, with our map; subsumesNot: it does not, with our refutation (01 leaves which
@@ -85,8 +85,8 @@ images (v ∷ vs) = beBytes numberSize v ++ images vs
 abbrev pub mapBytes : List ℕ → List ℕ
 mapBytes im = (mapTag ∷ []) ++ beBytes numberSize (numberSize * length im) ++ images im
 
-abbrev pub individualBytes : ℕ → ℕ → List ℕ → List ℕ
-individualBytes parent role held =
+abbrev pub individualField : ℕ → ℕ → List ℕ → List ℕ
+individualField parent role held =
     (individualTag ∷ []) ++ beBytes numberSize individualLength ++ beBytes numberSize parent ++ (role ∷ []) ++ beBytes nameBytes (names held)
 
 abbrev pub refutation : List (List ℕ) → List ℕ

@@ -1,8 +1,11 @@
--- Shortcuts that give another common picture, each with a case that shows it, computed from the bytes by the definitions alone.
---   k9-first, k9-second, k9-common   the pictures of K9: {3}, some r{4}; {3,5}, some r{4,6}, some r{7}; {3}, some r{4}, some r{}
+-- Shortcuts that give another common picture, each with a case that shows it, computed from the bytes by the
+-- definitions alone.
+--   k9-first, k9-second, k9-common   the pictures of K9: {3}, some r{4}; {3,5}, some r{4,6}, some r{7};
+--                                    {3}, some r{4}, some r{}
 --   k9                               the common picture is not always empty
 --   spread                           all r{3}, some r{5}
---   normal-tables                    the normal tables are intersected, not the pictures' own: with some r{3} it has some r{3} in common, not some r{}
+--   normal-tables                    the normal tables are intersected, not the pictures' own: with some r{3} it has
+--                                    some r{3} in common, not some r{}
 use Prim.Native.Nat.{ℕ}
 use mathlib.Core.List.{List, [], _∷_}
 use mathlib.Core.Path.{_≡_, refl}

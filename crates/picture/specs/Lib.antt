@@ -1,4 +1,5 @@
--- The picture reader, in the paper's order: what is refused, the depth of a row, the questions of a field, reading, and what a readable picture is.
+-- The picture reader, in the paper's order: what is refused, the depth of a row, the questions of a field, reading,
+-- and what a readable picture is.
 pub mod Refusal
 pub mod Depth
 pub mod Questions

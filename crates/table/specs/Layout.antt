@@ -2,7 +2,8 @@
 --   tagSize, numberSize, headSize       the parts of a field's head, and the head
 --   rowTag, endTag                      tags
 --   nameBytes, nameCount                a set of names: its bytes, and how many names there are
---   lengthOffset, parentOffset .. excludedOffset    where each part of a field begins, from its tag on
+--   lengthOffset,
+--   parentOffset .. excludedOffset      where each part of a field begins, from its tag on
 --   rowLength, endLength                the lengths that heads say
 --   rowSize, endSize                    whole fields
 --   kindRoot, kindExists, kindForAll    kinds of row

@@ -1,5 +1,5 @@
-// The verdict program: reads two pictures, and prints whether the second covers the first. It is a library, so that programs with files of their own
-// can run it.
+// The verdict program: reads two pictures, and prints whether the second covers the first. It is a library, so that
+// programs with files of their own can run it.
 mod load;
 mod tell;
 
