@@ -17,7 +17,7 @@ returns : tie.Need-returns
 returns c =
     let st = c .before .before .before .before in
     let a = st .args in
-    λ l is. grown-over (a .limit) (a .edge .parent) (a .branch) _ (now (a .out)) _ (a .edge .role) _ (st .pre .0) (c .if1 .taken) refl refl
+    λ l is. grown-over (a .limit) (a .edge .parent) (a .branch) _ (now (a .out)) _ (a .edge .role) _ (st .pre .0) (omega (arith, c .if1 .taken)) refl refl
 
 enter-requires : tie.Need-enter-requires
 enter-requires c κs =

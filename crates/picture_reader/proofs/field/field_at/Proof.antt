@@ -1,8 +1,12 @@
 -- Each return follows from the tests on the way to it: the head's bytes, the tag, the length.
 use borrow.Author.Tests.{eq-eqb, ne-eqb, le-leb, lt-leb, not-true, not-false}
 use Rattle.picture.specs.Questions.{fieldAt}
+use Rattle.table.specs.Layout.{headSize, «place»}
+use lib.ListN.{length}
 use mathlib.Core.Path.{sym, _∙_}
+use native.Mathlib.Omega.{arith}
 use borrow.Author.Needs.{needs}
+use denote.Ref.{now}
 use Rattle.picture_reader.proofs.field.field_at.Statement.{statement}
 use Rattle.picture_reader.proofs.field.field_at.Tie as tie
 
@@ -11,7 +15,9 @@ place-requires c κs = search needs
 
 returns : tie.Need-returns
 unfolding fieldAt
-returns c = rw (sym (c .before .place .ensures)) (simp (lt-leb _ _ (c .if1 .taken)))
+returns c =
+    let a = c .before .before .before .args in
+    simp (lt-leb (place (a .n) headSize) (length (now (a .s))) (omega (arith, c .before .place .ensures, c .if1 .taken)))
 
 tag-requires : tie.Need-tag-requires
 tag-requires c κs = search needs

@@ -9,7 +9,9 @@ use Rattle.picture_reader.proofs.field.row_field.Tie as tie
 
 returns : tie.Need-returns
 unfolding rowField
-returns c = simp (le-ltb _ _ (c .if1 .taken))
+returns c =
+    let a = c .before .before .before .args in
+    simp (le-ltb (a .n) (a .limits .rows) (omega arith))
 
 place-requires : tie.Need-place-requires
 place-requires c κs = search needs
