@@ -1,7 +1,7 @@
 #!/bin/sh
 # The gate: checks the layout of the crates and what the documents cite; proves every crate, tries the must-fail
-# edits and runs the programs; then builds the library from what was proved and runs the C tests, the Rust
-# comparison and the tests of the verdict program.
+# edits, each of which has to be refused by the fact that it names, and runs the programs; then builds the library
+# from what was proved and runs the C tests, the Rust comparison and the tests of the verdict program.
 #
 # The last line is 'N passed, M failed': N as rt counts it, M the failures of the text and of rt or, where rt has none,
 # of the tests. It is kept in build/gate.last too. Exits 0 only if nothing failed.
@@ -31,6 +31,14 @@ passed=${counts% *}
 failed=${counts#* }
 [ "$failed" -eq 0 ] || finish "$failed"
 [ "$passed" -gt 0 ] && [ -e build/rt-ci.ok ] || finish 1
+
+# Each edit is refused first by the fact that it names.
+if ! command -v python3 >/dev/null; then
+    echo 'refusals: by which facts the edits are refused is not tested, no python3'
+elif ! tools/refusals.py >build/refusals.log; then
+    grep '^!' build/refusals.log
+    text=$((text + 1))
+fi
 
 rt staticlib zuvaropy || finish 1
 if ! sh tests/run.sh target/staticlib/libzuvaropy.a target/bin/verdict; then

@@ -3,8 +3,9 @@
 
     tools/edits.py CRATE[/EDIT] ..
 
-The crates have to be proved (`rt check`). Prints a line for each edit: whether it was refused, how long that took, and by
-which statement first, as tools/refusals.py does (! if it is not the one that the edit names).
+The crates have to be proved (`rt check`). Prints a line for each edit: whether it was refused, how long that took, and
+by which statement first, as tools/refusals.py does (! if it is not the one that the edit names). Exits 1 if one is not
+refused, or marked.
 """
 import concurrent.futures
 import os
@@ -45,13 +46,14 @@ def tried(item):
     crate, edit = item
     with tempfile.TemporaryDirectory() as folder:
         if not edited(crate, edit, folder):
-            return f'{crate}/{edit}: a text to be replaced does not stand there once'
+            return False, f'! {crate}/{edit}: a text to be replaced does not stand there once'
         began = time.time()
         run = subprocess.run([f'{OWN}/bin/rattle', 'check', *check_words(crate, f'{folder}/src')], stdout=subprocess.PIPE,
                              stderr=subprocess.STDOUT, text=True)
         fits, line = refusal(crate, edit, run.stdout)
     refused = run.returncode == 1 and 'logic=not-proved' in run.stdout
-    return f'{" " if fits else "!"} {"refused" if refused else "NOT REFUSED"}, {time.time() - began:.0f} s: {line}'
+    told = f'{" " if fits else "!"} {"refused" if refused else "NOT REFUSED"}, {time.time() - began:.0f} s: {line}'
+    return refused and fits, told
 
 
 def items(words):
@@ -62,5 +64,8 @@ def items(words):
 
 
 with concurrent.futures.ThreadPoolExecutor(2) as pool:
-    for line in pool.map(tried, items(sys.argv[1:])):
+    good = True
+    for fits, line in pool.map(tried, items(sys.argv[1:])):
+        good = good and fits
         print(line, flush=True)
+sys.exit(0 if good else 1)

@@ -1,17 +1,19 @@
 #!/usr/bin/env python3
-"""Says by which statement each must-fail edit is refused first, from the logs that `rt ci` or `rt must-fail` left in target/.
+"""Says by which statement each must-fail edit is refused first, from the logs that `rt ci` left in target/.
 
     tools/refusals.py [CRATE[/EDIT] ..]
 
 An edit names the fact that it makes false in a line of its own, `false: MODULE: STATEMENT`. What stands there is
 
-    case       a statement without variables: it computes, or it is false
-    contract   `returns`, what a function promises
+    case       an equation without variables: both sides compute, so it is true or false
+    contract   `returns`, what a function promises of its answer
     law, need  any other. A proof of it can fail for its text's sake while it holds, so the line says when it is false:
                `false: MODULE: STATEMENT: WHEN`
 
-Marked with ! are edits whose first error is in another statement than the one named, in a law or need with no `WHEN`, or
-about a proof file that does not fit any more. The exit status is 1 if there is one.
+That a contract is false, or when a law is, no script can tell: the line is there to be read beside the edit.
+
+Marked with ! are edits whose first error is in another statement than the one named, in a law or need with no `WHEN`,
+or about a proof file that does not fit any more, and edits that were not tried. The exit status is 1 if there is one.
 """
 import os
 import re
@@ -38,8 +40,9 @@ def kind(crate, path, statement):
     if path.startswith('src/') or path.endswith('/Proof.antt'):
         return 'contract' if re.search(r'(^|-)returns(-\d+)?$', statement) else 'need'
     with open(f'{ROOT}/crates/{crate}/{path}', encoding='utf8') as f:
-        said = re.search(rf'^(?:pub )?{re.escape(statement)} : (.*?)^(?:unfolding|{re.escape(statement)}) ', f.read(), re.M | re.S)
-    return 'law' if not said or re.search(r'[({][^(){}]* : ', said[1]) else 'case'
+        name = re.escape(statement)
+        said = re.search(rf'^(?:pub )?{name} : (.*?)^(?:unfolding|{name}) ', f.read(), re.M | re.S)
+    return 'law' if not said or re.search(r'[({][^(){}]* : |→ ⊥', said[1]) else 'case'
 
 
 def refusal(crate, edit, log):
@@ -56,11 +59,13 @@ def refusal(crate, edit, log):
 
 
 def main():
-    words = sys.argv[1:] or sorted(os.listdir(f'{ROOT}/target/must-fail'))
+    crates = sorted(os.listdir(f'{ROOT}/crates'))
+    words = sys.argv[1:] or [crate for crate in crates if os.path.isdir(f'{ROOT}/crates/{crate}/must-fail')]
     told = []
     for word in words:
         crate, _, one = word.partition('/')
-        for edit in [one] if one else sorted(f.removesuffix('.edit') for f in os.listdir(f'{ROOT}/crates/{crate}/must-fail')):
+        files = [one] if one else sorted(os.listdir(f'{ROOT}/crates/{crate}/must-fail'))
+        for edit in [file.removesuffix('.edit') for file in files]:
             log = f'{ROOT}/target/must-fail/{crate}/{edit}/.log'
             if os.path.exists(log):
                 with open(log, encoding='utf8') as f:
