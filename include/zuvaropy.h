@@ -8,11 +8,11 @@
  * Every call takes numbers and byte buffers and returns one 64-bit answer
  * word. The library allocates nothing, keeps no state and calls nothing but
  * memcpy, memset and their like, so every call may be made from any thread at
- * any time.
+ * any time, on buffers that no other thread writes meanwhile.
  *
- * A buffer is a pointer and a length in bytes. The pointer may be NULL where
- * the length is 0. A buffer lent for writing overlaps no other buffer of its
- * call.
+ * A buffer is a pointer and a length in bytes, and has as many bytes as its
+ * length says. The pointer may be NULL where the length is 0. A buffer lent for
+ * writing overlaps no other buffer of its call.
  *
  * Contents: version, sizes, codes, the answer word, calls.
  */
@@ -50,7 +50,8 @@ extern "C" {
  *   parent      number of an earlier row; 0 in row 0
  *   kind        of the edge from the parent (ZUVAROPY_KIND_...)
  *   role        of the edge from the parent; 0 in row 0
- *   impossible  1 to say that nothing is an instance of the row, else 0
+ *   impossible  the mark: 1 to say that nothing is an instance of the row,
+ *               else 0
  *   wanted      set of the names that an instance has
  *   excluded    set of the names that an instance has not
  *
