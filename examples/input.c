@@ -18,6 +18,15 @@ static const char *const question_text[] = {
     [ZUVAROPY_QUESTION_IMPOSSIBLE] = "is the impossible byte 0 or 1?",
     [ZUVAROPY_QUESTION_MERGED] = "has the merged table at most 256 rows?",
     [ZUVAROPY_QUESTION_COMMON] = "has the common picture at most 256 rows?",
+    [ZUVAROPY_QUESTION_FORM] = "is the evidence a map or a refutation, to its last byte?",
+    [ZUVAROPY_QUESTION_IMAGE] = "is the image a row of the first normal table?",
+    [ZUVAROPY_QUESTION_ROOT_IMAGE] = "is the image of row 0 row 0?",
+    [ZUVAROPY_QUESTION_LABEL] = "has the image the row's names and its mark, or is it impossible?",
+    [ZUVAROPY_QUESTION_EDGE] = "does the edge from the parent agree?",
+    [ZUVAROPY_QUESTION_INDIVIDUAL] = "has each individual a parent below its number and a role below 32?",
+    [ZUVAROPY_QUESTION_INSTANCE] = "is individual 0 an instance of the first picture?",
+    [ZUVAROPY_QUESTION_REFUTED] = "is individual 0 not an instance of the second picture?",
+    [ZUVAROPY_QUESTION_BOOK] = "is it a book, to its last byte?",
 };
 
 static const char *const input_name[] = {
