@@ -1,14 +1,16 @@
 #!/usr/bin/env python3
 """Counts the lines of definitions in the files of docs/ARCHITECTURE.md's reading order, and writes the numbers there.
 
-    tools/reading.py
+    tools/reading.py [--check]
 
-Comments, imports and blank lines do not count.
+Comments, imports and blank lines do not count. With --check nothing is written: the lines that would change are
+printed, and the exit status is 1 if there is one.
 """
+import os
 import re
-import subprocess
+import sys
 
-ROOT = subprocess.run(['git', 'rev-parse', '--show-toplevel'], capture_output=True, text=True, check=True).stdout.strip()
+ROOT = os.path.dirname(os.path.dirname(os.path.abspath(__file__)))
 PAGE = f'{ROOT}/docs/ARCHITECTURE.md'
 counts = []
 
@@ -29,10 +31,17 @@ def row(line):
 
 
 with open(PAGE, encoding='utf8') as f:
-    before, title, rest = f.read().partition('## Reading order')
+    page = f.read()
+before, title, rest = page.partition('## Reading order')
 order, rule, after = rest.partition('\n## ')
 order = re.sub(r'(?m)^(\| \d+ \| )([^|]*)( \| .*)$', row, order)
 order = re.sub(r'[\d,]+ files, [\d,]+ lines', f'{len(counts)} files, {sum(counts):,} lines', order)
+counted = before + title + order + rule + after
+if '--check' in sys.argv:
+    for number, (old, new) in enumerate(zip(page.split('\n'), counted.split('\n')), 1):
+        if old != new:
+            print(f'docs/ARCHITECTURE.md:{number}: counted anew: {new}')
+    sys.exit(page != counted or not counts)
 with open(PAGE, 'w', encoding='utf8') as f:
-    f.write(before + title + order + rule + after)
+    f.write(counted)
 print(f'{len(counts)} files, {sum(counts)} lines')
