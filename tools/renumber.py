@@ -10,11 +10,12 @@ code that the file was written for: the code of the last run, else that of REV (
 - needs get their new names (`cast-t9`, `returns-2`), new ones the answer `search needs`, and those that are gone go,
 - the arguments of `Inv-..` and `μ-..`, the parts `w .0`, `w .1` in `⊎-elim (λ w. ..) (λ w. ..) (c .. .came)`, the
   claims of a cycle, the parameters in its measures, and `use` lines follow.
-What is left to do by hand is printed: a path whose place is gone, a choice between two equal places, a loop more or
-less, and which needs are new, for `search needs` may not close them. A measure of a cycle names parameters by position:
-where nothing else shows that the parameters have changed, the file is left, with a note if the last run saw others. The
-crates below have to be proved; where one of them has changed too, so that REV's code does not fit it, run this once
-before the change: it keeps the places in target/renumber.
+What is left to do by hand is printed: a path whose place is gone, a choice between two equal places, another local in
+the place of an argument, a loop more or less, and which needs are new, for `search needs` may not close them. A measure
+of a cycle names parameters by position: where nothing else shows that the parameters have changed, the file is left,
+with a note if the last run saw others. The crates below have to be proved; where one of them has changed too, so that
+REV's code does not fit it, run this once before the change: it keeps the places in target/renumber. Exits 2 if a
+function that is named has no proof file.
 """
 import difflib
 import glob
@@ -159,7 +160,7 @@ def aligned(old, new, late):
 
 # What the code says: places of all functions, and the lines that a check prints for a function without a file.
 
-def proof_files(crate, folder):
+def proof_files(folder):
     """The functions and cycles that have a proof file, by their folders."""
     files = glob.glob(f'{folder}/proofs/**/Proof.antt', recursive=True)
     return sorted(os.path.relpath(os.path.dirname(f), f'{folder}/proofs') for f in files)
@@ -178,7 +179,7 @@ def bare_crate(crate, source, folder):
     for part in ('src', 'specs'):
         if os.path.isdir(f'{source}/{part}'):
             shutil.copytree(f'{source}/{part}', f'{folder}/{part}')
-    stubs = {f: stub(crate, source, f) for f in proof_files(crate, source)}
+    stubs = {f: stub(crate, source, f) for f in proof_files(source)}
     for function in stubs:
         put_stub(folder, function, stubs)
     return stubs
@@ -483,8 +484,11 @@ def with_arguments(text, name, new, say):
     """The clause of an invariant or measure, with the arguments that the code gives it."""
     found = re.search(rf'(?m)^{re.escape(name)} (.*) =(?=\s)((?:.*\n)(?:\s.*\n|\n)*)', text)
     old, result = found[1].split(), []
-    for kind, a, b, c, d in difflib.SequenceMatcher(None, old, new, autojunk=False).get_opcodes():
-        if kind in ('equal', 'replace') and b - a == d - c:
+    for _, a, b, c, d in difflib.SequenceMatcher(None, old, new, autojunk=False).get_opcodes():
+        if b - a == d - c:
+            pairs = [(n, m) for n, m in zip(old[a:b], new[c:d]) if n != m and word([n]).search(found[2])]
+            if pairs:
+                say(f"{name}: a name is kept: {', '.join(f'{n} for {m}' for n, m in pairs)}")
             result += old[a:b]
             continue
         used = [n for n in old[a:b] if word([n]).search(found[2])]
@@ -663,10 +667,15 @@ def main():
     revision = words.pop(words.index('--from') + 1) if '--from' in words else 'HEAD'
     crate, *wanted = [w for w in words if w != '--from']
     source, kept = f'{ROOT}/crates/{crate}', f'{ROOT}/target/renumber/{crate}.json'
+    unknown = set(wanted) - set(proof_files(source))
+    if unknown:
+        print(f"{crate}: no proof file of {' '.join(sorted(unknown))}", file=sys.stderr)
+        sys.exit(2)
     new = code_places(crate, source)
-    if not any(new.values()) or set(wanted) - set(new):
-        sys.exit(f"{crate}: no places, or no proof file of {' '.join(set(wanted) - set(new)) or 'any function'}")
-    last = json.loads(read(kept)) if os.path.exists(kept) and '--from' not in words else {}
+    if not any(new.values()):
+        sys.exit(f'{crate}: no places')
+    stored = json.loads(read(kept)) if os.path.exists(kept) else {}
+    last = {} if '--from' in words else stored
     files = {f: read(f'{source}/proofs/{f}/Proof.antt') for f in new if not wanted or f in wanted}
     todo = [f for f in files if new[f] and not fits(files[f], new[f])]
     olds = [last] if all(fits(files[f], last.get(f, {})) for f in todo) else [last, committed_places(crate, revision)]
@@ -678,7 +687,7 @@ def main():
         if not old or function not in lines:
             print(f'  left as it is: it fits neither the code of the last run nor that of {revision}'
                   if not old else '  left as it is: the check prints no lines for it')
-            new[function] = last.get(function, {})
+            new[function] = {}
             continue
         text = repaired(files[function], old, new[function], lines[function], said.append)
         for line in dict.fromkeys(said):
@@ -690,7 +699,7 @@ def main():
             print(f'{function}\n  parameters of {member} have changed: its measure names them by position')
     os.makedirs(os.path.dirname(kept), exist_ok=True)
     with open(kept, 'w', encoding='utf8') as f:
-        json.dump({**last, **{function: new[function] for function in files}}, f)
+        json.dump({**stored, **{function: new[function] for function in files if new[function]}}, f)
     print(f'{crate}: {len(files)} proof files, {len(todo)} did not fit the code')
 
 
