@@ -53,6 +53,11 @@ def word(names):
     return re.compile(rf'(?<![\w·.-])({any_of(names)})(?![\w·-])')
 
 
+def listed(needs):
+    """A need in the list at the end of a proof; in a cycle it takes `t`."""
+    return rf'\s+(?:\((?:{any_of(needs)}) t\)|(?:{any_of(needs)})(?![\w·-]))'
+
+
 # The places of a function, from its generated Lts file.
 
 def signature(text, parameters):
@@ -124,9 +129,9 @@ def places(lts):
     return found
 
 
-def chain(table, place):
-    """A place and those on the way to it, nearest first."""
-    way = []
+def chain(table, name):
+    """A place, that of a need if one is named, and those on the way to it, nearest first."""
+    way, place = [], table['at'].get(name, name)
     while place:
         way.append(place)
         place = table['before'].get(place)
@@ -224,18 +229,18 @@ def printed(crate, functions):
     """The file that a check prints for each function, as if it had none."""
     texts = {}
     with tempfile.TemporaryDirectory() as folder:
-        stubs = bare_crate(crate, f'{ROOT}/crates/{crate}', folder)
-        while set(functions) - set(texts):
-            for function in functions:
-                if function in texts:
-                    put_stub(folder, function, stubs)
-                else:
-                    shutil.rmtree(f'{folder}/proofs/{function}', ignore_errors=True)
+        stubs, left = bare_crate(crate, f'{ROOT}/crates/{crate}', folder), set(functions)
+        for function in left:
+            shutil.rmtree(f'{folder}/proofs/{function}')
+        while left:
             said = checked(crate, folder, '--allow-holes')
             more = {os.path.relpath(os.path.dirname(p), f'{folder}/proofs'): re.sub(r'(?m)^    ', '', body)
                     for p, body in re.findall(r'(?m)^help: write (\S+) with these lines.*\n((?:    .*\n| *\n)+)', said)}
-            if not set(more) & set(functions) - set(texts):
+            if not left & set(more):
                 break
+            for function in left & set(more):
+                put_stub(folder, function, stubs)
+            left -= set(more)
             texts.update(more)
     return texts
 
@@ -249,7 +254,7 @@ def parts_of(text):
 def declared(part):
     """The name that a part gives the type of."""
     found = re.match(r'(?:(?:abbrev|pub|unfoldable) )*(\S+) :(?=\s)', part)
-    return found[1] if found and not part.startswith(('use ', '--')) else None
+    return found and found[1]
 
 
 class Names:
@@ -262,9 +267,7 @@ class Names:
         need = re.match(r'\S+ :\s+(?:\(t : ℕ\) →\s+)?(?:tie|(\S+)-lts)\.Need-(\S+)', part)
         place = re.match(r'\S+ :\s+(?:\(t : ℕ\)\s+)?\(c : (?:tie|(\S+)-lts)\.([^\s)]+)', part)
         found = need or place
-        if not found:
-            return None
-        return 'need' if need else 'place', self.lts.get(found[1], '') if found[1] else '', found[2]
+        return found and ('need' if need else 'place', self.lts.get(found[1], ''), found[2])
 
     def prefix(self, member):
         return next((n + '-' for n, f in self.lts.items() if f == member), '')
@@ -282,11 +285,8 @@ def answers(text):
 
 def halves(part):
     """What stands before the paths of a part, and the rest."""
-    if declared(part):
-        found = re.match(r'\S+ :\s+(?:\(t : ℕ\)\s+)?\(c : [^)]*\)', part)
-        return (found[0], part[found.end():]) if found else (part, '')
-    head, sign, body = part.partition('=')
-    return (head + sign, body) if re.match(r'\S+ (t )?c\b', part) else (part, '')
+    found = re.match(r'\S+ :\s+(?:\(t : ℕ\)\s+)?\(c : [^)]*\)|\S+ (?:t )?c\b[^=]*=', part)
+    return (found[0], part[found.end():]) if found else (part, '')
 
 
 def argument(path):
@@ -317,8 +317,7 @@ def fits(text, tables):
         if not of:
             continue
         table = tables.get(of[1], {'at': {}, 'before': {}, 'fields': {}})
-        place = table['at'].get(of[2]) if of[0] == 'need' else of[2]
-        way = chain(table, place)
+        way = chain(table, of[2])
         for path in PATH.finditer(halves(part)[1]):
             at, thing = path[1].count('.before'), path[2]
             missing = at >= len(way) or thing and thing not in table['fields'].get(way[at], [])
@@ -368,10 +367,13 @@ class Move:
 def with_way(function, old, new, say):
     """A function of one of two ways, `(λ w. ..)`, whose parts `w .0`, `w .1` are counted anew."""
     variable = re.match(r'\(λ (\S+)\.', function)
+    if not variable:
+        say('the ways of `.came` have changed')
+        return function
 
     def part(p):
-        at = int(p[1]) if p[1] else 0
-        if variable and at < len(old) and (p[1] is None) == (len(old) == 1):
+        at = int(p[1] or 0)
+        if at < len(old) and (p[1] is None) == (len(old) == 1):
             nth = old[:at].count(old[at])
             found = [i for i, name in enumerate(new) if name == old[at]]
             if old[at] and nth < len(found):
@@ -379,11 +381,7 @@ def with_way(function, old, new, say):
         say(f'`{p[0]}` of `.came` has no part any more')
         return p[0]
 
-    if not variable:
-        say('the ways of `.came` have changed')
-        return function
-    start = variable.end()
-    name = re.escape(variable[1])
+    start, name = variable.end(), re.escape(variable[1])
     return function[:start] + re.sub(rf'(?<![\w·.-]){name}(?: \.(\d+))?(?![\w·-])', part, function[start:])
 
 
@@ -456,8 +454,7 @@ class Printed:
         for module, alias in re.findall(r'(?m)^use (\S+) as (\S+)$', text):
             if aliases.get(module, alias) != alias:
                 text = re.sub(rf'(?<![\w·.-]){re.escape(alias)}(?=\.\w)', aliases[module], text)
-        self.types, self.clauses, names = {}, {}, Names(text)
-        self.needs = {}
+        self.types, self.clauses, self.needs, names = {}, {}, {}, Names(text)
         for part in parts_of(text):
             name = declared(part)
             if name:
@@ -465,19 +462,14 @@ class Printed:
                 of = names.member(part)
                 if of and of[0] == 'need':
                     self.needs.setdefault(of[1], []).append(name)
-            elif not part.startswith(('use ', '--')):
+            else:
                 self.clauses[part.split()[0]] = part
         self.arguments = heads(text)
 
-    def claims(self, member, prefix):
+    def claims(self, member):
         """The tuple of a member's claims, as its needs have it."""
         found = re.search(r'\.Need-\S+ \((.*)\) \(\S+-at t\)', plain(self.types[self.needs[member][0]]))
-        return found[1] if found and prefix else None
-
-    def type_of(self, name, member, prefix, short):
-        """The type of a need in one line, with the claims by their name where the file has one."""
-        text = plain(self.types[name])
-        return text.replace(f'({self.claims(member, prefix)})', f'({prefix}claims t)') if prefix and short else text
+        return found and found[1]
 
 
 def with_arguments(text, name, new, say):
@@ -560,19 +552,17 @@ def with_place(part, of, move, say):
     if now is None:
         say(f'its place {name} is gone')
         return part
-    way = chain(move.new, move.new['at'][now] if kind == 'need' else now)
-    body = moved(body, move, chain(move.old, move.old['at'][name] if kind == 'need' else name), way, say)
     mark = 'Need-' if kind == 'need' else '.'
-    return (head.replace(mark + name, mark + now) if now != name else head) + body
+    return head.replace(mark + name, mark + now) + moved(body, move, chain(move.old, name), chain(move.new, now), say)
 
 
 def far(text, names, moves, say):
     """Says which answers `search needs` are further from the entry than they were, and than the search may look."""
     for member, move in moves.items():
         prefix = names.prefix(member)
-        old = {move.to.get(('need', need)): len(chain(move.old, at)) for need, at in move.old['at'].items()}
-        for need, at in move.new['at'].items():
-            way = len(chain(move.new, at))
+        old = {move.to.get(('need', need)): len(chain(move.old, need)) for need in move.old['at']}
+        for need in move.new['at']:
+            way = len(chain(move.new, need))
             found = re.search(rf'(?m)^{re.escape(prefix + need)} (?:t )?c(?: κs)? = search needs$', text)
             if found and way > max(FAR, old.get(need, way)):
                 say(f'{prefix}{need}: if `search needs` fails now, bind the entry before it: '
@@ -587,7 +577,6 @@ def repaired(text, old, new, lines, say):
         return text
     moves = {m: Move(old[m], new[m]) for m in new}
     renamed, gone = renamings(moves, names, say)
-    listed = re.compile(r'\s+(?:\((?:%s) t\)|(?:%s)(?![\w·-]))' % (any_of(gone), any_of(gone)))
     result = []
     for part, of in answers(text):
         if of and of[0] == 'need' and names.prefix(of[1]) + of[2] in gone:
@@ -596,7 +585,7 @@ def repaired(text, old, new, lines, say):
                 say(f'need {names.prefix(of[1])}{of[2]} is gone; its answer was: {answer}')
             continue
         if gone and re.match(r'\S+-spec\b', part):
-            part = listed.sub('', part)
+            part = re.sub(listed(gone), '', part)
         if of:
             part = with_place(part, of, moves[of[1]], lambda t, n=part.split()[0]: say(f'{n}: {t}'))
         if renamed and not part.startswith(('use ', '--')):
@@ -612,7 +601,8 @@ def repaired(text, old, new, lines, say):
 def with_needs(text, member, names, show, say):
     """New needs, each after the need that stands before it in the code."""
     prefix, needs = names.prefix(member), show.needs[member]
-    short, parts = f'\nabbrev {prefix}claims :' in text, parts_of(text)
+    parts, claims = parts_of(text), f'({show.claims(member)})'
+    short = f'({prefix}claims t)' if f'\nabbrev {prefix}claims :' in text else claims
     have = [n for n in map(declared, parts) if n in needs]
     for at, need in enumerate(needs):
         if need in have:
@@ -621,7 +611,7 @@ def with_needs(text, member, names, show, say):
         here = [i for i, part in enumerate(parts) if at and needs[at - 1] in (declared(part), part.split(' ')[0])]
         first = next((i for i, part in enumerate(parts) if declared(part) in have), len(parts) - 2)
         where = here[-1] + 1 if here else first
-        parts[where:where] = [f'{show.type_of(need, member, prefix, short)}\n', f'{clause} = search needs\n\n']
+        parts[where:where] = [plain(show.types[need]).replace(claims, short) + '\n', f'{clause} = search needs\n\n']
         say(f'need {need} is new: search needs')
     return ''.join(parts)
 
@@ -630,7 +620,7 @@ def with_order(text, member, names, show):
     """The list of a member's needs at the end of the proof, in the order of the code."""
     needs = show.needs[member]
     last = re.search(r'(?m)^pub \S+-spec :', text).start()
-    found = re.search(r'(?:\s+(?:\((?:%s) t\)|(?:%s)(?![\w·-])))+' % (any_of(needs), any_of(needs)), text[last:])
+    found = re.search(f'(?:{listed(needs)})+', text[last:])
     if word(needs).findall(found[0]) == needs:
         return text
     space = re.match(r'\s+', found[0])[0]
@@ -648,17 +638,16 @@ def with_rest(text, names, show, moves, dropped, say):
             continue
         if move.old['args'] != move.new['args']:
             text = with_parameters(text, 'μ-' + prefix[:-1], move.old['args'], move.new['args'], say)
-        claims = show.claims(member, prefix)
+        claims = show.claims(member)
         start, end = claimed(text, prefix)
         if end and plain(text[start:end]).rstrip(', ') != claims:
             text = text[:start] + claims + text[end:]
         for name in (f'μ-{prefix[:-1]}', prefix + 'at', prefix + 'below'):
-            for kept, new in ((part, show.types[name]) for part in parts_of(text) if declared(part) == name):
+            for kept in parts_of(text):
+                new = show.types[name] if declared(kept) == name else \
+                    show.clauses[name].rstrip('\n') + '\n\n' if kept.startswith(name + ' t ') else kept
                 if plain(kept) != plain(new):
                     text = text.replace(kept, new, 1)
-            for kept in [p for p in parts_of(text) if p.startswith(name + ' t ')]:
-                if plain(kept) != plain(show.clauses[name]):
-                    text = text.replace(kept, show.clauses[name].rstrip('\n') + '\n\n', 1)
     return with_uses(text, show.uses, dropped)
 
 
@@ -681,17 +670,18 @@ def main():
     olds = [last] if all(fits(files[f], last.get(f, {})) for f in todo) else [last, committed_places(crate, revision)]
     lines = printed(crate, todo) if todo else {}
     for function in todo:
-        said = []
-        old = next((o[function] for o in olds if o.get(function) and fits(files[function], o[function])), None)
-        print(function)
-        if not old or function not in lines:
-            print(f'  left as it is: it fits neither the code of the last run nor that of {revision}'
-                  if not old else '  left as it is: the check prints no lines for it')
-            new[function] = {}
+        said, text = [], files[function]
+        old = next((o[function] for o in olds if o.get(function) and fits(text, o[function])), None)
+        if not old:
+            said.append(f'left as it is: it fits neither the code of the last run nor that of {revision}')
+        elif function not in lines:
+            said.append('left as it is: the check prints no lines for it')
+        else:
+            text = repaired(text, old, new[function], lines[function], said.append)
+        print(function, *dict.fromkeys(said), sep='\n  ')
+        if text == files[function]:
+            new[function] = {}   # it is still of the old code
             continue
-        text = repaired(files[function], old, new[function], lines[function], said.append)
-        for line in dict.fromkeys(said):
-            print('  ' + line)
         with open(f'{source}/proofs/{function}/Proof.antt', 'w', encoding='utf8') as f:
             f.write(text)
     for function, member in [(f, m) for f in files if f not in todo for m in new[f] if m]:
