@@ -7,8 +7,8 @@
 # make demo       validate a picture and the samples, print their normal tables, ask which subsumes which, check the
 #                 sample evidence, print common pictures, look up cards and explain them, and run the verdict
 #                 program
-# make bench      print one table of the time of each call beside the same call hand-written in Rust and in C, and how
-#                 it grows with the size
+# make bench      print one table of the time of each call beside the same call hand-written in Rust, three of them in
+#                 C too, and how it grows with the size
 # make counts     print how many instructions each call takes on the same inputs, whatever else the machine does
 # make fuzz       fuzz all calls with libFuzzer, each for a minute; or CALL=lcs SECONDS=600
 # make valgrind   run the calls, the fuzz targets and the smaller C tests under valgrind
