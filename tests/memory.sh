@@ -8,8 +8,3 @@ if [ -z "${TMPDIR-}" ] && [ -w /dev/shm ] && ! grep -q ' /dev/shm .*noexec' /pro
     trap 'rm -rf "$memory"' EXIT
     trap 'exit 1' HUP INT TERM
 fi
-# More checks at a time than there are processors, where there is memory: rt waits for the last of each batch.
-if [ -z "${RT_JOBS-}" ] && [ "$(awk '/^MemAvailable/ { print $2 }' /proc/meminfo)" -gt 12000000 ]; then
-    RT_JOBS=6
-    export RT_JOBS
-fi

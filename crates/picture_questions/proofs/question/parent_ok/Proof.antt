@@ -3,8 +3,8 @@ use borrow.Author.Tests.{eq-eqb, ne-eqb}
 use Rattle.picture.specs.Questions.{parentOk}
 use mathlib.Core.Path.{sym}
 use borrow.Author.Needs.{needs}
-use Rattle.picture_reader.proofs.field.parent_ok.Statement.{statement}
-use Rattle.picture_reader.proofs.field.parent_ok.Tie as tie
+use Rattle.picture_questions.proofs.question.parent_ok.Statement.{statement}
+use Rattle.picture_questions.proofs.question.parent_ok.Tie as tie
 
 parent-requires : tie.Need-parent-requires
 parent-requires c κs = search needs

@@ -1,8 +1,8 @@
 -- The byte that is tested is the row's.
 use mathlib.Core.Path.{sym}
 use borrow.Author.Needs.{needs}
-use Rattle.picture_reader.proofs.field.impossible_ok.Statement.{statement}
-use Rattle.picture_reader.proofs.field.impossible_ok.Tie as tie
+use Rattle.picture_questions.proofs.question.impossible_ok.Statement.{statement}
+use Rattle.picture_questions.proofs.question.impossible_ok.Tie as tie
 
 impossible-requires : tie.Need-impossible-requires
 impossible-requires c κs = search needs

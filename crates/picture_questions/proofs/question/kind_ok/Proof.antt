@@ -3,8 +3,8 @@ use borrow.Author.Tests.{eq-eqb, ne-eqb}
 use Rattle.picture.specs.Questions.{kindOk}
 use mathlib.Core.Path.{sym}
 use borrow.Author.Needs.{needs}
-use Rattle.picture_reader.proofs.field.kind_ok.Statement.{statement}
-use Rattle.picture_reader.proofs.field.kind_ok.Tie as tie
+use Rattle.picture_questions.proofs.question.kind_ok.Statement.{statement}
+use Rattle.picture_questions.proofs.question.kind_ok.Tie as tie
 
 kind-requires : tie.Need-kind-requires
 kind-requires c κs = search needs

@@ -7,8 +7,8 @@ use Rattle.table.specs.Fields.{parentOf}
 use Rattle.picture.proofs.Depths.{depth-root, depth-known}
 use Rattle.picture.proofs.Questions.{parent-below}
 use borrow.Author.Needs.{needs}
-use Rattle.picture_reader.proofs.field.depth_at.Statement.{statement}
-use Rattle.picture_reader.proofs.field.depth_at.Tie as tie
+use Rattle.picture_questions.proofs.question.depth_at.Statement.{statement}
+use Rattle.picture_questions.proofs.question.depth_at.Tie as tie
 
 returns : tie.Need-returns
 returns c = sym (rw (c .if1 .taken) (depth-root (parentOf (now (c .before .before .args .s)))))

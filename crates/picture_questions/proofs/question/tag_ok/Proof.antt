@@ -1,8 +1,8 @@
 -- Each arm fixes the tests of `tagOk`.
 use borrow.Author.Tests.{ne-eqb}
 use Rattle.picture.specs.Questions.{tagOk}
-use Rattle.picture_reader.proofs.field.tag_ok.Statement.{statement}
-use Rattle.picture_reader.proofs.field.tag_ok.Tie as tie
+use Rattle.picture_questions.proofs.question.tag_ok.Statement.{statement}
+use Rattle.picture_questions.proofs.question.tag_ok.Tie as tie
 
 returns : tie.Need-returns
 unfolding tagOk

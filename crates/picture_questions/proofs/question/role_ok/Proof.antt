@@ -3,8 +3,8 @@ use borrow.Author.Tests.{eq-eqb, ne-eqb}
 use Rattle.picture.specs.Questions.{roleOk}
 use mathlib.Core.Path.{sym}
 use borrow.Author.Needs.{needs}
-use Rattle.picture_reader.proofs.field.role_ok.Statement.{statement}
-use Rattle.picture_reader.proofs.field.role_ok.Tie as tie
+use Rattle.picture_questions.proofs.question.role_ok.Statement.{statement}
+use Rattle.picture_questions.proofs.question.role_ok.Tie as tie
 
 role-requires : tie.Need-role-requires
 role-requires c κs = search needs

@@ -1,8 +1,8 @@
 -- Each arm fixes the test of `lengthFor`.
 use borrow.Author.Tests.{ne-eqb}
 use Rattle.picture.specs.Questions.{lengthFor}
-use Rattle.picture_reader.proofs.field.length_for.Statement.{statement}
-use Rattle.picture_reader.proofs.field.length_for.Tie as tie
+use Rattle.picture_questions.proofs.question.length_for.Statement.{statement}
+use Rattle.picture_questions.proofs.question.length_for.Tie as tie
 
 returns : tie.Need-returns
 unfolding lengthFor
