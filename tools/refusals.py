@@ -17,10 +17,9 @@ or about a proof file that does not fit any more, and edits that were not tried.
 """
 import os
 import re
-import subprocess
 import sys
 
-ROOT = subprocess.run(['git', 'rev-parse', '--show-toplevel'], capture_output=True, text=True, check=True).stdout.strip()
+ROOT = os.path.dirname(os.path.dirname(os.path.abspath(__file__)))
 FIRST = re.compile(r'^(?:\S*/)?((?:proofs|specs|src)/\S+?):\d+:\d+: error: (?:`([^`]+)`: )?(.*)', re.M)
 # of a function that is proved without a file
 UNANSWERED = re.compile(r'^note: what antt said .*? made: (?:\S*/)?(src/\S+?):\d+:\d+: `([^`]+)`: (.*)', re.M)
