@@ -18,6 +18,12 @@ pub struct Refusal {
     pub input: Input,
 }
 
+// Questions in their order: all answered yes, or the first that is answered no.
+pub enum Asked {
+    Yes,
+    No(Refusal),
+}
+
 // A picture's row count, or the refusal.
 pub enum Answer {
     Rows(usize),
