@@ -1,111 +1,92 @@
--- Laws of the answer of the second call and of its result buffer, at any limits: which answer is given for which picture and buffer.
---   short-answer, long-answer     1 is answered no, or the reading decides
---   result-of                     the result buffer by the answer
---   unreadable-answer             2 to 13, the number being that of the reading
---   many-answer, few-answer       14, or the length of the normal table
---   Accepted, length-accepted     a length is given in no other case, and is that of the normal table
---   answer-size                   so it is at most that of the longest picture
---   result-past, result-kept      bytes past the normal table keep their contents, whatever the answer; so does the buffer's length
-use Prim.Native.Nat.{_+_, _-_, _<_, _≤_, ℕ}
-use borrow.Author.Tests.{le-leb, leb-true, lt-leb}
+-- Laws of the second call at any limits: which answer is given for which picture and result buffer.
+--   merged-decides, merged-refuses   14 of a picture
+--   Accepted                         the buffer is long enough, the picture readable, and its merged rows are few enough
+--   OneNo                            the first no: the buffer is short; else a question from 2 to 13; else 14
+--   one-decides, one-refuses         the questions of the call: all yes exactly if accepted, the first no exactly that
+--   one-long                         a long buffer leaves 2 to 13, and 14
+--   length-accepted                  a length is given only if accepted, and is that of the normal table,
+--   answer-size                      so at most that of the longest picture
+use Prim.Native.Nat.{_<_, _≤_, ℕ}
+use borrow.Author.Tests.{le-leb}
 use lib.Dec.{leb}
-use lib.ListN.{getD, length}
-use mathlib.Core.Bool.{Bool, false, true}
+use lib.ListN.{length}
 use mathlib.Core.List.{List}
-use mathlib.Core.Path.{_∙_, _≡_, ap, refl}
+use mathlib.Core.Logic.{_⊎_, inl, inr, ⊎-elim}
+use mathlib.Core.Path.{_≡_, refl}
 use native.Mathlib.Omega.{arith}
+use Rattle.table.specs.Bounds.{pictureSize}
+use Rattle.table.specs.declared.layout.Limits.{Limits}
+use Rattle.picture.proofs.Asking.{Decides, Refuses, Unreadable, and-decides, and-refuses, asked-refuses, given, read-decides, read-refuses, said-so, test-decides}
+use Rattle.picture.specs.Asked.{andThen, readAsked, roomAsked}
+use Rattle.picture.specs.Readable.{Readable}
+use Rattle.picture.specs.Refusal.{refusal, shortBuffer, tooMany}
+use Rattle.picture.specs.declared.answer.Input.{Input}
+use Rattle.picture.specs.declared.answer.Input.the-variants.{First}
+use Rattle.picture.specs.declared.answer.Refusal.{Refusal}
 use Rattle.meaning.proofs.Normals.{normal-size}
 use Rattle.meaning.specs.NormalTable.{mergedCount, normalFile}
-use Rattle.picture.specs.Refusal.{refusal, shortBuffer, tooMany}
-use Rattle.picture.specs.Read.{answerOf, answered, readingOf}
-use Rattle.picture.specs.Readable.{Readable}
-use Rattle.table.proofs.Puts.{length-put, put-after}
-use Rattle.table.specs.Bounds.{pictureSize}
-use Rattle.table.specs.Pick.{pick}
-use Rattle.table.specs.declared.layout.Limits.{Limits}
-use Rattle.picture.specs.declared.answer.Answer.{Answer}
-use Rattle.picture.specs.declared.answer.Input.the-variants.{First}
-use Rattle.picture.specs.declared.read.Reading.{Reading}
-use Rattle.picture.specs.declared.read.Reading.the-variants as reading
-use Rattle.normal.specs.Call.{normalizeAnswer, normalizeResult, onAnswer, onReading}
-use Rattle.normal.specs.declared.normalize.Normalized.{Normalized}
+use Rattle.normal.specs.Call.{mergedAsked, normalizeAnswer, oneAsked}
 use Rattle.normal.specs.declared.normalize.Normalized.the-variants.{Length, Refused}
 
-module _ (limits : Limits) (s : List ℕ) where
-  pub short-answer : (room : ℕ) → room < pictureSize limits → normalizeAnswer limits s room ≡ Refused shortBuffer
-  unfolding normalizeAnswer
-  short-answer room h = rw (lt-leb (pictureSize limits) room h)
+module _ (limits : Limits) (input : Input) (s : List ℕ) where
+  abbrev pub TooMany : Refusal → Type 0
+  TooMany r = (limits .rows < mergedCount limits s) × (r ≡ tooMany input)
 
-  pub long-answer : (room : ℕ) (a : Answer) → pictureSize limits ≤ room → answerOf limits First s ≡ a →
-      normalizeAnswer limits s room ≡ onReading limits s a
-  unfolding normalizeAnswer
-  long-answer room a h e = rw (le-leb (pictureSize limits) room h, e)
+  pub merged-decides : Decides (mergedAsked limits input s) (mergedCount limits s ≤ limits .rows) TooMany
+  unfolding mergedAsked
+  merged-decides = test-decides (mergedCount limits s) (limits .rows) (tooMany input)
 
-  pub result-of : (out : List ℕ) (a : Normalized) → normalizeAnswer limits s (length out) ≡ a →
-      normalizeResult limits s out ≡ onAnswer a (normalFile limits s) out
-  unfolding normalizeResult
-  result-of out a e = rw e
+  pub merged-refuses : (P : Refusal → Type 0) → P (tooMany input) → Refuses P (mergedAsked limits input s)
+  unfolding mergedAsked
+  merged-refuses P h = asked-refuses P (leb (mergedCount limits s) (limits .rows)) (tooMany input) h
 
 module _ (limits : Limits) (s : List ℕ) (room : ℕ) where
-  module _ (enough : pictureSize limits ≤ room) where
-    read-answer : (r : Reading) → readingOf limits s ≡ r → normalizeAnswer limits s room ≡ onReading limits s (answered First r)
-    unfolding answerOf
-    read-answer r e = long-answer limits s room (answered First r) enough (ap (answered First) e)
-
-    pub unreadable-answer : (q : ℕ) → readingOf limits s ≡ reading.Failed q → normalizeAnswer limits s room ≡ Refused (refusal q First)
-    unreadable-answer q e = read-answer (reading.Failed q) e
-
-    module _ (readable : Readable limits s) where
-      pub many-answer : limits .rows < mergedCount limits s → normalizeAnswer limits s room ≡ Refused (tooMany First)
-      many-answer h =
-          read-answer (reading.Rows (readable .rows)) (readable .reads)
-          ∙ rw (lt-leb (mergedCount limits s) (limits .rows) h)
-
-      pub few-answer : mergedCount limits s ≤ limits .rows → normalizeAnswer limits s room ≡ Length (length (normalFile limits s))
-      few-answer h =
-          read-answer (reading.Rows (readable .rows)) (readable .reads)
-          ∙ rw (le-leb (mergedCount limits s) (limits .rows) h)
-
   pub record Accepted : Type 0 where
     pub enough : pictureSize limits ≤ room
     pub readable : Readable limits s
     pub few : mergedCount limits s ≤ limits .rows
 
-  few-accepted : (b : Bool) → pictureSize limits ≤ room → Readable limits s → leb (mergedCount limits s) (limits .rows) ≡ b → (n : ℕ) → pick b (Length (length (normalFile limits s))) (Refused (tooMany First)) ≡ Length n → Accepted × (n ≡ length (normalFile limits s))
-  few-accepted true enough readable e n h =
-      (record { enough = enough; readable = readable; few = leb-true (mergedCount limits s) (limits .rows) e }, cc)
-  few-accepted false enough readable e n h = absurd (let z : _≡_ {A = ℕ} 0 1 = cc in omega arith)
+  abbrev pub OneNo : Refusal → Type 0
+  OneNo r =
+      ((room < pictureSize limits) × (r ≡ shortBuffer))
+      ⊎ ((pictureSize limits ≤ room) × (Unreadable limits First s r ⊎ (Readable limits s × TooMany limits First s r)))
 
-  reading-accepted : (b : Bool) (r : Reading) → leb (pictureSize limits) room ≡ b → readingOf limits s ≡ r → (n : ℕ) → pick b (onReading limits s (answered First r)) (Refused shortBuffer) ≡ Length n → Accepted × (n ≡ length (normalFile limits s))
-  reading-accepted true (reading.Rows m) e f n h =
-      few-accepted (leb (mergedCount limits s) (limits .rows)) (leb-true (pictureSize limits) room e) (record { rows = m; reads = f }) refl n h
-  reading-accepted true (reading.Failed q) e f n h = absurd (let z : _≡_ {A = ℕ} 0 1 = cc in omega arith)
-  reading-accepted false r e f n h = absurd (let z : _≡_ {A = ℕ} 0 1 = cc in omega arith)
+  pub one-decides : Decides (oneAsked limits s room) Accepted OneNo
+  unfolding oneAsked
+  one-decides =
+      let read = readAsked limits First s in
+      let merged = mergedAsked limits First s in
+      let enough = roomAsked (leb (pictureSize limits) room) in
+      said-so (andThen enough (andThen read merged))
+      (and-decides enough (andThen read merged) (test-decides (pictureSize limits) room shortBuffer)
+      (λ long. and-decides read merged (read-decides limits First s) (λ readable. merged-decides limits First s)))
+      (
+        λ (enough, (readable, few)). record { enough = enough; readable = readable; few = few },
+        λ a. (a .enough, (a .readable, a .few)),
+      )
+      (λ r. (λ h. h, λ h. h))
+
+  -- the numbers are 1, 2 to 13, 14
+  pub one-refuses : (P : Refusal → Type 0) → P shortBuffer → ((q : ℕ) → 2 ≤ q → q ≤ 14 → P (refusal q First)) →
+      Refuses P (oneAsked limits s room)
+  unfolding oneAsked
+  one-refuses P short named =
+      and-refuses P (roomAsked (leb (pictureSize limits) room)) (andThen (readAsked limits First s) (mergedAsked limits First s))
+      (asked-refuses P (leb (pictureSize limits) room) shortBuffer short)
+      (and-refuses P (readAsked limits First s) (mergedAsked limits First s)
+      (read-refuses P limits First s (λ q a b. named q a (omega arith)))
+      (merged-refuses limits First s P (named 14 (omega arith) (omega arith))))
+
+  pub one-long : pictureSize limits ≤ room → oneAsked limits s room ≡ andThen (readAsked limits First s) (mergedAsked limits First s)
+  unfolding oneAsked
+  one-long long = rw (le-leb (pictureSize limits) room long)
 
   pub length-accepted : (n : ℕ) → normalizeAnswer limits s room ≡ Length n → Accepted × (n ≡ length (normalFile limits s))
-  unfolding normalizeAnswer answerOf
-  length-accepted n h = reading-accepted (leb (pictureSize limits) room) (readingOf limits s) refl refl n h
+  unfolding normalizeAnswer
+  length-accepted n h =
+      let (all, is) = given Refused (Length (length (normalFile limits s))) (Length n)
+      (λ r e. let z : _≡_ {A = ℕ} 0 1 = cc in omega arith) (oneAsked limits s room) h in
+      (one-decides .yes .0 all, cc)
 
   pub answer-size : (n : ℕ) → normalizeAnswer limits s room ≡ Length n → n ≤ pictureSize limits
-  answer-size n h = let a = length-accepted n h in rw (a .1) (normal-size limits s (a .0 .few))
-
-module _ (limits : Limits) (s out : List ℕ) where
-  past-at : (a : Normalized) (i : ℕ) → length (normalFile limits s) ≤ i → getD (onAnswer a (normalFile limits s) out) i 0 ≡ getD out i 0
-  past-at (Length n) i h =
-      let k : 0 + length (normalFile limits s) + (i - length (normalFile limits s)) ≡ i = omega arith in
-      rw k at (put-after out 0 (normalFile limits s) (i - length (normalFile limits s)) (omega arith))
-  past-at (Refused r) i h = refl
-
-  pub result-past : (i : ℕ) → length (normalFile limits s) ≤ i → getD (normalizeResult limits s out) i 0 ≡ getD out i 0
-  unfolding normalizeResult
-  result-past i h = past-at (normalizeAnswer limits s (length out)) i h
-
-  kept-at : (a : Normalized) → normalizeAnswer limits s (length out) ≡ a → length (onAnswer a (normalFile limits s) out) ≡ length out
-  kept-at (Length n) e =
-      let a = length-accepted limits s (length out) n e .0 in
-      length-put out 0 (normalFile limits s) (omega (arith, a .enough, normal-size limits s (a .few)))
-  kept-at (Refused r) e = refl
-
-  pub result-kept : length (normalizeResult limits s out) ≡ length out
-  unfolding normalizeResult
-  result-kept = kept-at (normalizeAnswer limits s (length out)) refl
+  answer-size n h = let (a, is) = length-accepted n h in rw is (normal-size limits s (a .few))

@@ -5,8 +5,9 @@
 --   asked-decides, test-decides   a question by its test; by a number that has a limit
 --   and-decides                   a question and those after it: the first no is its own, or it is a yes and theirs comes
 --   from-decides                  one question of each thing in turn
---   read-decides                  2 to 13 of a picture
---   answered, refused             the answer where all is yes; where r is the first no
+--   read-decides, unreadable-no   2 to 13 of a picture;
+--   rows-yes, refused-no          by the answer of reading it
+--   on-yes, on-no                 the answer where all is yes; where r is the first no
 --   given                         an answer that is no refusal is the value, and all is yes
 --   refused-by                    a refusal that is answered is the first no
 --   Refuses                       every refusal has a property;
@@ -22,9 +23,11 @@ use native.Mathlib.Nat.{eq-or-lt-of-le}
 use native.Mathlib.Omega.{arith}
 use Rattle.table.specs.declared.layout.Limits.{Limits}
 use Rattle.picture.specs.Asked.{andThen, asked, askedFrom, onAsked, readAsked, readingAsked}
-use Rattle.picture.specs.Read.{readingOf}
+use Rattle.picture.specs.Read.{answerOf, answered, readingOf}
 use Rattle.picture.specs.Readable.{Readable}
 use Rattle.picture.specs.Refusal.{refusal}
+use Rattle.picture.specs.declared.answer.Answer.{Answer}
+use Rattle.picture.specs.declared.answer.Answer.the-variants as answer
 use Rattle.picture.specs.declared.answer.Asked.{Asked}
 use Rattle.picture.specs.declared.answer.Asked.the-variants.{No, Yes}
 use Rattle.picture.specs.declared.answer.Input.{Input}
@@ -134,18 +137,38 @@ module _ (limits : Limits) (input : Input) (s : List ℕ) where
     no = λ r. (λ h. (q, e, cc), λ (n, f, is). let same : reading.Failed n ≡ reading.Failed q = sym f ∙ e in ap No (let z : n ≡ q = cc in rw (← z) (sym is)));
   }
 
+  abbrev answerAsked : Answer → Asked
+  answerAsked (answer.Rows n) = Yes
+  answerAsked (answer.Refused r) = No r
+
+  by-answer : (t : Reading) (a : Answer) → answered input t ≡ a → readingAsked input t ≡ answerAsked a
+  by-answer (reading.Rows n) a e = rw (← e)
+  by-answer (reading.Failed q) a e = rw (← e)
+
   pub read-decides : Decides (readAsked limits input s) (Readable limits s) Unreadable
   unfolding readAsked
   read-decides = by-reading (readingOf limits s) refl
 
+  pub unreadable-no : (q : ℕ) → readingOf limits s ≡ reading.Failed q → readAsked limits input s ≡ No (refusal q input)
+  unreadable-no q e = read-decides .no (refusal q input) .1 (q, e, refl)
+
+  -- the same by the answer of a reading
+  pub rows-yes : (n : ℕ) → answerOf limits input s ≡ answer.Rows n → readAsked limits input s ≡ Yes
+  unfolding readAsked answerOf
+  rows-yes n e = by-answer (readingOf limits s) (answer.Rows n) e
+
+  pub refused-no : (r : Refusal) → answerOf limits input s ≡ answer.Refused r → readAsked limits input s ≡ No r
+  unfolding readAsked answerOf
+  refused-no r e = by-answer (readingOf limits s) (answer.Refused r) e
+
 -- ---- what is answered
 
 module _ {A : Type 0} (no : Refusal → A) (value : A) where
-  pub answered : (a : Asked) → a ≡ Yes → onAsked no a value ≡ value
-  answered a e = rw e
+  pub on-yes : (a : Asked) → a ≡ Yes → onAsked no a value ≡ value
+  on-yes a e = rw e
 
-  pub refused : (a : Asked) (r : Refusal) → a ≡ No r → onAsked no a value ≡ no r
-  refused a r e = rw e
+  pub on-no : (a : Asked) (r : Refusal) → a ≡ No r → onAsked no a value ≡ no r
+  on-no a r e = rw e
 
   pub given : (v : A) → ((r : Refusal) → no r ≡ v → ⊥) → (a : Asked) → onAsked no a value ≡ v → (a ≡ Yes) × (value ≡ v)
   given v none Yes e = (refl, e)

@@ -1,6 +1,5 @@
 -- Laws of a work space in two halves that are lent one after the other. They stand over any length, since a numeral under `take` or `drop` is counted down.
 --   upper-part, put-upper   the part from a place on, as it is lent and as it comes back
---   put-start               bytes put at the start, and what stood after them
 --   put-whole               bytes as many as were there take their place
 --   put-halves              bytes put into the lower half and then into the upper one are their join, put at the start
 --   length-join             two runs, each as long as a half; and of both put at the start:
@@ -13,6 +12,7 @@ use lib.Seq.{drop-append-le, drop-at, drop-drop, length-take-le, take-all, take-
 use mathlib.Core.List.{List, _++_, append-assoc, append-nil}
 use mathlib.Core.Path.{_∙_, _≡_, ap, sym}
 use native.Mathlib.Omega.{arith}
+use Rattle.picture.proofs.Keeping.{put-start}
 use Rattle.table.proofs.Puts.{put-after}
 use Rattle.table.specs.Put.{put}
 
@@ -27,12 +27,8 @@ module _ (a : ℕ) (d : List ℕ) where
   put-upper s = rw (drop-of-length-le (drop a d) rest-whole, append-nil)
 
 module _ (d s : List ℕ) where
-  pub put-start : put d 0 s ≡ s ++ drop (length s) d
-  unfolding put
-  put-start = let e : 0 + length s ≡ length s = omega arith in ap (λ (k : ℕ). s ++ drop k d) e
-
   pub put-whole : length s ≡ length d → put d 0 s ≡ s
-  put-whole e = put-start ∙ rw (drop-of-length-le d {i = length s} (omega arith), append-nil)
+  put-whole e = put-start d s ∙ rw (drop-of-length-le d {i = length s} (omega arith), append-nil)
 
 module _ (a : ℕ) (d s t : List ℕ) (lower : length s ≡ a) (upper : a ≤ length d) where
   put-join : s ++ put (drop a d) 0 t ≡ put d 0 (s ++ t)

@@ -1,9 +1,9 @@
 -- The laws of the work space, by subject.
 -- parts of lent bytes
 pub mod Halves
--- the answer and the work space after it
+-- the questions, and the work space after them
+pub mod Pairs
 pub mod Preparations
-pub mod PairRefusals
 pub mod Sizes
 -- a result buffer lent beside it
 pub mod Lendings

@@ -1,0 +1,95 @@
+-- Laws of the questions of every call on two pictures, at any limits.
+--   PairNo                        the first no: 2 to 13 of the first; of the second; 14 of the first; of the second
+--   pair-decides                  all are answered yes exactly of an acceptable pair, and the first no is exactly that
+--   acceptable-yes, yes-acceptable   so of such a pair
+--   pair-read                     of readable pictures 14 of both is left
+--   pair-known                    every refusal is one of `Known`
+--   lent-decides, lent-known      the same after 1
+--   lent-short, lent-pair, lent-yes  1 is answered no; it is answered yes; so is all of an acceptable pair
+use Prim.Native.Nat.{_≤_, ℕ}
+use native.Mathlib.Omega.{arith}
+use mathlib.Core.Bool.{Bool, false, true}
+use mathlib.Core.List.{List}
+use mathlib.Core.Logic.{_↔_, _⊎_, inl, inr, ⊎-elim}
+use mathlib.Core.Path.{_≡_, refl}
+use Rattle.table.specs.declared.layout.Limits.{Limits}
+use Rattle.picture.proofs.Asking.{Decides, Refuses, Unreadable, and-decides, and-refuses, asked-decides, asked-refuses, read-decides, read-refuses, said-so}
+use Rattle.picture.specs.Asked.{andThen, readAsked, roomAsked}
+use Rattle.picture.specs.Readable.{Readable}
+use Rattle.picture.specs.Refusal.{refusal, shortBuffer}
+use Rattle.picture.specs.declared.answer.Asked.{Asked}
+use Rattle.picture.specs.declared.answer.Asked.the-variants.{No, Yes}
+use Rattle.picture.specs.declared.answer.Input.the-variants.{First, Second}
+use Rattle.picture.specs.declared.answer.Refusal.{Refusal}
+use Rattle.meaning.specs.NormalTable.{mergedCount}
+use Rattle.normal.proofs.Answers.{TooMany, merged-decides, merged-refuses}
+use Rattle.normal.specs.Call.{mergedAsked}
+use Rattle.workspace.specs.Lent.{lentAsked}
+use Rattle.workspace.specs.Prepare.{Acceptable, pairAsked}
+use Rattle.workspace.specs.Refusals.{Known}
+
+module _ (limits : Limits) (first second : List ℕ) where
+  abbrev pub PairNo : Refusal → Type 0
+  PairNo r =
+      Unreadable limits First first r
+      ⊎ (Readable limits first × (Unreadable limits Second second r
+      ⊎ (Readable limits second × (TooMany limits First first r
+      ⊎ ((mergedCount limits first ≤ limits .rows) × TooMany limits Second second r)))))
+
+  abbrev merged : Asked
+  merged = andThen (mergedAsked limits First first) (mergedAsked limits Second second)
+
+  pub pair-decides : Decides (pairAsked limits first second) (Acceptable limits first second) PairNo
+  unfolding pairAsked
+  pair-decides =
+      let read = readAsked limits First first in
+      let read-second = readAsked limits Second second in
+      said-so (andThen read (andThen read-second merged))
+      (and-decides read (andThen read-second merged) (read-decides limits First first)
+      (λ r. and-decides read-second merged (read-decides limits Second second)
+      (λ s. and-decides (mergedAsked limits First first) (mergedAsked limits Second second) (merged-decides limits First first)
+      (λ few. merged-decides limits Second second))))
+      (
+        λ (r, (s, (few, few-second))). record { first-readable = r; second-readable = s; first-few = few; second-few = few-second },
+        λ a. (a .first-readable, (a .second-readable, (a .first-few, a .second-few))),
+      )
+      (λ r. (λ h. h, λ h. h))
+
+  pub acceptable-yes : Acceptable limits first second → pairAsked limits first second ≡ Yes
+  acceptable-yes pair = pair-decides .yes .1 pair
+
+  pub yes-acceptable : pairAsked limits first second ≡ Yes → Acceptable limits first second
+  yes-acceptable h = pair-decides .yes .0 h
+
+  pub pair-known : Refuses Known (pairAsked limits first second)
+  unfolding pairAsked
+  pair-known =
+      let read = readAsked limits First first in
+      let read-second = readAsked limits Second second in
+      and-refuses Known read (andThen read-second merged) (read-refuses Known limits First first (λ q a b. inr (inl (refl, a, omega arith))))
+      (and-refuses Known read-second merged (read-refuses Known limits Second second (λ q a b. inr (inr (refl, a, omega arith))))
+      (and-refuses Known (mergedAsked limits First first) (mergedAsked limits Second second)
+      (merged-refuses limits First first Known (inr (inl (refl, omega arith, omega arith))))
+      (merged-refuses limits Second second Known (inr (inr (refl, omega arith, omega arith))))))
+
+  module _ (enough : Bool) where
+    pub lent-decides : Decides (lentAsked limits enough first second) ((enough ≡ true) × Acceptable limits first second)
+        (λ r. ((enough ≡ false) × (r ≡ shortBuffer)) ⊎ ((enough ≡ true) × PairNo r))
+    unfolding lentAsked
+    lent-decides = and-decides (roomAsked enough) (pairAsked limits first second) (asked-decides enough shortBuffer) (λ e. pair-decides)
+
+    pub lent-known : Refuses Known (lentAsked limits enough first second)
+    unfolding lentAsked
+    lent-known =
+        and-refuses Known (roomAsked enough) (pairAsked limits first second)
+        (asked-refuses Known enough shortBuffer (inl (refl, omega arith, omega arith))) pair-known
+
+    pub lent-short : enough ≡ false → lentAsked limits enough first second ≡ No shortBuffer
+    lent-short e = lent-decides .no shortBuffer .1 (inl (e, refl))
+
+    pub lent-pair : enough ≡ true → lentAsked limits enough first second ≡ pairAsked limits first second
+    unfolding lentAsked
+    lent-pair e = rw e
+
+    pub lent-yes : enough ≡ true → Acceptable limits first second → lentAsked limits enough first second ≡ Yes
+    lent-yes e pair = lent-decides .yes .1 (e, pair)
