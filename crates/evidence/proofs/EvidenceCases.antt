@@ -9,6 +9,7 @@ use Rattle.table.specs.Fields.{endBytes, endsAt, rowOf}
 use Rattle.table.specs.Number.{be, beBytes}
 use Rattle.table.specs.Range.{each}
 use Rattle.picture.specs.Refusal.{refusal}
+use Rattle.picture.specs.Asked.{askedFrom, readAsked}
 use Rattle.picture.specs.Depth.{depth, depthIn}
 use Rattle.picture.specs.Questions.{endField, fieldAt, kindOk, lengthFor, parentOk, roleOk, rowField, tagOk, valueField}
 use Rattle.picture.specs.Read.{answerOf, readingOf, scanFrom}
@@ -18,13 +19,15 @@ use Rattle.meaning.proofs.CasePictures.{allRow, empty, end, impossible, noneRea
 use Rattle.meaning.specs.NormalTable.{mergedCount, mergedTree, normalFile, normalTreeOf}
 use Rattle.countermodel.specs.Individual.{individualHead, individualOk, refutationForm}
 use Rattle.countermodel.specs.Layout.{individualCount}
-use Rattle.workspace.specs.Prepare.{mergedAsked, prepareAnswer, workSize}
+use Rattle.normal.specs.Call.{mergedAsked}
+use Rattle.workspace.specs.Lent.{lentAsked}
+use Rattle.workspace.specs.Prepare.{pairAsked, workSize}
 use Rattle.evidence.specs.declared.check.Verified.{Verified}
 use Rattle.evidence.specs.declared.check.Verified.the-variants.{MapTaken, Refused, RefutationTaken}
 use Rattle.evidence.specs.Call.{evidenceAnswer, verifyAnswer}
 use Rattle.evidence.specs.Check.{checkAnswer, refutationAsked}
 use Rattle.evidence.specs.Form.{formOf, mapForm}
-use Rattle.evidence.specs.Map.{inOrder, mapAsked, rowAsked}
+use Rattle.evidence.specs.Map.{mapAsked, rowAsked}
 
 -- the first picture, the second, the evidence, and the answer
 pub data Case : Type 0 where
@@ -189,5 +192,5 @@ cases =
 
 pub all-pass : runAll cases ≡ cases
 unfolding be beBytes rowOf endBytes endsAt depthIn depth tagOk lengthFor kindOk roleOk parentOk valueField rowField endField fieldAt scanFrom readingOf answerOf rowCount mergedTree mergedCount normalTreeOf normalFile
-    each individualCount individualHead refutationForm individualOk mapForm formOf rowAsked inOrder mapAsked refutationAsked checkAnswer evidenceAnswer mergedAsked prepareAnswer verifyAnswer
+    each individualCount individualHead refutationForm individualOk mapForm formOf rowAsked askedFrom mapAsked refutationAsked checkAnswer evidenceAnswer readAsked mergedAsked pairAsked lentAsked verifyAnswer
 all-pass = refl

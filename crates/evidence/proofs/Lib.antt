@@ -1,7 +1,6 @@
 -- The laws of evidence, by subject.
--- questions in their order, and what 17 to 20 and 21 to 23 say
+-- what 17 to 20 and 21 to 23 say
 pub mod Files
-pub mod Asking
 pub mod Homomorphisms
 pub mod Refutations
 -- what is taken, and what that shows

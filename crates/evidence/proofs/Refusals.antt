@@ -1,10 +1,11 @@
--- Which refusals the fifth call gives: 1 names the buffer, 2 to 14 one of the two pictures, 16 to 23 the evidence; there is no other.
+-- Which refusals the fifth call gives: 1 names the buffer, 2 to 14 one of the two pictures, 16 to 23 the evidence; there is
+-- no other.
 --   Named            1 to 14 as in every call on two pictures (workspace, specs/Refusals: `Known`), or 16 to 23 and the evidence
 --   verify-refusal   so is every refusal of the call
-use Prim.Native.Nat.{ℕ, zero, suc, _+_, _≤_}
+use Prim.Native.Nat.{ℕ, _≤_}
 use native.Mathlib.Omega.{arith}
 use lib.Dec.{eqb, leb, ltb}
-use mathlib.Core.Bool.{Bool, false, not, true}
+use mathlib.Core.Bool.{not, true}
 use mathlib.Core.List.{List}
 use mathlib.Core.Logic.{_⊎_, inl, inr}
 use mathlib.Core.Path.{_≡_, refl, subst}
@@ -16,7 +17,9 @@ use Rattle.ale.specs.PictureSignature.{pictureSignature}
 use Rattle.ale.specs.RowMap.{edgeAgrees, labelAgrees}
 use Rattle.ale.specs.Table.{Table}
 use Rattle.ale.specs.Tree.{Tree}
-use Rattle.picture.specs.Refusal.{shortBuffer}
+use Rattle.picture.proofs.Asking.{Refuses, and-refuses, asked-refuses, from-refuses, on-by, refuses-no}
+use Rattle.picture.specs.Asked.{andThen, asked, onAsked}
+use Rattle.picture.specs.declared.answer.Asked.{Asked}
 use Rattle.picture.specs.declared.answer.Input.the-variants.{Evidence}
 use Rattle.picture.specs.declared.answer.Refusal.{Refusal}
 use Rattle.meaning.specs.Meaning.{pictureTable, pictureTree}
@@ -24,99 +27,97 @@ use Rattle.meaning.specs.NormalTable.{normalFile}
 use Rattle.countermodel.specs.Individual.{individualOk}
 use Rattle.countermodel.specs.Layout.{individualCount}
 use Rattle.countermodel.specs.Model.{modelTree}
-use Rattle.workspace.specs.Refusals.{Concerns, Known}
-use Rattle.workspace.proofs.PairRefusals.{Prepares, prepare-known, short-known}
-use Rattle.workspace.specs.Prepare.{prepareAnswer, workSize}
-use Rattle.workspace.specs.declared.prepare.Prepared.{Prepared}
-use Rattle.workspace.specs.declared.prepare.Prepared.the-variants as prepared
-use Rattle.evidence.specs.Call.{evidenceAnswer, onPair, verifyAnswer}
-use Rattle.evidence.specs.Check.{checkAnswer, onAsked, onForm, refutationAsked}
 use Rattle.homomorphism.specs.Layout.{imageOf}
+use Rattle.workspace.proofs.Pairs.{lent-known}
+use Rattle.workspace.specs.Prepare.{workSize}
+use Rattle.workspace.specs.Refusals.{Concerns, Known}
+use Rattle.evidence.specs.Call.{evidenceAnswer, verifyAnswer, verifyAsked}
+use Rattle.evidence.specs.Check.{checkAnswer, onForm, refutationAsked}
 use Rattle.evidence.specs.Form.{formOf}
-use Rattle.evidence.specs.Map.{andThen, ask, inOrder, mapAsked, rowAsked}
-use Rattle.evidence.specs.declared.asked.Asked.{Asked}
-use Rattle.evidence.specs.declared.asked.Asked.the-variants.{No, Yes}
+use Rattle.evidence.specs.Map.{mapAsked, refusalBy, rowAsked}
 use Rattle.evidence.specs.declared.check.Verified.{Verified}
 use Rattle.evidence.specs.declared.check.Verified.the-variants.{MapTaken, RefutationTaken, Refused}
 use Rattle.evidence.specs.declared.form.Form.{Form}
 use Rattle.evidence.specs.declared.form.Form.the-variants.{Map, Neither, Refutation}
 
+abbrev OfEvidence : Refusal → Type 0
+OfEvidence r = Concerns r Evidence 16 23
+
 abbrev pub Named : Refusal → Type 0
-Named r = Known r ⊎ Concerns r Evidence 16 23
+Named r = Known r ⊎ OfEvidence r
 
-abbrev Numbered : Asked → Type 0
-Numbered Yes = Unit
-Numbered (No number) = (16 ≤ number) × (number ≤ 23)
-
-abbrev Answers : Verified → Type 0
-Answers MapTaken = Unit
-Answers RefutationTaken = Unit
-Answers (Refused r) = Named r
+-- every refusal that an answer is has a property
+abbrev Answers : (Refusal → Type 0) → Verified → Type 0
+Answers P MapTaken = Unit
+Answers P RefutationTaken = Unit
+Answers P (Refused r) = P r
 
 -- ---- 16 to 23
 
-ask-numbered : (number : ℕ) (b : Bool) (next : Asked) → Numbered (No number) → Numbered next → Numbered (ask number b next)
-ask-numbered number true next l h = h
-ask-numbered number false next l h = l
+by : (n : ℕ) → 16 ≤ n → n ≤ 23 → OfEvidence (refusalBy n)
+by n a b = (refl, a, b)
 
-then-numbered : (a next : Asked) → Numbered a → Numbered next → Numbered (andThen a next)
-then-numbered Yes next h k = k
-then-numbered (No number) next h k = h
-
-inOrder-numbered : (f : ℕ → Asked) → ((i : ℕ) → Numbered (f i)) → (n i : ℕ) → Numbered (inOrder f n i)
-unfolding inOrder
-inOrder-numbered f h zero i = tt
-inOrder-numbered f h (suc n) i = then-numbered (f i) (inOrder f n (i + 1)) (h i) (inOrder-numbered f h n (i + 1))
-
-row-numbered : (p q : Table pictureSignature) (im : ℕ → ℕ) (i : ℕ) → Numbered (rowAsked p q im i)
+row-refuses : (p q : Table pictureSignature) (im : ℕ → ℕ) (i : ℕ) → Refuses OfEvidence (rowAsked p q im i)
 unfolding rowAsked
-row-numbered p q im i =
+row-refuses p q im i =
     let within = ltb (im i) (p .rows) in
     let rooted = pick (eqb i 0) (eqb (im i) 0) true in
     let labelled = labelAgrees pictureSignature p q i (im i) in
     let joined = pick (eqb i 0) true (edgeAgrees pictureSignature p q i (im (q .parent i)) (im i)) in
-    ask-numbered 17 within (ask 18 rooted (ask 19 labelled (ask 20 joined Yes))) (omega arith, omega arith)
-    (ask-numbered 18 rooted (ask 19 labelled (ask 20 joined Yes)) (omega arith, omega arith)
-    (ask-numbered 19 labelled (ask 20 joined Yes) (omega arith, omega arith)
-    (ask-numbered 20 joined Yes (omega arith, omega arith) tt)))
+    let b = asked rooted (refusalBy 18) in
+    let c = asked labelled (refusalBy 19) in
+    let d = asked joined (refusalBy 20) in
+    and-refuses OfEvidence (asked within (refusalBy 17)) (andThen b (andThen c d))
+    (asked-refuses OfEvidence within (refusalBy 17) (by 17 (omega arith) (omega arith)))
+    (and-refuses OfEvidence b (andThen c d) (asked-refuses OfEvidence rooted (refusalBy 18) (by 18 (omega arith) (omega arith)))
+    (and-refuses OfEvidence c d (asked-refuses OfEvidence labelled (refusalBy 19) (by 19 (omega arith) (omega arith)))
+    (asked-refuses OfEvidence joined (refusalBy 20) (by 20 (omega arith) (omega arith)))))
 
-map-numbered : (p q : Table pictureSignature) (im : ℕ → ℕ) → Numbered (mapAsked p q im)
+map-refuses : (p q : Table pictureSignature) (im : ℕ → ℕ) → Refuses OfEvidence (mapAsked p q im)
 unfolding mapAsked
-map-numbered p q im = inOrder-numbered (rowAsked p q im) (row-numbered p q im) (q .rows) 0
+map-refuses p q im = from-refuses OfEvidence (rowAsked p q im) (q .rows) 0 (λ i a b. row-refuses p q im i)
 
-refutation-numbered : (t u : Tree pictureSignature) (e : List ℕ) → Numbered (refutationAsked t u e)
+refutation-refuses : (t u : Tree pictureSignature) (e : List ℕ) → Refuses OfEvidence (refutationAsked t u e)
 unfolding refutationAsked
-refutation-numbered t u e =
+refutation-refuses t u e =
     let passing = each (individualOk e) (individualCount e) 0 in
     let fits = fitsTest pictureSignature t (modelTree e 0) in
     let fails = not (fitsTest pictureSignature u (modelTree e 0)) in
-    ask-numbered 21 passing (ask 22 fits (ask 23 fails Yes)) (omega arith, omega arith)
-    (ask-numbered 22 fits (ask 23 fails Yes) (omega arith, omega arith)
-    (ask-numbered 23 fails Yes (omega arith, omega arith) tt))
+    let b = asked fits (refusalBy 22) in
+    let c = asked fails (refusalBy 23) in
+    and-refuses OfEvidence (asked passing (refusalBy 21)) (andThen b c)
+    (asked-refuses OfEvidence passing (refusalBy 21) (by 21 (omega arith) (omega arith)))
+    (and-refuses OfEvidence b c (asked-refuses OfEvidence fits (refusalBy 22) (by 22 (omega arith) (omega arith)))
+    (asked-refuses OfEvidence fails (refusalBy 23) (by 23 (omega arith) (omega arith))))
 
-asked-answers : (taken : Verified) → Answers taken → (a : Asked) → Numbered a → Answers (onAsked taken a)
-asked-answers taken h Yes k = h
-asked-answers taken h (No number) (a, b) = inr (refl, a, b)
+taken-answers : (taken : Verified) → Answers OfEvidence taken → (a : Asked) → Refuses OfEvidence a → Answers OfEvidence (onAsked Refused a taken)
+taken-answers taken h a k = on-by Refused taken (Answers OfEvidence) a (λ all. h) (λ r e. refuses-no OfEvidence a k r e)
 
-form-answers : (p q : Table pictureSignature) (t u : Tree pictureSignature) (e : List ℕ) (f : Form) → Answers (onForm p q t u e f)
-form-answers p q t u e Map = asked-answers MapTaken tt (mapAsked p q (imageOf e)) (map-numbered p q (imageOf e))
-form-answers p q t u e Refutation = asked-answers RefutationTaken tt (refutationAsked t u e) (refutation-numbered t u e)
-form-answers p q t u e Neither = inr (refl, omega arith, omega arith)
+form-answers : (p q : Table pictureSignature) (t u : Tree pictureSignature) (e : List ℕ) (f : Form) → Answers OfEvidence (onForm p q t u e f)
+form-answers p q t u e Map = taken-answers MapTaken tt (mapAsked p q (imageOf e)) (map-refuses p q (imageOf e))
+form-answers p q t u e Refutation = taken-answers RefutationTaken tt (refutationAsked t u e) (refutation-refuses t u e)
+form-answers p q t u e Neither = by 16 (omega arith) (omega arith)
 
 -- ---- the call
 
+also-named : (v : Verified) → Answers OfEvidence v → Answers Named v
+also-named MapTaken h = tt
+also-named RefutationTaken h = tt
+also-named (Refused r) h = inr h
+
 module _ (limits : Limits) (first second e : List ℕ) (room : ℕ) where
-  pair-answers : (a : Prepared) → Prepares a → Answers (onPair a (evidenceAnswer limits first second e))
+  evidence-answers : Answers OfEvidence (evidenceAnswer limits first second e)
   unfolding evidenceAnswer checkAnswer
-  pair-answers (prepared.Tables p) h =
+  evidence-answers =
       form-answers (pictureTable (normalFile limits first)) (pictureTable (normalFile limits second)) (pictureTree limits first) (pictureTree limits second) e
       (formOf limits ((pictureTable (normalFile limits second)) .rows) e)
-  pair-answers (prepared.Refused r) h = inl h
 
-  room-answers : (b : Bool) → Answers (pick b (onPair (prepareAnswer limits first second) (evidenceAnswer limits first second e)) (Refused shortBuffer))
-  room-answers true = pair-answers (prepareAnswer limits first second) (prepare-known limits first second)
-  room-answers false = inl short-known
+  verify-answers : Answers Named (verifyAnswer limits first second e room)
+  unfolding verifyAnswer
+  verify-answers =
+      on-by Refused (evidenceAnswer limits first second e) (Answers Named) (verifyAsked limits first second room)
+      (λ all. also-named (evidenceAnswer limits first second e) evidence-answers)
+      (λ r h. inl (refuses-no Known (verifyAsked limits first second room) (lent-known limits first second (leb (workSize limits) room)) r h))
 
   pub verify-refusal : (r : Refusal) → verifyAnswer limits first second e room ≡ Refused r → Named r
-  unfolding verifyAnswer
-  verify-refusal r h = subst Answers h (room-answers (leb (workSize limits) room))
+  verify-refusal r h = subst (Answers Named) h verify-answers

@@ -1,7 +1,7 @@
 -- A file for which 21 to 23 are answered yes is an interpretation whose individual 0 fits t and not u, and the reverse.
 --   fits-same                 trees that what fits one fits the other pass the test of fitting alike
 --   refutation-asked-same     so 22 and 23 may look at the normal table in the place of the picture
---   refutation-yes, yes-refutation   21 to 23 answered yes
+--   refutation-exactly        21 to 23 answered yes
 --   question-fits             the test of 22 and 23 is fitting, in the interpretation that the file is
 use Prim.Native.Nat.{ℕ, _<_}
 use lib.Dec.{T}
@@ -23,10 +23,11 @@ use Rattle.ale.specs.Tree.{Tree}
 use Rattle.countermodel.specs.Individual.{individualOk, individualTable, individuals}
 use Rattle.countermodel.specs.Layout.{individualCount}
 use Rattle.countermodel.specs.Model.{modelTree}
-use Rattle.evidence.specs.declared.asked.Asked.the-variants.{Yes}
+use Rattle.picture.proofs.Asking.{and-decides, asked-decides, yes-so}
+use Rattle.picture.specs.Asked.{andThen, asked}
+use Rattle.picture.specs.declared.answer.Asked.the-variants.{Yes}
 use Rattle.evidence.specs.Check.{refutationAsked}
-use Rattle.evidence.specs.Map.{ask}
-use Rattle.evidence.proofs.Asking.{ask-yes, yes-ask}
+use Rattle.evidence.specs.Map.{refusalBy}
 
 abbrev fitted : Tree pictureSignature → List ℕ → Bool
 fitted t e = fitsTest pictureSignature t (modelTree e 0)
@@ -49,20 +50,21 @@ module _ (t u : Tree pictureSignature) (e : List ℕ) where
   abbrev passing : Bool
   passing = each (individualOk e) (individualCount e) 0
 
-  pub refutation-yes : refutationAsked t u e ≡ Yes → (each (individualOk e) (individualCount e) 0 ≡ true) × T (fitsTest pictureSignature t (modelTree e 0)) × T (not (fitsTest pictureSignature u (modelTree e 0)))
+  pub refutation-exactly : (refutationAsked t u e ≡ Yes) ↔
+      ((each (individualOk e) (individualCount e) 0 ≡ true)
+      × (T (fitsTest pictureSignature t (modelTree e 0)) × T (not (fitsTest pictureSignature u (modelTree e 0)))))
   unfolding refutationAsked
-  refutation-yes h =
-      let (a, h₁) = ask-yes 21 passing (ask 22 (fitted t e) (ask 23 (not (fitted u e)) Yes)) h in
-      let (b, h₂) = ask-yes 22 (fitted t e) (ask 23 (not (fitted u e)) Yes) h₁ in
-      let (c, h₃) = ask-yes 23 (not (fitted u e)) Yes h₂ in
-      (a, true-is (fitted t e) b, true-is (not (fitted u e)) c)
-
-  pub yes-refutation : each (individualOk e) (individualCount e) 0 ≡ true → T (fitsTest pictureSignature t (modelTree e 0)) → T (not (fitsTest pictureSignature u (modelTree e 0))) → refutationAsked t u e ≡ Yes
-  unfolding refutationAsked
-  yes-refutation a b c =
-      yes-ask 21 passing (ask 22 (fitted t e) (ask 23 (not (fitted u e)) Yes)) a
-      (yes-ask 22 (fitted t e) (ask 23 (not (fitted u e)) Yes) (is-true (fitted t e) b)
-      (yes-ask 23 (not (fitted u e)) Yes (is-true (not (fitted u e)) c) refl))
+  refutation-exactly =
+      let a = asked passing (refusalBy 21) in
+      let b = asked (fitted t e) (refusalBy 22) in
+      let c = asked (not (fitted u e)) (refusalBy 23) in
+      yes-so (andThen a (andThen b c))
+      (and-decides a (andThen b c) (asked-decides passing (refusalBy 21))
+      (λ h. and-decides b c (asked-decides (fitted t e) (refusalBy 22)) (λ h. asked-decides (not (fitted u e)) (refusalBy 23))))
+      (
+        λ (passed, (fits, fails)). (passed, (true-is (fitted t e) fits, true-is (not (fitted u e)) fails)),
+        λ (passed, (fits, fails)). (passed, (is-true (fitted t e) fits, is-true (not (fitted u e)) fails)),
+      )
 
 -- 22 and 23 ask for fitting in the sense of the theory
 pub question-fits : (e : List ℕ) (some : 0 < individualCount e) → ParentsFirst pictureSignature (individualTable e) → (t : Tree pictureSignature) →

@@ -14,7 +14,7 @@ use lib.ListN.{getD}
 use mathlib.Core.Bool.{Bool, _&&_, false, true}
 use mathlib.Core.List.{List}
 use mathlib.Core.Logic.{_↔_}
-use mathlib.Core.Path.{_≡_, refl, subst}
+use mathlib.Core.Path.{_≡_, refl, subst, sym}
 use Rattle.table.proofs.Bools.{both}
 use Rattle.table.proofs.Ranges.{each-at}
 use Rattle.table.specs.Bounds.{Bounded}
@@ -32,6 +32,8 @@ use Rattle.ale.specs.ModelCheck.{fitsTest}
 use Rattle.ale.specs.PictureSignature.{pictureSignature}
 use Rattle.ale.specs.Table.{Table}
 use Rattle.ale.specs.Tree.{Tree}
+use Rattle.picture.proofs.Asking.{given}
+use Rattle.picture.specs.declared.answer.Asked.the-variants.{Yes}
 use Rattle.picture.specs.declared.answer.Refusal.{Refusal}
 use Rattle.meaning.proofs.Normals.{normal-readable}
 use Rattle.meaning.proofs.Pictures.{picture-known, picture-parents}
@@ -43,19 +45,16 @@ use Rattle.countermodel.specs.Layout.{individualCount, individualLength, indivi
 use Rattle.countermodel.specs.Model.{modelTree, rowTree}
 use Rattle.workspace.specs.Prepare.{Acceptable}
 use Rattle.evidence.specs.Call.{evidenceAnswer}
-use Rattle.evidence.specs.Check.{checkAnswer, onAsked, onForm, refusalBy, refutationAsked}
+use Rattle.evidence.specs.Check.{checkAnswer, onForm, refutationAsked}
 use Rattle.homomorphism.specs.Layout.{imageOf, imagePlace, mapTag}
 use Rattle.evidence.specs.Form.{formOf, mapForm}
-use Rattle.evidence.specs.Map.{mapAsked}
+use Rattle.evidence.specs.Map.{mapAsked, refusalBy}
 use Rattle.evidence.specs.Taken.{MapOf, RefutationOf}
-use Rattle.evidence.specs.declared.asked.Asked.{Asked}
-use Rattle.evidence.specs.declared.asked.Asked.the-variants.{No, Yes}
-use Rattle.evidence.specs.declared.check.Verified.{Verified}
 use Rattle.evidence.specs.declared.check.Verified.the-variants.{MapTaken, RefutationTaken, Refused}
 use Rattle.evidence.specs.declared.form.Form.the-variants.{Map, Neither, Refutation}
 use Rattle.evidence.proofs.Homomorphisms.{map-yes, yes-map}
 use Rattle.evidence.proofs.NormalTables.{normal-rowTree, normal-some}
-use Rattle.evidence.proofs.Refutations.{question-fits, refutation-yes, yes-refutation}
+use Rattle.evidence.proofs.Refutations.{question-fits, refutation-exactly}
 
 -- ---- forms
 
@@ -86,27 +85,19 @@ map-no-refusal r h = let z : _≡_ {A = ℕ} 0 1 = cc in omega arith
 pub refutation-no-refusal : (r : Refusal) → Refused r ≡ RefutationTaken → ⊥
 refutation-no-refusal r h = let z : _≡_ {A = ℕ} 0 1 = cc in omega arith
 
-asked-yes : (taken : Verified) → ((r : Refusal) → Refused r ≡ taken → ⊥) → (a : Asked) → onAsked taken a ≡ taken → a ≡ Yes
-asked-yes taken other Yes h = refl
-asked-yes taken other (No number) h = absurd (other (refusalBy number) h)
-
-not-map : (a : Asked) → onAsked RefutationTaken a ≡ MapTaken → ⊥
-not-map Yes h = let z : _≡_ {A = ℕ} 0 1 = cc in omega arith
-not-map (No number) h = map-no-refusal (refusalBy number) h
-
-not-refutation : (a : Asked) → onAsked MapTaken a ≡ RefutationTaken → ⊥
-not-refutation Yes h = let z : _≡_ {A = ℕ} 0 1 = cc in omega arith
-not-refutation (No number) h = refutation-no-refusal (refusalBy number) h
+-- neither is the other
+other-taken : MapTaken ≡ RefutationTaken → ⊥
+other-taken h = let z : _≡_ {A = ℕ} 0 1 = cc in omega arith
 
 module _ (p q : Table pictureSignature) (t u : Tree pictureSignature) (limits : Limits) (e : List ℕ) where
   by-map : (b c : Bool) → onForm p q t u e (pick b Map (pick c Refutation Neither)) ≡ MapTaken → (b ≡ true) × (mapAsked p q (imageOf e) ≡ Yes)
-  by-map true c h = (refl, asked-yes MapTaken map-no-refusal (mapAsked p q (imageOf e)) h)
-  by-map false true h = absurd (not-map (refutationAsked t u e) h)
+  by-map true c h = (refl, given Refused MapTaken MapTaken map-no-refusal (mapAsked p q (imageOf e)) h .0)
+  by-map false true h = absurd (other-taken (sym (given Refused RefutationTaken MapTaken map-no-refusal (refutationAsked t u e) h .1)))
   by-map false false h = absurd (map-no-refusal (refusalBy 16) h)
 
   by-refutation : (b c : Bool) → onForm p q t u e (pick b Map (pick c Refutation Neither)) ≡ RefutationTaken → (c ≡ true) × (refutationAsked t u e ≡ Yes)
-  by-refutation true c h = absurd (not-refutation (mapAsked p q (imageOf e)) h)
-  by-refutation false true h = (refl, asked-yes RefutationTaken refutation-no-refusal (refutationAsked t u e) h)
+  by-refutation true c h = absurd (other-taken (given Refused MapTaken RefutationTaken refutation-no-refusal (mapAsked p q (imageOf e)) h .1))
+  by-refutation false true h = (refl, given Refused RefutationTaken RefutationTaken refutation-no-refusal (refutationAsked t u e) h .0)
   by-refutation false false h = absurd (refutation-no-refusal (refusalBy 16) h)
 
   pub asked-map : checkAnswer limits p q t u e ≡ MapTaken ↔ ((mapForm (q .rows) e ≡ true) × (mapAsked p q (imageOf e) ≡ Yes))
@@ -148,7 +139,7 @@ module _ (limits : Limits) (first second e : List ℕ) (bounded : Bounded limits
       let u = pictureTree limits second in
       let (to, from) = asked-refutation p q t u limits e in (
         λ h. let (form, asked) = to h in
-            let (passed, fits, fails) = refutation-yes t u e asked in
+            let (passed, (fits, fails)) = refutation-exactly t u e .0 asked in
             let some = form-asks limits e form .0 in
             let up = ok-parents e passed in
             record {
@@ -161,8 +152,13 @@ module _ (limits : Limits) (first second e : List ℕ) (bounded : Bounded limits
         λ r. let up = ok-parents e (r .passed) in
             from (
               r .form,
-              yes-refutation t u e (r .passed) (question-fits e (r .some) up t .0 (r .fits))
-                  (refute (fitsTest pictureSignature u (modelTree e 0)) (λ f. r .fails (question-fits e (r .some) up u .1 f))),
+              refutation-exactly t u e .1 (
+                r .passed,
+                (
+                  question-fits e (r .some) up t .0 (r .fits),
+                  refute (fitsTest pictureSignature u (modelTree e 0)) (λ f. r .fails (question-fits e (r .some) up u .1 f)),
+                ),
+              ),
             ),
       )
 

@@ -1,4 +1,3 @@
 // The fifth call: evidence, its questions 16 to 23, and what is taken. Definitions and theorems; the code is in evidence_check.
-pub mod asked;
 pub mod check;
 pub mod form;

@@ -1,13 +1,14 @@
 -- Laws of questions in their order, said once for every call: when all are answered yes, when one is answered no and
 -- which is the first, what is answered then.
 --   Decides                       all yes exactly if .., and the first no is r exactly if ..
---   said-so                       the same in other words
+--   said-so, yes-so               the same in other words; its first half
 --   asked-decides, test-decides   a question by its test; by a number that has a limit
 --   and-decides                   a question and those after it: the first no is its own, or it is a yes and theirs comes
---   from-decides                  one question of each thing in turn
+--   from-decides, from-yes        one question of each thing in turn; its first half
 --   read-decides, unreadable-no   2 to 13 of a picture;
 --   rows-yes, refused-no          by the answer of reading it
 --   on-yes, on-no                 the answer where all is yes; where r is the first no
+--   on-by                         a property of the value, where all is yes, and of every first no is one of the answer
 --   given                         an answer that is no refusal is the value, and all is yes
 --   refused-by                    a refusal that is answered is the first no
 --   Refuses                       every refusal has a property;
@@ -51,6 +52,9 @@ said-so a d y n = record {
   yes = (λ e. y .0 (d .yes .0 e), λ z. d .yes .1 (y .1 z));
   no = λ r. (λ e. n r .0 (d .no r .0 e), λ m. d .no r .1 (n r .1 m));
 }
+
+pub yes-so : {Y Z : Type 0} {N : Refusal → Type 0} (a : Asked) → Decides a Y N → Y ↔ Z → (a ≡ Yes) ↔ Z
+yes-so a d y = (λ e. y .0 (d .yes .0 e), λ z. d .yes .1 (y .1 z))
 
 abbrev Refused : Bool → Refusal → Refusal → Type 0
 Refused b q r = (b ≡ false) × (r ≡ q)
@@ -121,6 +125,12 @@ module _ (ask : ℕ → Asked) (Y : ℕ → Type 0) (N : ℕ → Refusal → Typ
             (eq-or-lt-of-le a),
       ))
 
+-- its first half
+pub from-yes : (ask : ℕ → Asked) (Y : ℕ → Type 0) → ((j : ℕ) → (ask j ≡ Yes) ↔ Y j) →
+    (more k : ℕ) → (askedFrom ask more k ≡ Yes) ↔ AllFrom Y more k
+from-yes ask Y d more k =
+    from-decides ask Y (λ j r. ask j ≡ No r) more k (λ j a b. record { yes = d j; no = λ r. (λ e. e, λ e. e) }) .yes
+
 -- ---- 2 to 13 of a picture
 
 module _ (limits : Limits) (input : Input) (s : List ℕ) where
@@ -169,6 +179,10 @@ module _ {A : Type 0} (no : Refusal → A) (value : A) where
 
   pub on-no : (a : Asked) (r : Refusal) → a ≡ No r → onAsked no a value ≡ no r
   on-no a r e = rw e
+
+  pub on-by : (P : A → Type 0) (a : Asked) → (a ≡ Yes → P value) → ((r : Refusal) → a ≡ No r → P (no r)) → P (onAsked no a value)
+  on-by P Yes y n = y refl
+  on-by P (No r) y n = n r refl
 
   pub given : (v : A) → ((r : Refusal) → no r ≡ v → ⊥) → (a : Asked) → onAsked no a value ≡ v → (a ≡ Yes) × (value ≡ v)
   given v none Yes e = (refl, e)
