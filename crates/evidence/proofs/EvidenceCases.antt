@@ -12,7 +12,7 @@ use Rattle.picture.specs.Refusal.{refusal}
 use Rattle.picture.specs.Asked.{askedFrom, readAsked}
 use Rattle.picture.specs.Depth.{depth, depthIn}
 use Rattle.picture.specs.Questions.{endField, fieldAt, kindOk, lengthFor, parentOk, roleOk, rowField, tagOk, valueField}
-use Rattle.picture.specs.Read.{answerOf, readingOf, scanFrom}
+use Rattle.picture.specs.Read.{readingOf, scanFrom}
 use Rattle.picture.specs.Readable.{rowCount}
 use Rattle.picture.specs.declared.answer.Input.the-variants.{Evidence}
 use Rattle.meaning.proofs.CasePictures.{allRow, empty, end, impossible, noneReached, root, row, someBoth, someEach, someReached, someRow}
@@ -191,6 +191,6 @@ cases =
     ∷ []
 
 pub all-pass : runAll cases ≡ cases
-unfolding be beBytes rowOf endBytes endsAt depthIn depth tagOk lengthFor kindOk roleOk parentOk valueField rowField endField fieldAt scanFrom readingOf answerOf rowCount mergedTree mergedCount normalTreeOf normalFile
+unfolding be beBytes rowOf endBytes endsAt depthIn depth tagOk lengthFor kindOk roleOk parentOk valueField rowField endField fieldAt scanFrom readingOf rowCount mergedTree mergedCount normalTreeOf normalFile
     each individualCount individualHead refutationForm individualOk mapForm formOf rowAsked askedFrom mapAsked refutationAsked checkAnswer evidenceAnswer readAsked mergedAsked pairAsked lentAsked verifyAnswer
 all-pass = refl

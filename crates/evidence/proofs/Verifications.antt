@@ -35,21 +35,21 @@ module _ (limits : Limits) (first second : List ℕ) (room : ℕ) where
         ⊎-elim (λ (l, is). inl (lt-leb n room l, is)) (λ (l, one). inr (le-leb n room l, one)),
       ))
 
-  module _ (e : List ℕ) where
-    pub acceptable-verify : workSize limits ≤ room → Acceptable limits first second →
-        verifyAnswer limits first second e room ≡ evidenceAnswer limits first second e
-    unfolding verifyAnswer
-    acceptable-verify enough pair =
-        on-yes Refused (evidenceAnswer limits first second e) (verifyAsked limits first second room) (verify-decides .yes .1 (enough, pair))
+module _ (limits : Limits) (first second e : List ℕ) (room : ℕ) where
+  pub acceptable-verify : workSize limits ≤ room → Acceptable limits first second →
+      verifyAnswer limits first second e room ≡ evidenceAnswer limits first second e
+  unfolding verifyAnswer
+  acceptable-verify enough pair =
+      on-yes Refused (evidenceAnswer limits first second e) (verifyAsked limits first second room) (verify-decides limits first second room .yes .1 (enough, pair))
 
-    -- the answer is v, which is no refusal: then there is room, 14 is answered yes for both, and 16 to 23 give v
-    pub verify-taken : (v : Verified) → ((r : Refusal) → Refused r ≡ v → ⊥) → verifyAnswer limits first second e room ≡ v →
-        (workSize limits ≤ room) × Acceptable limits first second × (evidenceAnswer limits first second e ≡ v)
-    unfolding verifyAnswer
-    verify-taken v no-refusal h =
-        let (all, same) = given Refused (evidenceAnswer limits first second e) v no-refusal (verifyAsked limits first second room) h in
-        let (enough, pair) = verify-decides .yes .0 all in
-        (enough, pair, same)
+  -- the answer is v, which is no refusal: then there is room, 14 is answered yes for both, and 16 to 23 give v
+  pub verify-taken : (v : Verified) → ((r : Refusal) → Refused r ≡ v → ⊥) → verifyAnswer limits first second e room ≡ v →
+      (workSize limits ≤ room) × Acceptable limits first second × (evidenceAnswer limits first second e ≡ v)
+  unfolding verifyAnswer
+  verify-taken v no-refusal h =
+      let (all, same) = given Refused (evidenceAnswer limits first second e) v no-refusal (verifyAsked limits first second room) h in
+      let (enough, pair) = verify-decides limits first second room .yes .0 all in
+      (enough, pair, same)
 
 pub pair-work : (limits : Limits) (first second work : List ℕ) (size result : ℕ) → size ≤ result →
     pairWork limits (roomy limits size (length work) result) first second work ≡ verifyWork limits first second work

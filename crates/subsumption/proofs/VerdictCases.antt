@@ -13,9 +13,10 @@ use Rattle.table.specs.Number.{be, beBytes}
 use Rattle.table.specs.Put.{put}
 use Rattle.table.specs.declared.layout.Limits.{Limits}
 use Rattle.picture.specs.Refusal.{refusal}
+use Rattle.picture.specs.Asked.{readAsked}
 use Rattle.picture.specs.Depth.{depth, depthIn}
 use Rattle.picture.specs.Questions.{endField, fieldAt, kindOk, lengthFor, parentOk, roleOk, rowField, tagOk, valueField}
-use Rattle.picture.specs.Read.{answerOf, readingOf, scanFrom}
+use Rattle.picture.specs.Read.{readingOf, scanFrom}
 use Rattle.picture.specs.Readable.{rowCount}
 use Rattle.picture.specs.declared.answer.Input.{Input}
 use Rattle.picture.specs.declared.answer.Input.the-variants.{Buffer, First, Second}
@@ -24,7 +25,9 @@ use Rattle.meaning.proofs.CasePictures.{allOf, allRow, empty, end, fourRows, im
 use Rattle.meaning.specs.NormalTable.{mergedCount, mergedTree, normalFile, normalTreeOf}
 use Rattle.homomorphism.specs.Map.{lowestMap, mapFile}
 use Rattle.countermodel.specs.Writing.{individualBytes, refutationFile}
-use Rattle.workspace.specs.Prepare.{mergedAsked, prepareAnswer}
+use Rattle.normal.specs.Call.{mergedAsked}
+use Rattle.workspace.specs.Lent.{lentAsked}
+use Rattle.workspace.specs.Prepare.{pairAsked}
 use Rattle.subsumption.specs.declared.verdict.Verdict.{Verdict}
 use Rattle.subsumption.specs.declared.verdict.Verdict.the-variants.{No, Refused, Yes}
 use Rattle.subsumption.specs.Call.{subsumesAnswer, subsumesResult, verdictAnswer}
@@ -172,6 +175,6 @@ cases =
 
 pub all-pass : runAll cases ≡ cases
 unfolding be beBytes rowOf endBytes put depthIn depth tagOk lengthFor kindOk roleOk parentOk valueField rowField endField fieldAt
-    scanFrom readingOf answerOf rowCount mergedTree mergedCount normalTreeOf normalFile mergedAsked prepareAnswer
-    covers verdictOf mapOf lowestMap mapFile refutationOf refutationFile individualBytes evidenceOf verdictAnswer subsumesAnswer subsumesResult
+    scanFrom readingOf readAsked rowCount mergedTree mergedCount normalTreeOf normalFile mergedAsked pairAsked lentAsked
+    covers verdictOf mapOf lowestMap mapFile refutationOf refutationFile individualBytes evidenceOf verdictAnswer subsumesAnswer
 all-pass = refl

@@ -1,8 +1,8 @@
 -- 01, "Verdict with evidence, and its length (buffer 46,595)": the answer, and what the two buffers hold then.
+--   subsumesAsked     1; first; second; 14 of each
 --   verdictAnswer     yes or no, with the length of the evidence
---   onVerdict         that comes after 14
---   subsumesAnswer    1; first; second; 14 of each; the verdict
---   subsumesWork      the work space: both tables once 14 is answered yes for both; else nothing written
+--   subsumesAnswer    that, after these
+--   subsumesWork      the work space: both tables where all is answered yes; else nothing written
 --   subsumesResult    the result buffer: the evidence from its first byte on, then; else nothing written
 use Prim.Native.Nat.{ℕ}
 use lib.ListN.{length}
@@ -10,34 +10,28 @@ use mathlib.Core.List.{List}
 use Rattle.table.specs.Pick.{pick}
 use Rattle.table.specs.Put.{put}
 use Rattle.table.specs.declared.layout.Limits.{Limits}
-use Rattle.picture.specs.Refusal.{shortBuffer}
-use Rattle.workspace.specs.Lent.{pairWork, roomy}
-use Rattle.workspace.specs.Prepare.{onPrepared, prepareAnswer}
-use Rattle.workspace.specs.declared.prepare.Prepared.{Prepared}
-use Rattle.workspace.specs.declared.prepare.Prepared.the-variants as prepared
+use Rattle.picture.specs.Asked.{kept, onAsked}
+use Rattle.picture.specs.declared.answer.Asked.{Asked}
+use Rattle.workspace.specs.Lent.{lentAsked, pairWork, roomy}
 use Rattle.subsumption.specs.declared.verdict.Verdict.{Verdict}
 use Rattle.subsumption.specs.declared.verdict.Verdict.the-variants.{No, Refused, Yes}
 use Rattle.subsumption.specs.Verdict.{evidenceOf, evidenceSize, verdictOf}
+
+abbrev pub subsumesAsked : Limits → List ℕ → List ℕ → ℕ → ℕ → Asked
+subsumesAsked limits first second work result = lentAsked limits (roomy limits (evidenceSize limits) work result) first second
 
 unfoldable pub verdictAnswer : Limits → List ℕ → List ℕ → Verdict
 verdictAnswer limits first second =
     pick (verdictOf limits first second) (Yes (length (evidenceOf limits first second))) (No (length (evidenceOf limits first second)))
 
-abbrev pub onVerdict : Prepared → Verdict → Verdict
-onVerdict (prepared.Tables pair) answer = answer
-onVerdict (prepared.Refused r) answer = Refused r
-
 unfoldable pub subsumesAnswer : Limits → List ℕ → List ℕ → ℕ → ℕ → Verdict
 subsumesAnswer limits first second work result =
-    pick (roomy limits (evidenceSize limits) work result)
-    (onVerdict (prepareAnswer limits first second) (verdictAnswer limits first second))
-    (Refused shortBuffer)
+    onAsked Refused (subsumesAsked limits first second work result) (verdictAnswer limits first second)
 
 abbrev pub subsumesWork : Limits → List ℕ → List ℕ → List ℕ → ℕ → List ℕ
-subsumesWork limits first second work result = pairWork limits (evidenceSize limits) first second work result
+subsumesWork limits first second work result =
+    pairWork limits (roomy limits (evidenceSize limits) (length work) result) first second work
 
-unfoldable pub subsumesResult : Limits → List ℕ → List ℕ → ℕ → List ℕ → List ℕ
+abbrev pub subsumesResult : Limits → List ℕ → List ℕ → ℕ → List ℕ → List ℕ
 subsumesResult limits first second work result =
-    pick (roomy limits (evidenceSize limits) work (length result))
-    (onPrepared (prepareAnswer limits first second) (put result 0 (evidenceOf limits first second)) result)
-    result
+    kept (subsumesAsked limits first second work (length result)) (put result 0 (evidenceOf limits first second)) result

@@ -1,26 +1,30 @@
 -- Laws of the buffers that the calls on two pictures are lent, at any limits and any length named of the result buffer.
 --   room-no, room-yes,
 --   room-both, room-long   1: one of the two buffers is too short, or both are long enough, or one is and the other decides
+--   Lent, two-decides      the questions of a call that is lent a result buffer too: all yes exactly with room and of an
+--                          acceptable pair; the first no
 --   work-put               the work space where all is answered yes
 --   work-past, work-kept   bytes past the two halves keep their contents, whatever the answer; so does its length
 --   work-same              and its halves, where all is answered yes, do not depend on what stood there
 use Prim.Native.Nat.{ℕ, _≤_}
-use borrow.Author.Tests.{le-leb, leb-true, lt-leb}
+use borrow.Author.Tests.{le-leb, leb-false, leb-true, lt-leb}
 use lib.Dec.{leb}
 use lib.ListN.{getD, length, take}
 use mathlib.Core.Bool.{Bool, and-false, false, true}
 use mathlib.Core.List.{List, _++_}
-use mathlib.Core.Logic.{inl, inr}
-use mathlib.Core.Path.{_≡_, refl}
-use Rattle.table.proofs.Bools.{both}
+use mathlib.Core.Logic.{_⊎_, inl, inr, ⊎-elim}
+use mathlib.Core.Path.{_∙_, _≡_, refl, sym}
+use Rattle.table.proofs.Bools.{both, by-test}
 use Rattle.table.specs.declared.layout.Limits.{Limits}
+use Rattle.picture.proofs.Asking.{Decides, said-so}
 use Rattle.picture.proofs.Keeping.{kept-by}
+use Rattle.picture.specs.Refusal.{shortBuffer}
 use Rattle.meaning.specs.NormalTable.{normalFile}
 use Rattle.normal.specs.Half.{halfOf}
 use Rattle.workspace.specs.Lent.{lentAsked, pairWork, roomy}
 use Rattle.workspace.specs.Prepare.{Acceptable, halvesPut, workSize}
 use Rattle.workspace.specs.Refusals.{TooShort}
-use Rattle.workspace.proofs.Pairs.{lent-decides, lent-yes}
+use Rattle.workspace.proofs.Pairs.{PairNo, lent-decides, lent-yes}
 use Rattle.workspace.proofs.Preparations.{halves-past, halves-same, length-halves}
 
 -- ---- 1
@@ -40,6 +44,35 @@ module _ (limits : Limits) (size work result : ℕ) where
   room-both h =
       let (a, b) = both (leb (workSize limits) work) (leb size result) h in
       (leb-true (workSize limits) work a, leb-true size result b)
+
+-- 1; first; second; 14 of each, of a call that is lent a result buffer too
+module _ (limits : Limits) (first second : List ℕ) (size work result : ℕ) where
+  pub record Lent : Type 0 where
+    pub work-long : workSize limits ≤ work
+    pub result-long : size ≤ result
+    pub pair : Acceptable limits first second
+
+  short-or-long : (b : Bool) → roomy limits size work result ≡ b → (b ≡ false) → TooShort limits size work result
+  short-or-long b e none =
+      by-test (leb (workSize limits) work)
+      (λ long. inr (leb-false size result (sym (room-long limits size work result (leb-true (workSize limits) work long)) ∙ e ∙ none)))
+      (λ short. inl (leb-false (workSize limits) work short))
+
+  pub two-decides : Decides (lentAsked limits (roomy limits size work result) first second) Lent
+      (λ r. (TooShort limits size work result × (r ≡ shortBuffer))
+      ⊎ (((workSize limits ≤ work) × (size ≤ result)) × PairNo limits first second r))
+  two-decides =
+      let room = roomy limits size work result in
+      said-so (lentAsked limits room first second) (lent-decides limits first second room)
+      (
+        λ (e, pair). let (enough, long) = room-both limits size work result e in record { work-long = enough; result-long = long; pair = pair },
+        λ l. (room-yes limits size work result (l .work-long) (l .result-long), l .pair),
+      )
+      (λ r. (
+        ⊎-elim (λ (e, is). inl (short-or-long room refl e, is)) (λ (e, one). inr (room-both limits size work result e, one)),
+        ⊎-elim (λ (short, is). inl (room-no limits size work result short, is))
+            (λ ((enough, long), one). inr (room-yes limits size work result enough long, one)),
+      ))
 
 -- ---- the work space
 
