@@ -14,18 +14,20 @@ use Rattle.table.specs.Number.{be, beBytes}
 use Rattle.table.specs.Put.{put, zeros}
 use Rattle.table.specs.declared.layout.Limits.{Limits}
 use Rattle.picture.specs.Refusal.{refusal}
+use Rattle.picture.specs.Asked.{readAsked}
 use Rattle.picture.specs.Depth.{depth, depthIn}
 use Rattle.picture.specs.Questions.{endField, fieldAt, kindOk, lengthFor, parentOk, roleOk, rowField, tagOk, valueField}
-use Rattle.picture.specs.Read.{answerOf, readingOf, scanFrom}
+use Rattle.picture.specs.Read.{readingOf, scanFrom}
 use Rattle.picture.specs.Readable.{rowCount}
 use Rattle.picture.specs.declared.answer.Input.{Input}
 use Rattle.picture.specs.declared.answer.Input.the-variants.{Buffer, First, Second}
 use Rattle.meaning.proofs.CasePictures.{allOf, allRow, empty, fourRows, impossible, noneReached, one, oneRow, picture, root, row, someRow, two}
 use Rattle.meaning.specs.NormalTable.{mergedCount, mergedTree, normalFile, normalTreeOf}
 use Rattle.normal.specs.Half.{halfOf}
-use Rattle.workspace.specs.Lent.{pairWork}
-use Rattle.workspace.specs.Prepare.{halvesPut, mergedAsked, prepareAnswer}
-use Rattle.lcs.specs.Call.{commonAnswer, lcsAnswer, lcsResult, lcsWork}
+use Rattle.normal.specs.Call.{mergedAsked}
+use Rattle.workspace.specs.Lent.{lentAsked}
+use Rattle.workspace.specs.Prepare.{halvesPut, pairAsked}
+use Rattle.lcs.specs.Call.{lcsAnswer, lcsResult, lcsWork}
 use Rattle.lcs.specs.Product.{lcsCount, lcsFile, lcsTree}
 use Rattle.lcs.specs.declared.common.Common.{Common}
 use Rattle.lcs.specs.declared.common.Common.the-variants.{Length, Refused}
@@ -178,6 +180,6 @@ cases =
 
 pub all-pass : runAll cases ≡ cases
 unfolding be beBytes rowOf endBytes put depthIn depth tagOk lengthFor kindOk roleOk parentOk valueField rowField endField fieldAt
-    scanFrom readingOf answerOf rowCount mergedTree mergedCount normalTreeOf normalFile mergedAsked prepareAnswer
-    zeros halfOf halvesPut pairWork lcsTree lcsCount lcsFile commonAnswer lcsAnswer lcsResult
+    scanFrom readingOf readAsked rowCount mergedTree mergedCount normalTreeOf normalFile mergedAsked pairAsked lentAsked
+    zeros halfOf halvesPut lcsTree lcsCount lcsFile lcsAnswer
 all-pass = refl

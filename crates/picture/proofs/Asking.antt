@@ -12,7 +12,7 @@
 --   given                         an answer that is no refusal is the value, and all is yes
 --   refused-by                    a refusal that is answered is the first no
 --   Refuses                       every refusal has a property;
---   asked-refuses, and-refuses, from-refuses, read-refuses, refuses-no, on-refuses
+--   asked-refuses, and-refuses, from-refuses, read-refuses, refuses-no, refuses-so   of the same
 use Prim.Native.Nat.{_+_, _<_, _≤_, suc, zero, ℕ}
 use borrow.Author.Tests.{le-leb, leb-false, leb-true, lt-leb}
 use lib.Dec.{leb}
@@ -226,3 +226,7 @@ module _ (P : Refusal → Type 0) where
 
   pub refuses-no : (a : Asked) → Refuses a → (r : Refusal) → a ≡ No r → P r
   refuses-no a h r e = subst Refuses e h
+
+pub refuses-so : (P Q : Refusal → Type 0) → ((r : Refusal) → P r → Q r) → (a : Asked) → Refuses P a → Refuses Q a
+refuses-so P Q h Yes k = tt
+refuses-so P Q h (No r) k = h r k
