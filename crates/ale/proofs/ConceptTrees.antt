@@ -7,28 +7,32 @@
 --   fits-conceptTree            an element fits it exactly if it is in the extension of the concept (003, Table 1)
 --   conceptTree-means           in every structure
 --   conceptTree-rolesKnown      its roles are known
+--   conceptOf-over              the other way: the concept of a tree of known roles is over the signature
 --   all, all-has                the set of all 64 names
 --   pictureSingletons           paper 01's signature has the sets of one name
 use Prim.Native.Nat.{_<_, _^_, ℕ}
 use lib.Dec.{T, eqb-refl, eqb→eq}
 use mathlib.Core.Bool.{false, not}
+use mathlib.Core.List.{List, [], _∷_}
 use mathlib.Core.Logic.{_↔_}
 use mathlib.Core.Path.{_≡_, subst, sym}
 use Rattle.table.proofs.NameSets as Laws
 use Rattle.table.specs.NameSet as Set
-use Rattle.ale.specs.Concept.{Concept, InExtension, Over, bottomConcept, conjunction, existential, negation, primitive, topConcept, value}
+use Rattle.ale.specs.Concept.{Concept, InExtension, Over, bottomConcept, conceptOf, conceptsOf, conjunction, conjunctionOf, existential, labelConcept, namesOf, negation, primitive, restrictionConcept, topConcept, value}
 use Rattle.ale.specs.Forest.{append}
 use Rattle.ale.specs.Merged.{labelUnion}
 use Rattle.ale.specs.PictureSignature.{NameSet, complement-has, nameSet, pictureSignature}
+use Rattle.ale.specs.Rows.{member}
 use Rattle.ale.specs.Signature.{Signature}
 use Rattle.ale.specs.Structure.{Fits, Restriction, Structure}
-use Rattle.ale.specs.Tree.{Kind, RolesKnown, Tree, bottomTree, cons, emptyLabel, exists, forAll, nil, node, top}
+use Rattle.ale.specs.Tree.{Forest, Kind, Label, RolesKnown, RolesKnownAll, Tree, bottomTree, cons, emptyLabel, exists, forAll, nil, node, top}
 use Rattle.ale.proofs.Concepts.{Means}
 use Rattle.ale.proofs.Forests.{All-append, All-append-left, All-append-right}
 use Rattle.ale.proofs.NameLaws.{none-has}
 use Rattle.ale.proofs.RoleLaws.{rolesKnown-append}
+use Rattle.ale.proofs.RowLists.{filterBelow-out, member-head, member-tail}
 use Rattle.ale.proofs.Structures.{FitsEdge, each-fits, fits-each, restriction-map, satisfies-emptyLabel, satisfies-left, satisfies-right, satisfies-union}
-use Rattle.ale.proofs.Tests.{and-intro, and-right}
+use Rattle.ale.proofs.Tests.{and-intro, and-right, chosen}
 
 pub record Singletons (S : Signature) : Type 0 where
   pub single : ℕ → S .Names
@@ -64,7 +68,8 @@ module _ (S : Signature) (M : Structure S) where
 
   -- one successor, of either kind
   fits-restriction : (k : Kind) (r : ℕ) (t : Tree S) (P : M .Element → Type 0) →
-      ((y : M .Element) → Fits S M t y ↔ P y) → (x : M .Element) → Fits S M (restrictionTree S k r t) x ↔ Restriction S M k r P x
+      ((y : M .Element) → Fits S M t y ↔ P y) → (x : M .Element) →
+      Fits S M (restrictionTree S k r t) x ↔ Restriction S M k r P x
   fits-restriction k r t P e x = (
     λ f. restriction-map S M k r (λ y. Fits S M t y) P (λ y. e y .0) x (f .1 .0),
     λ p. (satisfies-emptyLabel S M x, (restriction-map S M k r P (λ y. Fits S M t y) (λ y. e y .1) x p, tt)),
@@ -130,6 +135,37 @@ module _ (S : Signature) (one : Singletons S) where
 
   pub conceptTree-means : (c : Concept) → Over S c → Means S (conceptTree c) c
   conceptTree-means c o M x = fits-conceptTree M c o x
+
+module _ (S : Signature) where
+  names-over : (h : ℕ → Concept) → ((n : ℕ) → n < S .names → Over S (h n)) → (s : List ℕ) →
+      ((n : ℕ) → T (member n s) → n < S .names) → Over S (conjunctionOf h s)
+  names-over h o [] m = tt
+  names-over h o (n ∷ s) m = (o n (m n (member-head n s)), names-over h o s (λ i j. m i (member-tail i n s j)))
+
+  listed-below : (a : S .Names) (n : ℕ) → T (member n (namesOf S a)) → n < S .names
+  listed-below a n m = filterBelow-out (S .has a) (S .names) n m .1
+
+  label-over : (l : Label S) → Over S (labelConcept S l)
+  label-over l = (
+    chosen (λ c. Over S c) (l .bottom) bottomConcept topConcept (λ _. tt) (λ _. tt),
+    (
+      names-over primitive (λ n b. b) (namesOf S (l .wanted)) (listed-below (l .wanted)),
+      names-over negation (λ n b. b) (namesOf S (l .excluded)) (listed-below (l .excluded)),
+    ),
+  )
+
+  restriction-over : (k : Kind) (r : ℕ) (c : Concept) → r < S .roles → Over S c → Over S (restrictionConcept k r c)
+  restriction-over exists r c l o = (l, o)
+  restriction-over forAll r c l o = (l, o)
+
+  mutual
+    pub conceptOf-over : (t : Tree S) → RolesKnown S t → Over S (conceptOf S t)
+    conceptOf-over (node l f) w = (label-over l, conceptsOf-over f w)
+
+    conceptsOf-over : (f : Forest S) → RolesKnownAll S f → Over S (conceptsOf S f)
+    conceptsOf-over nil w = tt
+    conceptsOf-over (cons k r t f) w =
+        (restriction-over k r (conceptOf S t) (w .0) (conceptOf-over t (w .1)), conceptsOf-over f (w .2))
 
 abbrev pub all : ℕ
 all = Set.complement Set.none
