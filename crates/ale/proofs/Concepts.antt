@@ -2,6 +2,8 @@
 -- the tree: a label's concept asks for each listed name what the label asks for it, and each successor's concept is its restriction.
 --   fits-extension, extension-fits   the two directions
 --   fits-concept                     both
+--   Means, tree-means                a tree means what a concept means, in every structure; as it does of its own
+--   subsumed-means                   so a tree is subsumed by it exactly if the tree's concept is by that concept
 --   subsumed-concepts                so one tree is subsumed by another exactly if its concept is (003, Definition 1)
 use Prim.Native.Nat.{ℕ}
 use lib.Dec.{T}
@@ -101,8 +103,17 @@ module _ (S : Signature) (M : Structure S) where
   fits-concept t x = (fits-extension t x, extension-fits t x)
 
 module _ (S : Signature) where
-  pub subsumed-concepts : (v d : Tree S) → Subsumed S v d ↔ ConceptSubsumed S (conceptOf S v) (conceptOf S d)
-  subsumed-concepts v d = (
-    λ h I x l p. fits-extension S (structureOf S I) d x (h I x l (extension-fits S (structureOf S I) v x p)),
-    λ h I x l p. extension-fits S (structureOf S I) d x (h I x l (fits-extension S (structureOf S I) v x p)),
+  abbrev pub Means : Tree S → Concept → Type 1
+  Means t c = (M : Structure S) (x : M .Element) → Fits S M t x ↔ InExtension S M c x
+
+  pub tree-means : (t : Tree S) → Means t (conceptOf S t)
+  tree-means t M x = fits-concept S M t x
+
+  pub subsumed-means : (v d : Tree S) (c : Concept) → Means d c → Subsumed S v d ↔ ConceptSubsumed S (conceptOf S v) c
+  subsumed-means v d c m = (
+    λ h I x l p. m (structureOf S I) x .0 (h I x l (extension-fits S (structureOf S I) v x p)),
+    λ h I x l p. m (structureOf S I) x .1 (h I x l (fits-extension S (structureOf S I) v x p)),
   )
+
+  pub subsumed-concepts : (v d : Tree S) → Subsumed S v d ↔ ConceptSubsumed S (conceptOf S v) (conceptOf S d)
+  subsumed-concepts v d = subsumed-means v d (conceptOf S d) (tree-means d)

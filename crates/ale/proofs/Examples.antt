@@ -1,6 +1,7 @@
 -- The theorems used on cases of paper 01, at its signature.
 --   k1-subsumes                                       one empty row subsumes every picture
 --   k4-concept                                      fitting is membership in the extension of the concept
+--   k3-means                                        a concept means what its tree means
 --   k4-equivalent, k4-is-normal                     the normal tree is equivalent to the picture's, and is normal
 --   k4-concepts                                     subsumption is inclusion of extensions
 --   k7-sound                                        a homomorphism, so subsumption in every structure
@@ -25,7 +26,7 @@ use mathlib.Core.Path.{_≡_}
 use native.Mathlib.Omega.{arith}
 use Rattle.table.specs.Bounds.{maxDepth, maxRows}
 use Rattle.table.specs.Layout.{roles}
-use Rattle.ale.specs.Concept.{ConceptSubsumed, InExtension, conceptOf}
+use Rattle.ale.specs.Concept.{Concept, ConceptSubsumed, InExtension, conceptOf, conjunction, primitive, value}
 use Rattle.ale.specs.Countermodel.{maxIndividuals, numbered}
 use Rattle.ale.specs.Encoding.{Row, encode, encoded}
 use Rattle.ale.specs.Folding.{one, two}
@@ -44,7 +45,8 @@ use Rattle.ale.proofs.CasesNormal.{impossible, k4-normal, k4-rows, mean
 use Rattle.ale.proofs.CasesProduct.{k9-common, k9-first, k9-second}
 use Rattle.ale.proofs.CasesTree.{Sig, five, leaf, none, three, threeFive}
 use Rattle.ale.proofs.CommonSubsumers.{lcs-least, lcs-left, lcs-right}
-use Rattle.ale.proofs.Concepts.{fits-concept, subsumed-concepts}
+use Rattle.ale.proofs.ConceptTrees.{conceptTree, conceptTree-means, pictureSingletons}
+use Rattle.ale.proofs.Concepts.{Means, fits-concept, subsumed-concepts}
 use Rattle.ale.proofs.Encodings.{encoded-parentsFirst}
 use Rattle.ale.proofs.Foldings.{folding-equivalent, lcs-associative, lcs-commutative, lcs-idempotent}
 use Rattle.ale.proofs.Forests.{trivial-fits}
@@ -64,6 +66,13 @@ k1-subsumes t M x f = trivial-fits Sig M (meaning []) tt x
 
 k4-concept : (M : Structure Sig) (x : M .Element) → Fits Sig M k4-normal x ↔ InExtension Sig M (conceptOf Sig k4-normal) x
 k4-concept M x = fits-concept Sig M k4-normal x
+
+-- ∀r.P3 ⊓ ∀r.P5
+abbrev k3-concept : Concept
+k3-concept = conjunction (value 8 (primitive 3)) (value 8 (primitive 5))
+
+k3-means : Means Sig (conceptTree Sig pictureSingletons k3-concept) k3-concept
+k3-means = conceptTree-means Sig pictureSingletons k3-concept ((lit< tt, lit< tt), (lit< tt, lit< tt))
 
 -- pictures of one and of two rows of known roles, below an empty root
 known-one : (a : Row Sig) → T (ltb (a .role) roles) → KnownRoles Sig (picture (a ∷ []))

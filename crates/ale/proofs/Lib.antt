@@ -9,6 +9,7 @@ pub mod LowestMap
 pub mod CommonSubsumers
 pub mod Foldings
 pub mod Concepts
+pub mod ConceptTrees
 -- each used on a case
 pub mod Examples
 -- tests as types, sets of names, trees, structures

@@ -12,22 +12,20 @@
 --   fits-merged, merged-fits                      then it fits the merged tree; and conversely, if the roles are known
 use Prim.Native.Nat.{_<_, suc, zero, ℕ}
 use lib.Dec.{T, eqb, eqb-refl, eqb→eq}
-use mathlib.Core.Bool.{Bool, _&&_, _||_, not}
+use mathlib.Core.Bool.{Bool, _&&_, not}
 use mathlib.Core.List.{List, [], _∷_}
-use mathlib.Core.Logic.{⊎-elim}
 use mathlib.Core.Path.{_≡_, refl, subst, sym}
 use Rattle.ale.specs.Forest.{byRole}
-use Rattle.ale.specs.Merged.{existsParts, existsRows, labelOfSet, labelUnion, merged, roleParts, rowsBelow, successorOfSet, valuePart, valueRows}
+use Rattle.ale.specs.Merged.{existsParts, existsRows, labelOfSet, merged, roleParts, rowsBelow, successorOfSet, valuePart, valueRows}
 use Rattle.ale.specs.Rows.{filterBelow, member, withRow}
 use Rattle.ale.specs.Signature.{Signature}
 use Rattle.ale.specs.Structure.{Fits, FitsAll, Satisfies, Structure}
 use Rattle.ale.specs.Table.{KnownRoles, Table, successorOf, successors, treeOf}
-use Rattle.ale.specs.Tree.{All, Forest, Kind, Label, Tree, exists, forAll, sameKind}
+use Rattle.ale.specs.Tree.{All, Forest, Kind, Tree, exists, forAll, sameKind}
 use Rattle.ale.proofs.Forests.{All-append, All-append-left, All-append-right, All-byRole, All-byRole-at}
-use Rattle.ale.proofs.NameLaws.{union-elim, union-left, union-right}
 use Rattle.ale.proofs.RowLists.{filterBelow-in, filterBelow-out, member-cons, member-head, member-tail, withRow-each, withRow-self}
-use Rattle.ale.proofs.Structures.{FitsEdge, each-fits, fits-each, satisfies-emptyLabel, satisfies-narrow}
-use Rattle.ale.proofs.Tests.{and-intro, and-left, and-right, clash, or-left, or-right, or-split, refute}
+use Rattle.ale.proofs.Structures.{FitsEdge, each-fits, fits-each, satisfies-emptyLabel, satisfies-left, satisfies-right, satisfies-union}
+use Rattle.ale.proofs.Tests.{and-intro, and-left, and-right}
 use Rattle.ale.proofs.Trees.{sameKind-eq, sameKind-refl}
 
 module _ (S : Signature) (p : Table S) where
@@ -86,35 +84,20 @@ module _ (S : Signature) (p : Table S) where
       valueRows-in s r j (w .inside) (w .hanging) (w .of-kind) (S .subrole-trans r q (p .role j) i (w .of-role))
 
 module _ (S : Signature) (p : Table S) (M : Structure S) where
-  -- the union of two labels is satisfied exactly if both are
-  satisfies-union : (l m : Label S) (x : M .Element) → Satisfies S M l x → Satisfies S M m x → Satisfies S M (labelUnion S l m) x
-  satisfies-union l m x c d = record {
-    held = λ n h. union-elim S (l .wanted) (m .wanted) (T (M .holds n x)) n h (c .held n) (d .held n);
-    free = λ n h t. union-elim S (l .excluded) (m .excluded) ⊥ n h (λ a. c .free n a t) (λ a. d .free n a t);
-    possible = refute (l .bottom || m .bottom) (λ t.
-        ⊎-elim (λ a. clash (l .bottom) a (c .possible)) (λ a. clash (m .bottom) a (d .possible)) (or-split (l .bottom) (m .bottom) t));
-  }
-
-  satisfies-left : (l m : Label S) (x : M .Element) → Satisfies S M (labelUnion S l m) x → Satisfies S M l x
-  satisfies-left l m x c =
-      satisfies-narrow S M l (labelUnion S l m) x (union-left S (l .wanted) (m .wanted)) (union-left S (l .excluded) (m .excluded)) (or-left (l .bottom) (m .bottom)) c
-
-  satisfies-right : (l m : Label S) (x : M .Element) → Satisfies S M (labelUnion S l m) x → Satisfies S M m x
-  satisfies-right l m x c =
-      satisfies-narrow S M m (labelUnion S l m) x (union-right S (l .wanted) (m .wanted)) (union-right S (l .excluded) (m .excluded)) (or-right (l .bottom) (m .bottom)) c
-
   labelOfSet-satisfies : (s : List ℕ) (x : M .Element) → Satisfies S M (labelOfSet S p s) x →
       (i : ℕ) → T (member i s) → Satisfies S M (p .label i) x
   labelOfSet-satisfies [] x c = λ i h. absurd h
   labelOfSet-satisfies (j ∷ s) x c =
       let l = labelOfSet S p s in
-      member-cons (λ i. Satisfies S M (p .label i) x) j s (satisfies-left (p .label j) l x c) (labelOfSet-satisfies s x (satisfies-right (p .label j) l x c))
+      member-cons (λ i. Satisfies S M (p .label i) x) j s (satisfies-left S M (p .label j) l x c)
+      (labelOfSet-satisfies s x (satisfies-right S M (p .label j) l x c))
 
   satisfies-labelOfSet : (s : List ℕ) (x : M .Element) → ((i : ℕ) → T (member i s) → Satisfies S M (p .label i) x) →
       Satisfies S M (labelOfSet S p s) x
   satisfies-labelOfSet [] x c = satisfies-emptyLabel S M x
   satisfies-labelOfSet (j ∷ s) x c =
-      satisfies-union (p .label j) (labelOfSet S p s) x (c j (member-head j s)) (satisfies-labelOfSet s x (λ i h. c i (member-tail i j s h)))
+      satisfies-union S M (p .label j) (labelOfSet S p s) x (c j (member-head j s))
+      (satisfies-labelOfSet s x (λ i h. c i (member-tail i j s h)))
 
   -- the edge to row j, whose tree h gives, is fitted
   abbrev FitsRow : (ℕ → Tree S) → M .Element → ℕ → Type 0

@@ -3,11 +3,13 @@
 --   rows-known          such a list is a table of known roles
 --   encoded-known       a tree of known roles, encoded, is a table of known roles
 --   treeOf-rolesKnown   the tree of a row of such a table has known roles
+--   rolesKnown-append   forests of known roles, one after the other
 use Prim.Native.Nat.{_+_, _<_, suc, zero, ℕ}
 use lib.Dec.{T}
 use mathlib.Core.List.{List, [], _++_, _∷_}
 use native.Mathlib.Omega.{arith}
 use Rattle.ale.specs.Encoding.{Row, encode, encodeForest, encodeTree, encoded, tableOf}
+use Rattle.ale.specs.Forest.{append}
 use Rattle.ale.specs.Rows.{filterBelow, member}
 use Rattle.ale.specs.Signature.{Signature}
 use Rattle.ale.specs.Table.{KnownRoles, Table, successorOf, successors, treeOf}
@@ -51,3 +53,7 @@ module _ (S : Signature) where
           RolesKnownAll S (successors S p (λ j. treeOf S p n j) s)
       successors-known [] h ih = tt
       successors-known (j ∷ s) h ih = (k j (h j (member-head j s)), ih j, successors-known s (λ i m. h i (member-tail i j s m)) ih)
+
+  pub rolesKnown-append : (f g : Forest S) → RolesKnownAll S f → RolesKnownAll S g → RolesKnownAll S (append S f g)
+  rolesKnown-append nil g a b = b
+  rolesKnown-append (cons k r t f) g a b = (a .0, a .1, rolesKnown-append f g (a .2) b)

@@ -4,16 +4,21 @@
 --   fits-each, each-fits   it fits a forest exactly if it fits the restriction of each edge
 --   satisfies-narrow       what satisfies a label satisfies one with no other names
 --   satisfies-emptyLabel   every element satisfies the empty label
+--   satisfies-union, satisfies-left, satisfies-right
+--                          an element satisfies the union of two labels exactly if it satisfies both
 --   inAll-subsumed         subsumption in all structures implies subsumption in the finite interpretations
 --   subsumed-trans         subsumption is transitive
 use Prim.Native.Nat.{ℕ}
 use lib.Dec.{T}
+use mathlib.Core.Bool.{_||_}
+use mathlib.Core.Logic.{⊎-elim}
 use Rattle.ale.specs.Interpretation.{Subsumed, structureOf}
+use Rattle.ale.specs.Merged.{labelUnion}
 use Rattle.ale.specs.Signature.{Signature}
 use Rattle.ale.specs.Structure.{Fits, FitsAll, Restriction, Satisfies, Structure, SubsumedInAll}
 use Rattle.ale.specs.Tree.{All, Forest, Kind, Label, Tree, cons, emptyLabel, exists, forAll, nil}
-use Rattle.ale.proofs.NameLaws.{none-has}
-use Rattle.ale.proofs.Tests.{clash, refute}
+use Rattle.ale.proofs.NameLaws.{none-has, union-elim, union-left, union-right}
+use Rattle.ale.proofs.Tests.{clash, or-left, or-right, or-split, refute}
 
 module _ (S : Signature) (M : Structure S) where
   abbrev pub FitsEdge : M .Element → Kind → ℕ → Tree S → Type 0
@@ -42,6 +47,26 @@ module _ (S : Signature) (M : Structure S) where
 
   pub satisfies-emptyLabel : (x : M .Element) → Satisfies S M (emptyLabel S) x
   satisfies-emptyLabel x = record { held = λ n h. absurd (none-has S n h); free = λ n h t. none-has S n h; possible = tt }
+
+  pub satisfies-union : (l m : Label S) (x : M .Element) → Satisfies S M l x → Satisfies S M m x →
+      Satisfies S M (labelUnion S l m) x
+  satisfies-union l m x c d = record {
+    held = λ n h. union-elim S (l .wanted) (m .wanted) (T (M .holds n x)) n h (c .held n) (d .held n);
+    free = λ n h t. union-elim S (l .excluded) (m .excluded) ⊥ n h (λ a. c .free n a t) (λ a. d .free n a t);
+    possible = refute (l .bottom || m .bottom) (λ t.
+        ⊎-elim (λ a. clash (l .bottom) a (c .possible)) (λ a. clash (m .bottom) a (d .possible))
+        (or-split (l .bottom) (m .bottom) t));
+  }
+
+  pub satisfies-left : (l m : Label S) (x : M .Element) → Satisfies S M (labelUnion S l m) x → Satisfies S M l x
+  satisfies-left l m x c =
+      satisfies-narrow l (labelUnion S l m) x (union-left S (l .wanted) (m .wanted))
+      (union-left S (l .excluded) (m .excluded)) (or-left (l .bottom) (m .bottom)) c
+
+  pub satisfies-right : (l m : Label S) (x : M .Element) → Satisfies S M (labelUnion S l m) x → Satisfies S M m x
+  satisfies-right l m x c =
+      satisfies-narrow m (labelUnion S l m) x (union-right S (l .wanted) (m .wanted))
+      (union-right S (l .excluded) (m .excluded)) (or-right (l .bottom) (m .bottom)) c
 
 module _ (S : Signature) where
   pub inAll-subsumed : (t u : Tree S) → SubsumedInAll S t u → Subsumed S t u

@@ -1,6 +1,7 @@
 -- 003, Table 1: the concept descriptions of ALE and their extensions; and the concept of a description tree.
 --   Concept             the seven lines of Table 1
 --   InExtension         an element is in the extension of a concept: Table 1's third column, line by line
+--   Over                a concept over the names and roles of a signature (003's N_C and N_R)
 --   restrictionConcept  an existential or a value restriction, by kind
 --   conjunctionOf, namesOf, labelConcept   the concept of a label
 --   conceptOf           the concept of a tree: the conjunction of its label and of a restriction for each successor
@@ -33,6 +34,16 @@ module _ (S : Signature) (M : Structure S) where
   InExtension (value r c) x = (y : M .Element) → M .edge r x y → InExtension c y
   InExtension (negation n) x = T (M .holds n x) → ⊥
   InExtension bottomConcept x = ⊥
+
+module _ (S : Signature) where
+  abbrev pub Over : Concept → Type 0
+  Over (primitive n) = n < S .names
+  Over topConcept = Unit
+  Over (conjunction c d) = Over c × Over d
+  Over (existential r c) = (r < S .roles) × Over c
+  Over (value r c) = (r < S .roles) × Over c
+  Over (negation n) = n < S .names
+  Over bottomConcept = Unit
 
 abbrev pub restrictionConcept : Kind → ℕ → Concept → Concept
 restrictionConcept exists r c = existential r c

@@ -7,7 +7,7 @@
 --   lcs-reads, lcs-readable            the file is readable, with a row for each node
 --   lcs-meaning                        its tree is the product
 --   lcs-covers-first, lcs-covers-second   it covers both pictures,
---   lcs-least-any                      and every description of known roles that covers both covers it,
+--   lcs-least-any                      and every concept over the names and roles that covers both covers it,
 --   lcs-least                          so every readable picture that does
 use Prim.Native.Nat.{_^_, _≤_, ℕ}
 use lib.ListN.{length}
@@ -15,11 +15,13 @@ use mathlib.Core.List.{List}
 use mathlib.Core.Path.{_≡_, subst, sym}
 use native.Mathlib.Omega.{arith}
 use Rattle.ale.proofs.CommonSubsumers as trees
-use Rattle.ale.proofs.Concepts.{subsumed-concepts}
+use Rattle.ale.proofs.ConceptTrees.{conceptOf-over, conceptTree, conceptTree-means, conceptTree-rolesKnown, pictureSingletons}
+use Rattle.ale.proofs.Concepts.{subsumed-concepts, subsumed-means}
 use Rattle.ale.proofs.Confined.{Confined, confined-height, confined-rolesKnown, lcs-confined}
 use Rattle.ale.proofs.Encodings.{encodeTree-length}
 use Rattle.ale.proofs.ProductReductions as reductions
 use Rattle.ale.proofs.RoleLaws.{treeOf-rolesKnown}
+use Rattle.ale.specs.Concept.{Concept, Over, conceptOf}
 use Rattle.ale.specs.Encoding.{encode}
 use Rattle.ale.specs.Interpretation.{Subsumed}
 use Rattle.ale.specs.NormalForm.{Reduced}
@@ -121,17 +123,25 @@ module _ (limits : Limits) (first second : List ℕ) where
       pub lcs-covers-second : Covers limits (lcsFile limits first second) second
       lcs-covers-second = covers-by second second-lcs
 
-      -- d may have any number of rows and edges
-      pub lcs-least-any : Readable limits first → Readable limits second → (d : Tree pictureSignature) → RolesKnown pictureSignature d →
-          DescriptionCovers limits d first → DescriptionCovers limits d second → DescriptionCovers limits d (lcsFile limits first second)
-      lcs-least-any r t d known a b =
-          subsumed-concepts pictureSignature (pictureTree limits (lcsFile limits first second)) d .0
-          (of-picture (λ v. Subsumed pictureSignature v d)
-          (lcs-below r t d known (subsumed-concepts pictureSignature (pictureTree limits first) d .1 a)
-          (subsumed-concepts pictureSignature (pictureTree limits second) d .1 b)))
+      module _ (r : Readable limits first) (t : Readable limits second) where
+        -- a concept may have any number of nodes and edges: it means what its tree means
+        pub lcs-least-any : (c : Concept) → Over pictureSignature c →
+            DescriptionCovers limits c first → DescriptionCovers limits c second →
+            DescriptionCovers limits c (lcsFile limits first second)
+        lcs-least-any c over a b =
+            let u = conceptTree pictureSignature pictureSingletons c in
+            let known = conceptTree-rolesKnown pictureSignature pictureSingletons c over in
+            let means = conceptTree-means pictureSignature pictureSingletons c over in
+            subsumed-means pictureSignature (pictureTree limits (lcsFile limits first second)) u c means .0
+            (of-picture (λ v. Subsumed pictureSignature v u)
+            (lcs-below r t u known (subsumed-means pictureSignature (pictureTree limits first) u c means .1 a)
+            (subsumed-means pictureSignature (pictureTree limits second) u c means .1 b)))
 
-      -- p may have any number of merged rows
-      pub lcs-least : Readable limits first → Readable limits second → (p : List ℕ) → Readable limits p →
-          Covers limits p first → Covers limits p second → Covers limits p (lcsFile limits first second)
-      lcs-least r t p q =
-          lcs-least-any r t (pictureTree limits p) (treeOf-rolesKnown pictureSignature (pictureTable p) (picture-known limits p q) (limits .depth) 0)
+        -- p may have any number of merged rows
+        pub lcs-least : (p : List ℕ) → Readable limits p →
+            Covers limits p first → Covers limits p second → Covers limits p (lcsFile limits first second)
+        lcs-least p q =
+            let u = pictureTree limits p in
+            let roles = picture-known limits p q in
+            let known = treeOf-rolesKnown pictureSignature (pictureTable p) roles (limits .depth) 0 in
+            lcs-least-any (conceptOf pictureSignature u) (conceptOf-over pictureSignature u known)

@@ -21,9 +21,10 @@ use mathlib.Core.Logic.{_↔_, _⊎_, inl, inr}
 use mathlib.Core.Path.{_≡_, refl, subst, sym}
 use native.Mathlib.Omega.{arith}
 use borrow.Author.Tests.{leb-false, leb-true}
+use Rattle.ale.specs.Concept.{Concept, Over}
 use Rattle.ale.specs.PictureSignature.{pictureSignature}
 use Rattle.ale.specs.Product.{product}
-use Rattle.ale.specs.Tree.{RolesKnown, Tree, size}
+use Rattle.ale.specs.Tree.{size}
 use Rattle.meaning.specs.Covering.{Covers}
 use Rattle.meaning.specs.NormalTable.{normalTreeOf}
 use Rattle.picture.specs.Read.{readingOf}
@@ -61,9 +62,9 @@ pub record LeastCommon (limits : Limits) (first second : List ℕ) (n : ℕ) (pi
   pub covers-second : Covers limits picture second
   -- "and every picture that covers both covers it;" however many rows it has when merged
   pub least : (other : List ℕ) → Readable limits other → Covers limits other first → Covers limits other second → Covers limits other picture
-  -- 003, Definition 2: so does every description of known roles, however many rows and edges it has
-  pub least-any : (d : Tree pictureSignature) → RolesKnown pictureSignature d →
-      DescriptionCovers limits d first → DescriptionCovers limits d second → DescriptionCovers limits d picture
+  -- 003, Definition 2: so does every concept description over the 64 names and 32 roles, of any size and depth
+  pub least-any : (c : Concept) → Over pictureSignature c →
+      DescriptionCovers limits c first → DescriptionCovers limits c second → DescriptionCovers limits c picture
 
 pub record Condition2Common (limits : Limits) (first second : List ℕ) : Type 0 where
   -- whenever a length is given, the result buffer's bytes up to it are the common picture
