@@ -14,16 +14,18 @@ use Rattle.table.specs.Put.{put, zeros}
 use Rattle.table.specs.Range.{some}
 use Rattle.table.specs.declared.layout.Limits.{Limits}
 use Rattle.picture.specs.Refusal.{refusal}
+use Rattle.picture.specs.Asked.{askedFrom, readAsked}
 use Rattle.picture.specs.Depth.{depth, depthIn}
 use Rattle.picture.specs.Questions.{endField, fieldAt, kindOk, lengthFor, parentOk, roleOk, rowField, tagOk, valueField}
-use Rattle.picture.specs.Read.{answerOf, readingOf, scanFrom}
+use Rattle.picture.specs.Read.{readingOf, scanFrom}
 use Rattle.picture.specs.Readable.{rowCount}
 use Rattle.picture.specs.declared.answer.Input.{Input}
 use Rattle.picture.specs.declared.answer.Input.the-variants.{Book, Buffer, Card, First}
 use Rattle.meaning.specs.Covering.{covers}
 use Rattle.meaning.proofs.CasePictures.{allOf, allRow, empty, end, fourRows, impossible, noneReached, one, oneRow, picture, root, row, someRow, two}
 use Rattle.meaning.specs.NormalTable.{mergedCount, mergedTree, normalTreeOf}
-use Rattle.book.specs.Call.{askedFrom, bookAsked, mergedAsked, mostSpecificAnswer, mostSpecificWork, readAsked}
+use Rattle.normal.specs.Call.{mergedAsked}
+use Rattle.book.specs.Call.{bookAsked, mostSpecificAnswer, mostSpecificWork}
 use Rattle.book.specs.Form.{bookForm, card, cardAt, cardCount, cardsFrom, fieldPlace}
 use Rattle.book.specs.Selection.{cardWord, mostSpecific, mostSpecificCards, subsumesAnother}
 use Rattle.book.specs.declared.answer.Selected.{Selected}
@@ -179,7 +181,7 @@ cases =
 
 pub all-pass : runAll cases ≡ cases
 unfolding be endsAt put zeros some depthIn depth tagOk lengthFor kindOk roleOk parentOk valueField rowField endField fieldAt
-    scanFrom readingOf answerOf rowCount mergedTree mergedCount normalTreeOf covers
+    scanFrom readingOf rowCount mergedTree mergedCount normalTreeOf covers
     fieldPlace card cardAt cardsFrom cardCount bookForm subsumesAnother mostSpecific cardWord mostSpecificCards
-    askedFrom readAsked mergedAsked bookAsked mostSpecificAnswer mostSpecificWork
+    askedFrom readAsked mergedAsked bookAsked mostSpecificAnswer
 all-pass = refl

@@ -34,10 +34,9 @@ use Rattle.book.specs.Refusals.{FirstNo, Named}
 use Rattle.book.specs.Selection.{MostSpecific, mostSpecificCards}
 use Rattle.book.specs.declared.answer.Selected.{Selected}
 use Rattle.book.specs.declared.answer.Selected.the-variants.{Cards, Refused}
-use Rattle.book.proofs.Answers.{answered-acceptable, answered-exactly, answered-or-refused, refused-exactly, refused-work, work-clear, work-kept, work-past}
+use Rattle.book.proofs.Answers.{apart, answered-acceptable, answered-exactly, answered-or-refused, refused-exactly, refused-work, work-clear, work-kept, work-past}
 use Rattle.book.proofs.Refusals.{book-refusal}
 use Rattle.book.proofs.Selections.{most-specific-exactly, past-last, word-below}
-use Rattle.book.proofs.Questions.{apart}
 
 abbrev pub SaysCards : Selected → Type 0
 SaysCards answer = (word : ℕ) × (answer ≡ Cards word)

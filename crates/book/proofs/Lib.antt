@@ -5,7 +5,6 @@ pub mod CardWords
 pub mod Forms
 pub mod WrittenBooks
 -- the questions, in their order
-pub mod Questions
 pub mod Orders
 -- the cards that are selected
 pub mod Selections

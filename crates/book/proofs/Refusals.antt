@@ -15,7 +15,7 @@ use Rattle.book.specs.Call.{mostSpecificAnswer}
 use Rattle.book.specs.Form.{card}
 use Rattle.book.specs.Refusals.{FirstNo, Named, card-many, card-unreadable, case-many, case-unreadable, no-form}
 use Rattle.book.specs.declared.answer.Selected.the-variants.{Refused}
-use Rattle.book.proofs.Answers.{refused-answer}
+use Rattle.book.proofs.Answers.{refused-exactly}
 
 module _ (limits : Limits) (case book : List ℕ) where
   pub first-named : (r : Refusal) → FirstNo limits case book r → Named book r
@@ -28,7 +28,7 @@ module _ (limits : Limits) (case book : List ℕ) where
   first-named r (card-many c f cards few k l before many) = inr (inr (inr (k, l, (refl, omega arith, omega arith))))
 
   pub book-refusal : (room : ℕ) (r : Refusal) → mostSpecificAnswer limits case book room ≡ Refused r → Named book r
-  book-refusal room r e = by (refused-answer limits case book room r e)
+  book-refusal room r e = by (refused-exactly limits case book room r .0 e)
     where
       by : ((room < workSize limits) × (r ≡ shortBuffer)) ⊎ ((workSize limits ≤ room) × FirstNo limits case book r) → Named book r
       by (inl (short, is)) = subst (λ q. Named book q) (sym is) (inl (refl, omega arith, omega arith))

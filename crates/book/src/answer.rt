@@ -1,11 +1,5 @@
-// What the questions about a case and a book answer.
+// The answer of the sixth call. Its definition is in specs/Call, the code in most_specific.
 use picture::answer::Refusal;
-
-// All yes, or the first no.
-pub enum Asked {
-    Yes,
-    No(Refusal),
-}
 
 // A word of cards, card n as bit n, or the refusal.
 pub enum Selected {
