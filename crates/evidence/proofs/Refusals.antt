@@ -1,7 +1,8 @@
 -- Which refusals the fifth call gives: 1 names the buffer, 2 to 14 one of the two pictures, 16 to 23 the evidence; there is
 -- no other.
 --   Named            1 to 14 as in every call on two pictures (workspace, specs/Refusals: `Known`), or 16 to 23 and the evidence
---   verify-refusal   so is every refusal of the call
+--   evidence-refusal after 14 the check refuses by 16 to 23 and names the evidence
+--   verify-refusal   a refusal of the call is such a one
 use Prim.Native.Nat.{ℕ, _≤_}
 use native.Mathlib.Omega.{arith}
 use lib.Dec.{eqb, leb, ltb}
@@ -105,18 +106,22 @@ also-named MapTaken h = tt
 also-named RefutationTaken h = tt
 also-named (Refused r) h = inr h
 
-module _ (limits : Limits) (first second e : List ℕ) (room : ℕ) where
+module _ (limits : Limits) (first second e : List ℕ) where
   evidence-answers : Answers OfEvidence (evidenceAnswer limits first second e)
   unfolding evidenceAnswer checkAnswer
   evidence-answers =
       form-answers (pictureTable (normalFile limits first)) (pictureTable (normalFile limits second)) (pictureTree limits first) (pictureTree limits second) e
       (formOf limits ((pictureTable (normalFile limits second)) .rows) e)
 
+  pub evidence-refusal : (r : Refusal) → evidenceAnswer limits first second e ≡ Refused r → Concerns r Evidence 16 23
+  evidence-refusal r h = subst (Answers OfEvidence) h evidence-answers
+
+module _ (limits : Limits) (first second e : List ℕ) (room : ℕ) where
   verify-answers : Answers Named (verifyAnswer limits first second e room)
   unfolding verifyAnswer
   verify-answers =
       on-by Refused (evidenceAnswer limits first second e) (Answers Named) (verifyAsked limits first second room)
-      (λ all. also-named (evidenceAnswer limits first second e) evidence-answers)
+      (λ all. also-named (evidenceAnswer limits first second e) (evidence-answers limits first second e))
       (λ r h. inl (refuses-no Known (verifyAsked limits first second room) (lent-known limits first second (leb (workSize limits) room)) r h))
 
   pub verify-refusal : (r : Refusal) → verifyAnswer limits first second e room ≡ Refused r → Named r

@@ -1,7 +1,7 @@
 -- The laws of the words, by call, and the starred cases.
 pub mod Words
+pub mod CallWords
 pub mod NormalWords
-pub mod PairWords
 pub mod VerifyWords
 pub mod SubsumesWords
 pub mod LcsWords

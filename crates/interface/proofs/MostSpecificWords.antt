@@ -21,51 +21,60 @@ use mathlib.Core.List.{List}
 use mathlib.Core.Logic.{_↔_, _⊎_, inl, inr, ⊎-elim}
 use mathlib.Core.Path.{_∙_, _≡_, ap, refl, sym}
 use native.Mathlib.Omega.{arith}
-use Rattle.book.proofs.Answers.{Answered, acceptable-answer, answered-acceptable, answered-work, refused-exactly, refused-work, short-answer, work-clear, work-kept, work-past}
+use Rattle.book.proofs.Answers.{Answered, acceptable-answer, answered-acceptable, ask-decides, refused-work, work-clear, work-kept, work-past}
 use Rattle.book.proofs.Conditions.{most-specific-condition}
 use Rattle.book.proofs.Forms.{count-most}
 use Rattle.book.proofs.Refusals.{book-refusal}
 use Rattle.book.specs.Refusals.{FirstNo, Named}
-use Rattle.book.specs.Call.{AcceptableBook, mostSpecificAnswer, mostSpecificWork}
+use Rattle.book.specs.Call.{AcceptableBook, mostSpecificAnswer, mostSpecificAsked, mostSpecificWork}
 use Rattle.book.specs.Form.{cardCount}
 use Rattle.book.specs.Selection.{MostSpecific, mostSpecificCards}
 use Rattle.book.specs.declared.answer.Selected.{Selected}
 use Rattle.book.specs.declared.answer.Selected.the-variants.{Cards, Refused}
 use Rattle.picture.specs.Refusal.{shortBuffer}
-use Rattle.picture.specs.declared.answer.Input.the-variants.{Buffer}
+use Rattle.picture.proofs.Keeping.{kept-no, kept-yes}
+use Rattle.picture.specs.declared.answer.Asked.{Asked}
+use Rattle.picture.specs.declared.answer.Asked.the-variants.{No}
+use Rattle.picture.specs.declared.answer.Input.the-variants.{Book, Buffer, Card, First}
 use Rattle.picture.specs.declared.answer.Refusal.{Refusal}
 use Rattle.table.specs.NameSet.{has}
 use Rattle.table.specs.Put.{put, zeros}
 use Rattle.table.specs.declared.layout.Limits.{Limits}
 use Rattle.workspace.specs.Prepare.{workSize}
 use Rattle.interface.specs.Calls.{MostSpecificGives, mostSpecificWord}
-use Rattle.interface.specs.Word.{card, cardOf, input, inputCode, outcome, outcomeYes, partRange, question, refusalWord, refused, selectedWord, value, valueRange, valueWord}
+use Rattle.interface.specs.Word.{card, cardOf, input, inputCode, outcome, outcomeYes, question, refusalWord, refused, selectedWord, value, valueRange, valueWord}
+use Rattle.interface.proofs.CallWords.{Fits, concerns-fits, word-no, word-yes}
 use Rattle.interface.proofs.Words.{refusal-card, refusal-input, refusal-outcome, refusal-question, value-outcome, value-value}
 
 module _ (limits : Limits) (case book work : List ℕ) where
-  refusing : (r : Refusal) → mostSpecificAnswer limits case book (length work) ≡ Refused r →
-      MostSpecificGives limits case book work (refusalWord r) work
-  unfolding mostSpecificWord
-  refusing r e = record { word-is = sym (ap selectedWord e); buffer-is = sym (refused-work limits case book work r e) }
+  abbrev asks : Asked
+  asks = mostSpecificAsked limits case book (length work)
+
+  refusing : (r : Refusal) → asks ≡ No r → MostSpecificGives limits case book work (refusalWord r) work
+  unfolding mostSpecificWord mostSpecificAnswer
+  refusing r e = record {
+    word-is = sym (word-no selectedWord Refused (λ q. refl) (Cards (mostSpecificCards limits case book)) asks r e);
+    buffer-is = sym (kept-no (put work 0 (zeros (workSize limits))) work asks r e);
+  }
 
   pub most-specific-short : length work < workSize limits →
       MostSpecificGives limits case book work (refused 1 Buffer) work
-  most-specific-short short = refusing shortBuffer (short-answer limits case book (length work) short)
+  most-specific-short short = refusing shortBuffer (ask-decides limits case book (length work) .no shortBuffer .1 (inl (short, refl)))
 
   module _ (enough : workSize limits ≤ length work) where
     pub most-specific-refuses : (r : Refusal) → FirstNo limits case book r →
         MostSpecificGives limits case book work (refusalWord r) work
-    most-specific-refuses r first = refusing r (refused-exactly limits case book (length work) r .1 (inr (enough, first)))
+    most-specific-refuses r first = refusing r (ask-decides limits case book (length work) .no r .1 (inr (enough, first)))
 
     pub most-specific-given : AcceptableBook limits case book →
         MostSpecificGives limits case book work (valueWord outcomeYes (mostSpecificCards limits case book))
         (put work 0 (zeros (workSize limits)))
-    unfolding mostSpecificWord
+    unfolding mostSpecificWord mostSpecificAnswer
     most-specific-given acceptable =
-        let e = acceptable-answer limits case book (length work) enough acceptable in
+        let e = ask-decides limits case book (length work) .yes .1 (enough, acceptable) in
         record {
-          word-is = sym (ap selectedWord e);
-          buffer-is = sym (answered-work limits case book work (mostSpecificCards limits case book) e);
+          word-is = sym (word-yes selectedWord Refused (λ q. refl) (Cards (mostSpecificCards limits case book)) asks e);
+          buffer-is = sym (kept-yes (put work 0 (zeros (workSize limits))) work asks e);
         }
 
   pub most-specific-past : (i : ℕ) → workSize limits ≤ i →
@@ -94,13 +103,13 @@ module _ (limits : Limits) (case book : List ℕ) (room : ℕ) where
     pub by-card : card w ≡ cardOf (refusal .input)
 
   -- a number and a card's number fit their bytes
-  named-fits : (r : Refusal) → Named book r → (r .number < partRange) × (cardOf (r .input) < partRange)
-  named-fits r (inl (is, a, b)) = (omega arith, rw is (omega arith))
-  named-fits r (inr (inl (is, a, b))) = (omega arith, rw is (omega arith))
-  named-fits r (inr (inr (inl (is, a, b)))) = (omega arith, rw is (omega arith))
-  named-fits r (inr (inr (inr (k, l, (is, a, b))))) = (omega arith, rw is (omega (arith, count-most book)))
+  named-fits : (r : Refusal) → Named book r → Fits r
+  named-fits r (inl h) = concerns-fits r Buffer 1 1 h (omega arith) (omega arith)
+  named-fits r (inr (inl h)) = concerns-fits r First 2 14 h (omega arith) (omega arith)
+  named-fits r (inr (inr (inl h))) = concerns-fits r Book 24 24 h (omega arith) (omega arith)
+  named-fits r (inr (inr (inr (k, l, h)))) = concerns-fits r (Card k) 2 14 h (omega arith) (omega (arith, count-most book))
 
-  refusal-fits : (r : Refusal) → answer ≡ Refused r → (r .number < partRange) × (cardOf (r .input) < partRange)
+  refusal-fits : (r : Refusal) → answer ≡ Refused r → Fits r
   refusal-fits r e = named-fits r (book-refusal limits case book room r e)
 
   word-small : (n : ℕ) → answer ≡ Cards n → n < valueRange

@@ -14,12 +14,10 @@
 --   word, written                         in the statements, the call's word, and the buffer's bytes up to the reported length
 use Prim.Native.Nat.{ℕ, _+_, _<_, _≤_}
 use native.Mathlib.Omega.{arith}
-use borrow.Author.Tests.{leb-false, leb-true}
-use lib.Dec.{leb}
 use lib.ListN.{drop, getD, length, take}
 use lib.Seq.{take-at}
-use mathlib.Core.Bool.{Bool, false, true}
 use mathlib.Core.List.{List}
+use mathlib.Core.Logic.{inl, inr}
 use mathlib.Core.Path.{_≡_, refl, subst, sym}
 use Rattle.table.specs.Bounds.{Bounded, pictureSize}
 use Rattle.table.specs.Put.{put}
@@ -27,18 +25,22 @@ use Rattle.table.specs.declared.layout.Limits.{Limits}
 use Rattle.picture.specs.Read.{readingOf}
 use Rattle.picture.specs.Readable.{Readable}
 use Rattle.picture.specs.declared.answer.Input.the-variants.{Buffer, First}
-use Rattle.picture.specs.declared.read.Reading.{Reading}
 use Rattle.picture.specs.declared.read.Reading.the-variants as reading
-use Rattle.picture.proofs.Readables.{reading-number}
+use Rattle.picture.proofs.Keeping.{file-kept, file-past, kept-no, kept-yes}
+use Rattle.picture.specs.Refusal.{refusal, shortBuffer, tooMany}
+use Rattle.picture.specs.declared.answer.Asked.{Asked}
+use Rattle.picture.specs.declared.answer.Refusal.{Refusal}
 use Rattle.meaning.specs.NormalTable.{mergedCount, normalFile}
 use Rattle.ale.specs.Interpretation.{Equivalent}
 use Rattle.ale.specs.PictureSignature.{pictureSignature}
 use Rattle.meaning.specs.Meaning.{pictureTree}
 use Rattle.meaning.proofs.Normals.{normal-readable, normal-size, normalFile-equivalent}
-use Rattle.normal.specs.Call.{normalizeResult}
-use Rattle.normal.proofs.Answers.{Accepted, few-answer, many-answer, result-kept, result-past, short-answer, unreadable-answer}
-use Rattle.interface.specs.Word.{outcome, outcomeYes, refused, value, valueWord}
+use Rattle.normal.specs.Call.{normalizeAnswer, normalizeResult, oneAsked}
+use Rattle.normal.specs.declared.normalize.Normalized.the-variants.{Length, Refused}
+use Rattle.normal.proofs.Answers.{Accepted, OneNo, one-decides, one-refuses}
+use Rattle.interface.specs.Word.{normalizedWord, outcome, outcomeYes, refusalWord, refused, value, valueWord}
 use Rattle.interface.specs.Calls.{NormalizeGives, normalizeWord}
+use Rattle.interface.proofs.CallWords.{Fits, word-no, word-shows, word-yes}
 use Rattle.interface.proofs.Words.{value-value}
 
 module _ (limits : Limits) (s out : List ℕ) where
@@ -48,27 +50,41 @@ module _ (limits : Limits) (s out : List ℕ) where
   abbrev written : List ℕ
   written = take (value word) (normalizeResult limits s out)
 
+  abbrev asks : Asked
+  asks = oneAsked limits s (length out)
+
+  refusing : (r : Refusal) → OneNo limits s (length out) r → NormalizeGives limits s out (refusalWord r) out
+  unfolding normalizeWord normalizeAnswer normalizeResult
+  refusing r h =
+      let e = one-decides limits s (length out) .no r .1 h in
+      record {
+        word-is = sym (word-no normalizedWord Refused (λ q. refl) (Length (length (normalFile limits s))) asks r e);
+        buffer-is = sym (kept-no (put out 0 (normalFile limits s)) out asks r e);
+      }
+
   pub normalize-short : length out < pictureSize limits → NormalizeGives limits s out (refused 1 Buffer) out
-  unfolding normalizeWord normalizeResult
-  normalize-short h = let e = short-answer limits s (length out) h in record { word-is = rw e; buffer-is = rw e }
+  normalize-short h = refusing shortBuffer (inl (h, refl))
 
   module _ (enough : pictureSize limits ≤ length out) where
     pub normalize-unreadable : (q : ℕ) → readingOf limits s ≡ reading.Failed q →
         NormalizeGives limits s out (refused q First) out
-    unfolding normalizeWord normalizeResult
-    normalize-unreadable q h = let e = unreadable-answer limits s (length out) enough q h in record { word-is = rw e; buffer-is = rw e }
+    normalize-unreadable q h = refusing (refusal q First) (inr (enough, inl (q, h, refl)))
 
     module _ (readable : Readable limits s) where
       pub normalize-many : limits .rows < mergedCount limits s → NormalizeGives limits s out (refused 14 First) out
-      unfolding normalizeWord normalizeResult
-      normalize-many h = let e = many-answer limits s (length out) enough readable h in record { word-is = rw e; buffer-is = rw e }
+      normalize-many h = refusing (tooMany First) (inr (enough, inr (readable, (h, refl))))
 
       module _ (few : mergedCount limits s ≤ limits .rows) where
         pub normalize-written :
             NormalizeGives limits s out (valueWord outcomeYes (length (normalFile limits s)))
             (put out 0 (normalFile limits s))
-        unfolding normalizeWord normalizeResult
-        normalize-written = let e = few-answer limits s (length out) enough readable few in record { word-is = rw e; buffer-is = rw e }
+        unfolding normalizeWord normalizeAnswer normalizeResult
+        normalize-written =
+            let e = one-decides limits s (length out) .yes .1 (record { enough = enough; readable = readable; few = few }) in
+            record {
+              word-is = sym (word-yes normalizedWord Refused (λ q. refl) (Length (length (normalFile limits s))) asks e);
+              buffer-is = sym (kept-yes (put out 0 (normalFile limits s)) out asks e);
+            }
 
         module _ (bounded : Bounded limits) where
           pub normalize-value : value word ≡ length (normalFile limits s)
@@ -90,33 +106,20 @@ module _ (limits : Limits) (s out : List ℕ) where
               subst (λ t. Equivalent pictureSignature (pictureTree limits s) (pictureTree limits t)) (sym normalize-result)
               (normalFile-equivalent limits s few bounded readable)
 
-  yes-few : (b : Bool) → leb (mergedCount limits s) (limits .rows) ≡ b → pictureSize limits ≤ length out →
-      Readable limits s → outcome word ≡ outcomeYes → Accepted limits s (length out)
-  yes-few true e enough readable h = record { enough = enough; readable = readable; few = leb-true (mergedCount limits s) (limits .rows) e }
-  yes-few false e enough readable h =
-      let many = normalize-many enough readable (leb-false (mergedCount limits s) (limits .rows) e) .word-is in
-      absurd (omega (arith, many))
-
-  yes-reading : (r : Reading) → readingOf limits s ≡ r → pictureSize limits ≤ length out →
-      outcome word ≡ outcomeYes → Accepted limits s (length out)
-  yes-reading (reading.Rows n) e enough h = yes-few (leb (mergedCount limits s) (limits .rows)) refl enough (record { rows = n; reads = e }) h
-  yes-reading (reading.Failed q) e enough h =
-      let failed = normalize-unreadable enough q e .word-is in
-      absurd (omega (arith, failed, reading-number limits s q e .most))
-
-  yes-room : (b : Bool) → leb (pictureSize limits) (length out) ≡ b →
-      outcome word ≡ outcomeYes → Accepted limits s (length out)
-  yes-room true e h = yes-reading (readingOf limits s) refl (leb-true (pictureSize limits) (length out) e) h
-  yes-room false e h =
-      let short = normalize-short (leb-false (pictureSize limits) (length out) e) .word-is in
-      absurd (omega (arith, short))
-
   pub normalize-accepted : outcome word ≡ outcomeYes → Accepted limits s (length out)
-  normalize-accepted h = yes-room (leb (pictureSize limits) (length out)) refl h
+  unfolding normalizeWord normalizeAnswer
+  normalize-accepted h =
+      one-decides limits s (length out) .yes .0
+      (word-shows normalizedWord Refused (λ q. refl) (Length (length (normalFile limits s))) asks
+      (one-refuses limits s (length out) Fits (omega arith, omega arith) (λ q a b. (omega arith, omega arith))) (omega arith))
 
   pub normalize-past : (i : ℕ) → length (normalFile limits s) ≤ i →
       getD (normalizeResult limits s out) i 0 ≡ getD out i 0
-  normalize-past i h = result-past limits s out i h
+  unfolding normalizeResult
+  normalize-past i h = file-past asks (normalFile limits s) out i h
 
   pub normalize-kept : length (normalizeResult limits s out) ≡ length out
-  normalize-kept = result-kept limits s out
+  unfolding normalizeResult
+  normalize-kept =
+      file-kept asks (normalFile limits s) out
+      (λ e. let a = one-decides limits s (length out) .yes .0 e in omega (arith, a .enough, normal-size limits s (a .few)))

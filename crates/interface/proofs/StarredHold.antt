@@ -12,13 +12,14 @@ use Rattle.countermodel.specs.Writing.{individualBytes, refutationFile}
 use Rattle.evidence.specs.Call.{evidenceAnswer, verifyAnswer}
 use Rattle.evidence.specs.Check.{checkAnswer, refutationAsked}
 use Rattle.evidence.specs.Form.{formOf, mapForm}
-use Rattle.evidence.specs.Map.{inOrder, mapAsked, rowAsked}
+use Rattle.evidence.specs.Map.{mapAsked, rowAsked}
 use Rattle.homomorphism.specs.Map.{lowestMap, mapFile}
 use Rattle.lcs.proofs.Commons.{lcs-covers-first, lcs-covers-second}
-use Rattle.lcs.specs.Call.{commonAnswer, lcsAnswer}
+use Rattle.lcs.specs.Call.{lcsAnswer}
 use Rattle.lcs.specs.Product.{lcsCount, lcsFile, lcsTree}
 use Rattle.meaning.specs.Covering.{Covers, covers}
 use Rattle.meaning.specs.NormalTable.{mergedCount, mergedTree, normalFile, normalTreeOf}
+use Rattle.picture.specs.Asked.{askedFrom, readAsked}
 use Rattle.picture.specs.Depth.{depth, depthIn}
 use Rattle.picture.specs.Questions.{endField, fieldAt, kindOk, lengthFor, parentOk, roleOk, rowField, tagOk, valueField}
 use Rattle.picture.specs.Read.{answerOf, readingOf, scanFrom}
@@ -31,7 +32,9 @@ use Rattle.table.specs.Number.{be, beBytes}
 use Rattle.table.specs.Put.{put}
 use Rattle.table.specs.Range.{each}
 use Rattle.table.specs.declared.layout.Limits.{Limits}
-use Rattle.workspace.specs.Prepare.{Acceptable, mergedAsked, prepareAnswer, workSize}
+use Rattle.normal.specs.Call.{mergedAsked}
+use Rattle.workspace.specs.Lent.{lentAsked}
+use Rattle.workspace.specs.Prepare.{Acceptable, pairAsked, workSize}
 use Rattle.interface.specs.Calls.{lcsWord, validateWord, verifyWord}
 use Rattle.interface.specs.Starred.{empty, k10-first, k10-second, k11-first, k11-second, k12-first, k12-normal, k12-normal-again, k2-first, k2-normal, k3-first, k3-normal, k4-first, k4-normal, k5-first, k6-first, k6-added-first, k6-added-normal, k7-first, k7-map, k7-refutation, k7-second, k8-first, k8-map, k8-other, k8-refutation, k8-second, k9-common, k9-first, k9-second, starred}
 use Rattle.interface.specs.StarredClaims.{WritesNormal, WritesCommon, AllHold, Holds, WritesEvidence, subsumes, subsumesNot}
@@ -93,7 +96,7 @@ module _ (limits : Limits) (bounded : Bounded limits) (first second table : List
   shown-common told =
       let a = lcs-yes limits first second (workSize limits) (pictureSize limits) bounded told in (
         λ work result enough long.
-            let given = lcs-common limits first second work result enough long (a .pair) (a .few) in
+            let given = lcs-common limits first second work result enough long (a .lent .pair) (a .few) in
             (sym (given .word-is) ∙ ap (λ (e : List ℕ). valueWord outcomeYes (length e)) is, sym (given .result-is) ∙ ap (λ (e : List ℕ). put result 0 e) is),
         subst (λ e. Covers limits e first) is (lcs-covers-first limits first second (a .few) bounded),
         subst (λ e. Covers limits e second) is (lcs-covers-second limits first second (a .few) bounded),
@@ -101,9 +104,9 @@ module _ (limits : Limits) (bounded : Bounded limits) (first second table : List
 
 pub starred-hold : AllHold benchLimits starred
 unfolding be beBytes rowOf endBytes endsAt depthIn depth tagOk lengthFor kindOk roleOk parentOk valueField rowField endField fieldAt scanFrom readingOf answerOf validateWord rowCount mergedTree mergedCount normalTreeOf normalFile
-    each individualCount individualHead refutationForm individualOk mapForm formOf rowAsked inOrder mapAsked refutationAsked checkAnswer evidenceAnswer mergedAsked prepareAnswer verifyAnswer verifyWord
+    each individualCount individualHead refutationForm individualOk mapForm formOf rowAsked askedFrom mapAsked refutationAsked checkAnswer evidenceAnswer readAsked mergedAsked pairAsked lentAsked verifyAnswer verifyWord
     covers verdictOf mapOf lowestMap mapFile refutationOf refutationFile individualBytes evidenceOf verdictAnswer
-    lcsTree lcsCount lcsFile commonAnswer lcsAnswer lcsWord
+    lcsTree lcsCount lcsFile lcsAnswer lcsWord
 starred-hold = (
   empty-subsumes,
   (

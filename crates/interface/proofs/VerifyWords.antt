@@ -18,7 +18,10 @@
 --   answer, word                  in the statements, the call's answer and word
 use Prim.Native.Nat.{ℕ, _<_, _≤_}
 use native.Mathlib.Omega.{arith}
+use borrow.Author.Tests.{le-leb, leb-true}
+use lib.Dec.{leb}
 use lib.ListN.{getD, length, take}
+use mathlib.Core.Bool.{Bool}
 use mathlib.Core.List.{List, _++_}
 use mathlib.Core.Logic.{_↔_, _⊎_, inl, inr, ⊎-elim}
 use mathlib.Core.Path.{_∙_, _≡_, ap, refl, sym}
@@ -26,16 +29,20 @@ use Rattle.table.specs.Bounds.{Bounded}
 use Rattle.table.specs.Number.{Bytes}
 use Rattle.table.specs.declared.layout.Limits.{Limits}
 use Rattle.picture.specs.declared.answer.Input.the-variants.{Buffer, Evidence}
+use Rattle.picture.proofs.Keeping.{kept-no, kept-yes}
+use Rattle.picture.specs.Refusal.{shortBuffer}
+use Rattle.picture.specs.declared.answer.Asked.{Asked}
+use Rattle.picture.specs.declared.answer.Asked.the-variants.{No}
 use Rattle.picture.specs.declared.answer.Refusal.{Refusal}
 use Rattle.meaning.specs.Covering.{Covers}
 use Rattle.meaning.specs.NormalTable.{normalFile}
 use Rattle.normal.specs.Half.{halfOf}
-use Rattle.workspace.proofs.Preparations.{halves-same}
+use Rattle.workspace.proofs.Lendings.{work-kept, work-past, work-same}
 use Rattle.workspace.specs.Prepare.{Acceptable, halvesPut, workSize}
 use Rattle.evidence.proofs.Refusals.{verify-refusal}
 use Rattle.evidence.proofs.Soundness.{map-no-refusal, map-taken, refutation-no-refusal, refutation-taken}
-use Rattle.evidence.proofs.Verifications.{acceptable-verify, acceptable-work, refused-verify, refused-work, short-verify, short-work, verify-taken, work-kept, work-past}
-use Rattle.evidence.specs.Call.{evidenceAnswer, verifyAnswer, verifyWork}
+use Rattle.evidence.proofs.Verifications.{acceptable-verify, verify-decides, verify-taken}
+use Rattle.evidence.specs.Call.{evidenceAnswer, verifyAnswer, verifyAsked, verifyWork}
 use Rattle.evidence.specs.Taken.{MapOf, RefutationOf}
 use Rattle.evidence.specs.declared.check.Verified.{Verified}
 use Rattle.evidence.specs.declared.check.Verified.the-variants as verified
@@ -44,48 +51,53 @@ use Rattle.subsumption.proofs.Writers.{map-covers, refutation-fails}
 use Rattle.interface.specs.Calls.{VerifyGives, verifyWord}
 use Rattle.interface.specs.Refusals.{Refusals}
 use Rattle.interface.specs.Word.{outcome, outcomeNo, outcomeYes, refusalWord, refused, verifiedWord}
-use Rattle.interface.proofs.PairWords.{concerns-zero, known-zero, refusals}
+use Rattle.interface.proofs.CallWords.{concerns-fits, fits-zero, known-fits, refusals, word-no, word-yes}
 
 module _ (limits : Limits) (first second evidence work : List ℕ) where
-  pub verify-short : length work < workSize limits →
-      VerifyGives limits first second evidence work (refused 1 Buffer) work
-  unfolding verifyWord
-  verify-short h = record {
-    word-is = rw (short-verify limits first second evidence (length work) h);
-    buffer-is = sym (short-work limits first second work h);
+  abbrev asks : Asked
+  asks = verifyAsked limits first second (length work)
+
+  abbrev enough : Bool
+  enough = leb (workSize limits) (length work)
+
+  refusing : (r : Refusal) → asks ≡ No r → VerifyGives limits first second evidence work (refusalWord r) work
+  unfolding verifyWord verifyAnswer
+  refusing r e = record {
+    word-is = sym (word-no verifiedWord verified.Refused (λ q. refl) (evidenceAnswer limits first second evidence) asks r e);
+    buffer-is = sym (kept-no (halvesPut limits first second work) work asks r e);
   }
 
-  module _ (enough : workSize limits ≤ length work) where
+  pub verify-short : length work < workSize limits →
+      VerifyGives limits first second evidence work (refused 1 Buffer) work
+  verify-short h = refusing shortBuffer (verify-decides limits first second (length work) .no shortBuffer .1 (inl (h, refl)))
+
+  module _ (room : workSize limits ≤ length work) where
     pub verify-refuses : Refusals limits first second (λ w. VerifyGives limits first second evidence work w work)
-    unfolding verifyWord
     verify-refuses =
-        refusals limits first second _ (λ r e. record {
-          word-is = rw (refused-verify limits first second evidence (length work) enough r e);
-          buffer-is = sym (refused-work limits first second work enough r e);
-        })
+        refusals limits first second _ (λ r h. refusing r (verify-decides limits first second (length work) .no r .1 (inr (room, h))))
 
     module _ (pair : Acceptable limits first second) where
       pub verify-checked :
           VerifyGives limits first second evidence work (verifiedWord (evidenceAnswer limits first second evidence))
           (halvesPut limits first second work)
-      unfolding verifyWord
-      verify-checked = record {
-        word-is = rw (acceptable-verify limits first second evidence (length work) enough pair);
-        buffer-is = sym (acceptable-work limits first second work enough pair);
-      }
+      unfolding verifyWord verifyAnswer
+      verify-checked =
+          let e = verify-decides limits first second (length work) .yes .1 (room, pair) in
+          record {
+            word-is = sym (word-yes verifiedWord verified.Refused (λ q. refl) (evidenceAnswer limits first second evidence) asks e);
+            buffer-is = sym (kept-yes (halvesPut limits first second work) work asks e);
+          }
 
       pub verify-space-same :
           take (workSize limits) (verifyWork limits first second work)
           ≡ halfOf limits (normalFile limits first) ++ halfOf limits (normalFile limits second)
-      verify-space-same =
-          ap (λ (l : List ℕ). take (workSize limits) l) (sym (verify-checked .buffer-is))
-          ∙ halves-same limits first second work (pair .first-few) (pair .second-few)
+      verify-space-same = work-same limits enough first second work (le-leb (workSize limits) (length work) room) pair
 
   pub verify-past : (i : ℕ) → workSize limits ≤ i → getD (verifyWork limits first second work) i 0 ≡ getD work i 0
-  verify-past i h = work-past limits first second work i h
+  verify-past = work-past limits enough first second work
 
   pub verify-kept : length (verifyWork limits first second work) ≡ length work
-  verify-kept = work-kept limits first second work
+  verify-kept = work-kept limits enough first second work (leb-true (workSize limits) (length work))
 
 -- ---- what a word shows
 
@@ -98,7 +110,8 @@ module _ (limits : Limits) (first second evidence : List ℕ) (room : ℕ) where
 
   refusal-zero : (r : Refusal) → answer ≡ verified.Refused r → outcome (refusalWord r) ≡ 0
   refusal-zero r e =
-      ⊎-elim (known-zero r) (λ h. concerns-zero r Evidence 16 23 h (omega arith) refl) (verify-refusal limits first second evidence room r e)
+      fits-zero r
+      (⊎-elim (known-fits r) (λ h. concerns-fits r Evidence 16 23 h (omega arith) (omega arith)) (verify-refusal limits first second evidence room r e))
 
   map-word : (v : Verified) → answer ≡ v → outcome (verifiedWord v) ≡ outcomeYes → v ≡ verified.MapTaken
   map-word verified.MapTaken e h = refl

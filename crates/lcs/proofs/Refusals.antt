@@ -1,7 +1,8 @@
 -- Which refusals the fourth call gives: 1 names the buffer, 2 to 14 one of the two pictures, 15 the second; there is no
 -- other.
 --   Named         1 to 14 as in every call on two pictures (workspace, specs/Refusals: `Known`), or 15 and the second
---   lcs-refusal   so is every refusal of the call
+--   lcs-named     so is every refusal by the questions,
+--   lcs-refusal   and so of the call
 use Prim.Native.Nat.{ℕ}
 use lib.Dec.{leb}
 use lib.ListN.{length}
@@ -25,7 +26,7 @@ abbrev pub Named : Refusal → Type 0
 Named r = Known r ⊎ Concerns r Second 15 15
 
 module _ (limits : Limits) (first second : List ℕ) (work result : ℕ) where
-  lcs-named : Refuses Named (lcsAsked limits first second work result)
+  pub lcs-named : Refuses Named (lcsAsked limits first second work result)
   lcs-named =
       and-refuses Named (lcsLent limits first second work result) (largeAsked limits first second)
       (refuses-so Known Named (λ r h. inl h) (lcsLent limits first second work result)

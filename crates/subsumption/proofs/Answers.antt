@@ -1,7 +1,8 @@
 -- Laws of the third call at any limits: which answer is given for which inputs and buffers, and what the result buffer holds
 -- then.
 --   subsumes-decides                      its questions: all yes exactly with room and of an acceptable pair; the first no
---   yes-subsumes, no-subsumes             the answer then is yes or no, with the length of the evidence
+--   acceptable-subsumes                   the answer then is the verdict,
+--   yes-subsumes, no-subsumes             yes or no, with the length of the evidence
 --   Answered, answered-yes, answered-no   yes or no with a length is answered in no other case, and with no other length
 --   acceptable-result                     the result buffer then; the work space is that of every call on two pictures
 --                                         (workspace, proofs/Lendings)
@@ -45,7 +46,7 @@ module _ (limits : Limits) (first second : List ℕ) (work result : ℕ) where
     pub all-subsumes : subsumesAsked limits first second work result ≡ asked.Yes
     all-subsumes = subsumes-decides .yes .1 (record { work-long = enough; result-long = long; pair = pair })
 
-    acceptable-subsumes : subsumesAnswer limits first second work result ≡ verdictAnswer limits first second
+    pub acceptable-subsumes : subsumesAnswer limits first second work result ≡ verdictAnswer limits first second
     unfolding subsumesAnswer
     acceptable-subsumes = on-yes Refused (verdictAnswer limits first second) (subsumesAsked limits first second work result) all-subsumes
 
