@@ -24,9 +24,9 @@ use Rattle.workspace.specs.Lent.{lentAsked}
 use Rattle.workspace.specs.Prepare.{pairAsked, workSize}
 use Rattle.evidence.specs.declared.check.Verified.{Verified}
 use Rattle.evidence.specs.declared.check.Verified.the-variants.{MapTaken, Refused, RefutationTaken}
-use Rattle.evidence.specs.Call.{evidenceAnswer, verifyAnswer}
-use Rattle.evidence.specs.Check.{checkAnswer, refutationAsked}
-use Rattle.evidence.specs.Form.{formOf, mapForm}
+use Rattle.evidence.specs.Call.{evidenceAsked, verifyAnswer}
+use Rattle.evidence.specs.Check.{checkAsked, refutationAsked}
+use Rattle.evidence.specs.Form.{mapForm}
 use Rattle.evidence.specs.Map.{mapAsked, rowAsked}
 
 -- the first picture, the second, the evidence, and the answer
@@ -192,5 +192,5 @@ cases =
 
 pub all-pass : runAll cases ≡ cases
 unfolding be beBytes rowOf endBytes endsAt depthIn depth tagOk lengthFor kindOk roleOk parentOk valueField rowField endField fieldAt scanFrom readingOf rowCount mergedTree mergedCount normalTreeOf normalFile
-    each individualCount individualHead refutationForm individualOk mapForm formOf rowAsked askedFrom mapAsked refutationAsked checkAnswer evidenceAnswer readAsked mergedAsked pairAsked lentAsked verifyAnswer
+    each individualCount individualHead refutationForm individualOk mapForm rowAsked askedFrom mapAsked refutationAsked checkAsked evidenceAsked readAsked mergedAsked pairAsked lentAsked verifyAnswer
 all-pass = refl

@@ -1,9 +1,11 @@
 -- 01, "For such a pair the check answers": which evidence is taken, for arbitrary bytes, and what that shows of the two pictures.
 --   forms-apart         no file has both forms
 --   map-no-refusal, refutation-no-refusal   a refusal is neither answer
---   asked-map, asked-refutation             the answer by the form and the questions of it
+--   asked-map, asked-refutation             all is answered yes, by the form and the questions of it
+--   Taken               16 to 23 are answered yes, and the evidence is of a kind
 --   map-taken           "map taken" exactly when the evidence is a map and 17 to 20 are answered yes
 --   refutation-taken    "refutation taken" exactly when it is a refutation and 21 to 23 are
+--   evidence-taken      so 16 to 23 are answered yes exactly of one or the other
 --   map-sound           a map is taken only if the second covers the first
 --   refutation-sound    and a refutation only if it does not
 use Prim.Native.Nat.{ℕ, _*_}
@@ -11,11 +13,11 @@ use native.Mathlib.Omega.{arith}
 use borrow.Author.Tests.{eqb-true}
 use lib.Dec.{T, eqb}
 use lib.ListN.{getD}
-use mathlib.Core.Bool.{Bool, _&&_, false, true}
+use mathlib.Core.Bool.{Bool, _&&_, _||_, false, true}
 use mathlib.Core.List.{List}
-use mathlib.Core.Logic.{_↔_}
+use mathlib.Core.Logic.{_↔_, _⊎_, inl, inr, ⊎-elim}
 use mathlib.Core.Path.{_≡_, refl, subst, sym}
-use Rattle.table.proofs.Bools.{both}
+use Rattle.table.proofs.Bools.{both, by-test}
 use Rattle.table.proofs.Ranges.{each-at}
 use Rattle.table.specs.Bounds.{Bounded}
 use Rattle.table.specs.Fields.{endsAt}
@@ -32,7 +34,8 @@ use Rattle.ale.specs.ModelCheck.{fitsTest}
 use Rattle.ale.specs.PictureSignature.{pictureSignature}
 use Rattle.ale.specs.Table.{Table}
 use Rattle.ale.specs.Tree.{Tree}
-use Rattle.picture.proofs.Asking.{given}
+use Rattle.picture.specs.Asked.{andThen, asked}
+use Rattle.picture.specs.declared.answer.Asked.{Asked}
 use Rattle.picture.specs.declared.answer.Asked.the-variants.{Yes}
 use Rattle.picture.specs.declared.answer.Refusal.{Refusal}
 use Rattle.meaning.proofs.Normals.{normal-readable}
@@ -44,14 +47,14 @@ use Rattle.countermodel.specs.Individual.{individualHead, individuals, refutati
 use Rattle.countermodel.specs.Layout.{individualCount, individualLength, individualPlace, individualTag}
 use Rattle.countermodel.specs.Model.{modelTree, rowTree}
 use Rattle.workspace.specs.Prepare.{Acceptable}
-use Rattle.evidence.specs.Call.{evidenceAnswer}
-use Rattle.evidence.specs.Check.{checkAnswer, onForm, refutationAsked}
+use Rattle.evidence.specs.Call.{evidenceAsked, evidenceKind}
+use Rattle.evidence.specs.Check.{checkAsked, refutationAsked, takenAs}
 use Rattle.homomorphism.specs.Layout.{imageOf, imagePlace, mapTag}
-use Rattle.evidence.specs.Form.{formOf, mapForm}
+use Rattle.evidence.specs.Form.{mapForm}
 use Rattle.evidence.specs.Map.{mapAsked, refusalBy}
 use Rattle.evidence.specs.Taken.{MapOf, RefutationOf}
+use Rattle.evidence.specs.declared.check.Verified.{Verified}
 use Rattle.evidence.specs.declared.check.Verified.the-variants.{MapTaken, RefutationTaken, Refused}
-use Rattle.evidence.specs.declared.form.Form.the-variants.{Map, Neither, Refutation}
 use Rattle.evidence.proofs.Homomorphisms.{map-yes, yes-map}
 use Rattle.evidence.proofs.NormalTables.{normal-rowTree, normal-some}
 use Rattle.evidence.proofs.Refutations.{question-fits, refutation-exactly}
@@ -76,7 +79,7 @@ map-tag rows e h =
 pub forms-apart : (limits : Limits) (rows : ℕ) (e : List ℕ) → mapForm rows e ≡ true → refutationForm limits e ≡ true → ⊥
 forms-apart limits rows e h k = omega (arith, map-tag rows e h, refutation-tag limits e k)
 
--- ---- the answer
+-- ---- the kinds
 
 -- no refusal is such an answer
 pub map-no-refusal : (r : Refusal) → Refused r ≡ MapTaken → ⊥
@@ -89,32 +92,43 @@ refutation-no-refusal r h = let z : _≡_ {A = ℕ} 0 1 = cc in omega arith
 other-taken : MapTaken ≡ RefutationTaken → ⊥
 other-taken h = let z : _≡_ {A = ℕ} 0 1 = cc in omega arith
 
+-- b says whether it has the form of a map, c whether that of a refutation; m and n are what the questions of each answer
+module _ (m n : Asked) where
+  abbrev checks : Bool → Bool → Asked
+  checks b c = andThen (asked (b || c) (refusalBy 16)) (pick b m n)
+
+  by-map : (b c : Bool) → checks b c ≡ Yes → pick b MapTaken RefutationTaken ≡ MapTaken → (b ≡ true) × (m ≡ Yes)
+  by-map true c h k = (refl, h)
+  by-map false c h k = absurd (other-taken (sym k))
+
+  by-refutation : (b c : Bool) → checks b c ≡ Yes → pick b MapTaken RefutationTaken ≡ RefutationTaken → (c ≡ true) × (n ≡ Yes)
+  by-refutation true c h k = absurd (other-taken k)
+  by-refutation false true h k = (refl, h)
+  by-refutation false false h k = absurd (let z : _≡_ {A = ℕ} 0 1 = cc in omega arith)
+
 module _ (p q : Table pictureSignature) (t u : Tree pictureSignature) (limits : Limits) (e : List ℕ) where
-  by-map : (b c : Bool) → onForm p q t u e (pick b Map (pick c Refutation Neither)) ≡ MapTaken → (b ≡ true) × (mapAsked p q (imageOf e) ≡ Yes)
-  by-map true c h = (refl, given Refused MapTaken MapTaken map-no-refusal (mapAsked p q (imageOf e)) h .0)
-  by-map false true h = absurd (other-taken (sym (given Refused RefutationTaken MapTaken map-no-refusal (refutationAsked t u e) h .1)))
-  by-map false false h = absurd (map-no-refusal (refusalBy 16) h)
+  pub asked-map : ((checkAsked limits p q t u e ≡ Yes) × (takenAs (q .rows) e ≡ MapTaken)) ↔ ((mapForm (q .rows) e ≡ true) × (mapAsked p q (imageOf e) ≡ Yes))
+  unfolding checkAsked
+  asked-map = (
+    λ (all, kind). by-map (mapAsked p q (imageOf e)) (refutationAsked t u e) (mapForm (q .rows) e) (refutationForm limits e) all kind,
+    λ (form, all). (rw (form, all), rw form),
+  )
 
-  by-refutation : (b c : Bool) → onForm p q t u e (pick b Map (pick c Refutation Neither)) ≡ RefutationTaken → (c ≡ true) × (refutationAsked t u e ≡ Yes)
-  by-refutation true c h = absurd (other-taken (given Refused MapTaken RefutationTaken refutation-no-refusal (mapAsked p q (imageOf e)) h .1))
-  by-refutation false true h = (refl, given Refused RefutationTaken RefutationTaken refutation-no-refusal (refutationAsked t u e) h .0)
-  by-refutation false false h = absurd (refutation-no-refusal (refusalBy 16) h)
-
-  pub asked-map : checkAnswer limits p q t u e ≡ MapTaken ↔ ((mapForm (q .rows) e ≡ true) × (mapAsked p q (imageOf e) ≡ Yes))
-  unfolding checkAnswer formOf
-  asked-map = (by-map (mapForm (q .rows) e) (refutationForm limits e), λ (form, yes′). rw (form, yes′))
-
-  pub asked-refutation : checkAnswer limits p q t u e ≡ RefutationTaken ↔ ((refutationForm limits e ≡ true) × (refutationAsked t u e ≡ Yes))
-  unfolding checkAnswer formOf
-  asked-refutation =
-      (by-refutation (mapForm (q .rows) e) (refutationForm limits e), λ (form, all). taken (mapForm (q .rows) e) refl form all)
+  pub asked-refutation : ((checkAsked limits p q t u e ≡ Yes) × (takenAs (q .rows) e ≡ RefutationTaken)) ↔
+      ((refutationForm limits e ≡ true) × (refutationAsked t u e ≡ Yes))
+  unfolding checkAsked
+  asked-refutation = (
+    λ (all, kind). by-refutation (mapAsked p q (imageOf e)) (refutationAsked t u e) (mapForm (q .rows) e) (refutationForm limits e) all kind,
+    λ (form, all). let none = no-map form in (rw (none, form, all), rw none),
+  )
     where
-      taken : (b : Bool) → mapForm (q .rows) e ≡ b → refutationForm limits e ≡ true → refutationAsked t u e ≡ Yes →
-          onForm p q t u e (pick b Map (pick (refutationForm limits e) Refutation Neither)) ≡ RefutationTaken
-      taken true map form all = absurd (forms-apart limits (q .rows) e map form)
-      taken false map form all = rw (form, all)
+      no-map : refutationForm limits e ≡ true → mapForm (q .rows) e ≡ false
+      no-map form = by-test (mapForm (q .rows) e) (λ map. absurd (forms-apart limits (q .rows) e map form)) (λ none. none)
 
 -- ---- what is taken
+
+abbrev pub Taken : Limits → List ℕ → List ℕ → List ℕ → Verified → Type 0
+Taken limits first second e kind = (evidenceAsked limits first second e ≡ Yes) × (evidenceKind limits second e ≡ kind)
 
 module _ (limits : Limits) (first second e : List ℕ) (bounded : Bounded limits) (pair : Acceptable limits first second) where
   abbrev p : Table pictureSignature
@@ -123,23 +137,23 @@ module _ (limits : Limits) (first second e : List ℕ) (bounded : Bounded limits
   abbrev q : Table pictureSignature
   q = pictureTable (normalFile limits second)
 
-  pub map-taken : evidenceAnswer limits first second e ≡ MapTaken ↔ MapOf limits first second e
-  unfolding evidenceAnswer
+  pub map-taken : Taken limits first second e MapTaken ↔ MapOf limits first second e
+  unfolding evidenceAsked
   map-taken =
       let (to, from) = asked-map p q (pictureTree limits first) (pictureTree limits second) limits e in (
-        λ h. let (form, asked) = to h in
-            record { form = form; maps = map-yes p q (imageOf e) (normal-some limits second bounded (pair .second-few)) asked },
+        λ h. let (form, all) = to h in
+            record { form = form; maps = map-yes p q (imageOf e) (normal-some limits second bounded (pair .second-few)) all },
         λ m. from (m .form, yes-map p q (imageOf e) (m .maps)),
       )
 
-  pub refutation-taken : evidenceAnswer limits first second e ≡ RefutationTaken ↔ RefutationOf limits first second e
-  unfolding evidenceAnswer
+  pub refutation-taken : Taken limits first second e RefutationTaken ↔ RefutationOf limits first second e
+  unfolding evidenceAsked
   refutation-taken =
       let t = pictureTree limits first in
       let u = pictureTree limits second in
       let (to, from) = asked-refutation p q t u limits e in (
-        λ h. let (form, asked) = to h in
-            let (passed, (fits, fails)) = refutation-exactly t u e .0 asked in
+        λ h. let (form, all) = to h in
+            let (passed, (fits, fails)) = refutation-exactly t u e .0 all in
             let some = form-asks limits e form .0 in
             let up = ok-parents e passed in
             record {
@@ -162,7 +176,14 @@ module _ (limits : Limits) (first second e : List ℕ) (bounded : Bounded limits
             ),
       )
 
-  pub map-sound : evidenceAnswer limits first second e ≡ MapTaken → Subsumed pictureSignature (pictureTree limits first) (pictureTree limits second)
+  -- all is answered yes exactly of one or the other
+  pub evidence-taken : (evidenceAsked limits first second e ≡ Yes) ↔ (MapOf limits first second e ⊎ RefutationOf limits first second e)
+  evidence-taken = (
+    λ all. by-test (mapForm (q .rows) e) (λ form. inl (map-taken .0 (all, rw form))) (λ none. inr (refutation-taken .0 (all, rw none))),
+    ⊎-elim (λ m. map-taken .1 m .0) (λ r. refutation-taken .1 r .0),
+  )
+
+  pub map-sound : Taken limits first second e MapTaken → Subsumed pictureSignature (pictureTree limits first) (pictureTree limits second)
   unfolding normalTreeOf
   map-sound h =
       let m = map-taken .0 h in
@@ -176,7 +197,7 @@ module _ (limits : Limits) (first second e : List ℕ) (bounded : Bounded limits
       subsumption-homomorphism pictureSignature (pictureTable first) (pictureTable second)
       (picture-known limits first (pair .first-readable)) (picture-known limits second (pair .second-readable)) (limits .depth) (limits .depth) .1 v
 
-  pub refutation-sound : evidenceAnswer limits first second e ≡ RefutationTaken → Subsumed pictureSignature (pictureTree limits first) (pictureTree limits second) → ⊥
+  pub refutation-sound : Taken limits first second e RefutationTaken → Subsumed pictureSignature (pictureTree limits first) (pictureTree limits second) → ⊥
   refutation-sound h covered =
       let r = refutation-taken .0 h in
       r .fails (covered (individuals e (r .some)) 0 (r .some) (r .fits))

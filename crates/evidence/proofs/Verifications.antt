@@ -1,8 +1,8 @@
 -- Laws of the fifth call at any limits: which answer is given for which inputs and work space.
---   verify-decides      what is asked before the evidence: a work space that is long enough, and an acceptable pair
---   acceptable-verify   then 16 to 23 decide
---   verify-taken        an answer other than a refusal is given in no other case
---   pair-work           the calls that are lent a result buffer too leave the work space so, if that is long enough
+--   lent-decides   what is asked before the evidence: a work space that is long enough, and an acceptable pair
+--   taken-verify   then evidence that is taken is answered,
+--   verify-taken   and an answer other than a refusal is given in no other case
+--   pair-work      the calls that are lent a result buffer too leave the work space so, if that is long enough
 use Prim.Native.Nat.{ℕ, _<_, _≤_}
 use borrow.Author.Tests.{le-leb, leb-false, leb-true, lt-leb}
 use lib.Dec.{leb}
@@ -10,25 +10,28 @@ use lib.ListN.{length}
 use mathlib.Core.Bool.{and-true}
 use mathlib.Core.List.{List}
 use mathlib.Core.Logic.{_⊎_, inl, inr, ⊎-elim}
-use mathlib.Core.Path.{_≡_, refl}
+use mathlib.Core.Path.{_∙_, _≡_, refl}
 use Rattle.table.specs.declared.layout.Limits.{Limits}
-use Rattle.picture.proofs.Asking.{Decides, given, on-yes, said-so}
+use Rattle.picture.proofs.Asking.{Decides, and-yes, given, on-yes, said-so}
 use Rattle.picture.specs.Refusal.{shortBuffer}
+use Rattle.picture.specs.declared.answer.Asked.the-variants.{Yes}
 use Rattle.picture.specs.declared.answer.Refusal.{Refusal}
-use Rattle.workspace.proofs.Pairs.{PairNo, lent-decides}
+use Rattle.workspace.proofs.Pairs.{PairNo}
+use Rattle.workspace.proofs.Pairs as pairs
 use Rattle.workspace.specs.Lent.{pairWork, roomy}
 use Rattle.workspace.specs.Prepare.{Acceptable, workSize}
-use Rattle.evidence.specs.Call.{evidenceAnswer, verifyAnswer, verifyAsked, verifyWork}
+use Rattle.evidence.specs.Call.{evidenceAsked, evidenceKind, verifyAnswer, verifyAsked, verifyLent, verifyWork}
 use Rattle.evidence.specs.declared.check.Verified.{Verified}
 use Rattle.evidence.specs.declared.check.Verified.the-variants.{Refused}
+use Rattle.evidence.proofs.Soundness.{Taken}
 
 module _ (limits : Limits) (first second : List ℕ) (room : ℕ) where
-  pub verify-decides : Decides (verifyAsked limits first second room)
+  pub lent-decides : Decides (verifyLent limits first second room)
       ((workSize limits ≤ room) × Acceptable limits first second)
       (λ r. ((room < workSize limits) × (r ≡ shortBuffer)) ⊎ ((workSize limits ≤ room) × PairNo limits first second r))
-  verify-decides =
+  lent-decides =
       let n = workSize limits in
-      said-so (verifyAsked limits first second room) (lent-decides limits first second (leb n room))
+      said-so (verifyLent limits first second room) (pairs.lent-decides limits first second (leb n room))
       (λ (e, pair). (leb-true n room e, pair), λ (l, pair). (le-leb n room l, pair))
       (λ r. (
         ⊎-elim (λ (e, is). inl (leb-false n room e, is)) (λ (e, one). inr (leb-true n room e, one)),
@@ -36,20 +39,26 @@ module _ (limits : Limits) (first second : List ℕ) (room : ℕ) where
       ))
 
 module _ (limits : Limits) (first second e : List ℕ) (room : ℕ) where
-  pub acceptable-verify : workSize limits ≤ room → Acceptable limits first second →
-      verifyAnswer limits first second e room ≡ evidenceAnswer limits first second e
-  unfolding verifyAnswer
-  acceptable-verify enough pair =
-      on-yes Refused (evidenceAnswer limits first second e) (verifyAsked limits first second room) (verify-decides limits first second room .yes .1 (enough, pair))
+  abbrev lent-yes : workSize limits ≤ room → Acceptable limits first second → verifyLent limits first second room ≡ Yes
+  lent-yes enough pair = lent-decides limits first second room .yes .1 (enough, pair)
 
-  -- the answer is v, which is no refusal: then there is room, 14 is answered yes for both, and 16 to 23 give v
+  pub taken-verify : workSize limits ≤ room → Acceptable limits first second →
+      (v : Verified) → Taken limits first second e v → verifyAnswer limits first second e room ≡ v
+  unfolding verifyAnswer
+  taken-verify enough pair v (all, kind) =
+      on-yes Refused (evidenceKind limits second e) (verifyAsked limits first second e room)
+      (and-yes (verifyLent limits first second room) (evidenceAsked limits first second e) .1 (lent-yes enough pair, all))
+      ∙ kind
+
+  -- the answer is v, which is no refusal: then there is room, 14 is answered yes for both, and 16 to 23 take such evidence
   pub verify-taken : (v : Verified) → ((r : Refusal) → Refused r ≡ v → ⊥) → verifyAnswer limits first second e room ≡ v →
-      (workSize limits ≤ room) × Acceptable limits first second × (evidenceAnswer limits first second e ≡ v)
+      (workSize limits ≤ room) × Acceptable limits first second × Taken limits first second e v
   unfolding verifyAnswer
   verify-taken v no-refusal h =
-      let (all, same) = given Refused (evidenceAnswer limits first second e) v no-refusal (verifyAsked limits first second room) h in
-      let (enough, pair) = verify-decides limits first second room .yes .0 all in
-      (enough, pair, same)
+      let (all, kind) = given Refused (evidenceKind limits second e) v no-refusal (verifyAsked limits first second e room) h in
+      let (lent, taken) = and-yes (verifyLent limits first second room) (evidenceAsked limits first second e) .0 all in
+      let (enough, pair) = lent-decides limits first second room .yes .0 lent in
+      (enough, pair, (taken, kind))
 
 pub pair-work : (limits : Limits) (first second work : List ℕ) (size result : ℕ) → size ≤ result →
     pairWork limits (roomy limits size (length work) result) first second work ≡ verifyWork limits first second work

@@ -3,7 +3,7 @@
 --   Decides                       all yes exactly if .., and the first no is r exactly if ..
 --   said-so, yes-so               the same in other words; its first half
 --   asked-decides, test-decides   a question by its test; by a number that has a limit
---   and-decides                   a question and those after it: the first no is its own, or it is a yes and theirs comes
+--   and-decides, and-yes          a question and those after it: the first no is its own, or it is a yes and theirs comes
 --   from-decides, from-yes        one question of each thing in turn; its first half
 --   read-decides, unreadable-no   2 to 13 of a picture;
 --   rows-yes, refused-no          by the answer of reading it
@@ -90,6 +90,11 @@ module _ {Y Z : Type 0} {N M : Refusal → Type 0} where
     yes = (λ h. absurd (clash q h), λ (here, rest). absurd (clash q (d .yes .1 here)));
     no = λ r. (λ h. inl (d .no r .0 h), ⊎-elim (λ n. d .no r .1 n) (λ (here, m). absurd (clash q (d .yes .1 here))));
   }
+
+-- its first half
+pub and-yes : (a b : Asked) → (andThen a b ≡ Yes) ↔ ((a ≡ Yes) × (b ≡ Yes))
+and-yes Yes b = (λ e. (refl, e), λ (h, e). e)
+and-yes (No r) b = (λ e. absurd (clash r e), λ (h, e). absurd (clash r h))
 
 -- each of `more` things from k on; the first of them that is refused by r
 abbrev pub AllFrom : (ℕ → Type 0) → ℕ → ℕ → Type 0
