@@ -41,9 +41,9 @@ use Rattle.countermodel.specs.Layout.{individualCount, individualsWithin}
 use Rattle.countermodel.specs.Model.{rowTree}
 use Rattle.countermodel.specs.Writing.{refutationFile}
 use Rattle.evidence.proofs.NormalTables.{normal-rowTree, normal-rows, normal-some}
-use Rattle.evidence.proofs.Soundness.{forms-apart, map-no-refusal, map-sound, map-taken, refutation-no-refusal, refutation-sound, refutation-taken}
-use Rattle.evidence.proofs.Verifications.{acceptable-verify, verify-taken}
-use Rattle.evidence.specs.Call.{evidenceAnswer, verifyAnswer}
+use Rattle.evidence.proofs.Soundness.{Taken, forms-apart, map-no-refusal, map-sound, map-taken, refutation-no-refusal, refutation-sound, refutation-taken}
+use Rattle.evidence.proofs.Verifications.{taken-verify, verify-taken}
+use Rattle.evidence.specs.Call.{verifyAnswer}
 use Rattle.evidence.specs.Form.{mapForm}
 use Rattle.evidence.specs.Taken.{MapOf, RefutationOf}
 use Rattle.homomorphism.proofs.MapFiles.{length-mapFile, mapFile-ends, mapFile-image, mapFile-says, mapFile-tag}
@@ -174,20 +174,20 @@ module _ (limits : Limits) (first second : List ℕ) (bounded : Bounded limits) 
 
   -- ---- it is taken
 
-  pub yes-taken : verdictOf limits first second ≡ true → evidenceAnswer limits first second (evidenceOf limits first second) ≡ MapTaken
+  pub yes-taken : verdictOf limits first second ≡ true → Taken limits first second (evidenceOf limits first second) MapTaken
   unfolding evidenceOf
   yes-taken e = rw e (map-taken limits first second (mapOf limits first second) bounded pair .1 (map-written e))
 
-  pub no-taken : verdictOf limits first second ≡ false → evidenceAnswer limits first second (evidenceOf limits first second) ≡ RefutationTaken
+  pub no-taken : verdictOf limits first second ≡ false → Taken limits first second (evidenceOf limits first second) RefutationTaken
   unfolding evidenceOf
   no-taken e = rw e (refutation-taken limits first second (refutationOf limits first second) bounded pair .1 (refutation-written e))
 
   module _ (room : ℕ) (enough : workSize limits ≤ room) where
     pub yes-verify : verdictOf limits first second ≡ true → verifyAnswer limits first second (evidenceOf limits first second) room ≡ MapTaken
-    yes-verify e = acceptable-verify limits first second (evidenceOf limits first second) room enough pair ∙ yes-taken e
+    yes-verify e = taken-verify limits first second (evidenceOf limits first second) room enough pair MapTaken (yes-taken e)
 
     pub no-verify : verdictOf limits first second ≡ false → verifyAnswer limits first second (evidenceOf limits first second) room ≡ RefutationTaken
-    no-verify e = acceptable-verify limits first second (evidenceOf limits first second) room enough pair ∙ no-taken e
+    no-verify e = taken-verify limits first second (evidenceOf limits first second) room enough pair RefutationTaken (no-taken e)
 
   pub yes-form : verdictOf limits first second ≡ true → mapForm (q .rows) (evidenceOf limits first second) ≡ true
   unfolding evidenceOf
