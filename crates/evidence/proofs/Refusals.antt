@@ -1,6 +1,7 @@
 -- Which refusals the fifth call gives: 1 names the buffer, 2 to 14 one of the two pictures, 16 to 23 the evidence; there is no other.
---   Named            1 to 14 as in every call on two pictures (workspace, specs/Refusals: `Known`), or 16 to 23 and the evidence
---   verify-refusal   so is every refusal of the call
+--   Named              1 to 14 as in every call on two pictures (workspace, specs/Refusals: `Known`), or 16 to 23 and the evidence
+--   evidence-refusal   after 14, for any two pictures, the check refuses by 16 to 23 and names the evidence
+--   verify-refusal     a refusal of the call is such a one
 use Prim.Native.Nat.{ℕ, zero, suc, _+_, _≤_}
 use native.Mathlib.Omega.{arith}
 use lib.Dec.{eqb, leb, ltb}
@@ -51,7 +52,7 @@ Numbered (No number) = (16 ≤ number) × (number ≤ 23)
 abbrev Answers : Verified → Type 0
 Answers MapTaken = Unit
 Answers RefutationTaken = Unit
-Answers (Refused r) = Named r
+Answers (Refused r) = Concerns r Evidence 16 23
 
 -- ---- 16 to 23
 
@@ -96,27 +97,33 @@ refutation-numbered t u e =
 
 asked-answers : (taken : Verified) → Answers taken → (a : Asked) → Numbered a → Answers (onAsked taken a)
 asked-answers taken h Yes k = h
-asked-answers taken h (No number) (a, b) = inr (refl, a, b)
+asked-answers taken h (No number) (a, b) = (refl, a, b)
 
 form-answers : (p q : Table pictureSignature) (t u : Tree pictureSignature) (e : List ℕ) (f : Form) → Answers (onForm p q t u e f)
 form-answers p q t u e Map = asked-answers MapTaken tt (mapAsked p q (imageOf e)) (map-numbered p q (imageOf e))
 form-answers p q t u e Refutation = asked-answers RefutationTaken tt (refutationAsked t u e) (refutation-numbered t u e)
-form-answers p q t u e Neither = inr (refl, omega arith, omega arith)
+form-answers p q t u e Neither = (refl, omega arith, omega arith)
+
+pub evidence-refusal : (limits : Limits) (first second e : List ℕ) (r : Refusal) →
+    evidenceAnswer limits first second e ≡ Refused r → Concerns r Evidence 16 23
+unfolding evidenceAnswer checkAnswer
+evidence-refusal limits first second e r h =
+    subst Answers h
+    (form-answers (pictureTable (normalFile limits first)) (pictureTable (normalFile limits second)) (pictureTree limits first) (pictureTree limits second) e
+    (formOf limits ((pictureTable (normalFile limits second)) .rows) e))
 
 -- ---- the call
 
-module _ (limits : Limits) (first second e : List ℕ) (room : ℕ) where
-  pair-answers : (a : Prepared) → Prepares a → Answers (onPair a (evidenceAnswer limits first second e))
-  unfolding evidenceAnswer checkAnswer
-  pair-answers (prepared.Tables p) h =
-      form-answers (pictureTable (normalFile limits first)) (pictureTable (normalFile limits second)) (pictureTree limits first) (pictureTree limits second) e
-      (formOf limits ((pictureTable (normalFile limits second)) .rows) e)
-  pair-answers (prepared.Refused r) h = inl h
+module _ (limits : Limits) (first second e : List ℕ) (room : ℕ) (r : Refusal) where
+  pair-named : (a : Prepared) → Prepares a → onPair a (evidenceAnswer limits first second e) ≡ Refused r → Named r
+  pair-named (prepared.Tables p) h k = inr (evidence-refusal limits first second e r k)
+  pair-named (prepared.Refused s) h k = let is : s ≡ r = cc in inl (subst Known is h)
 
-  room-answers : (b : Bool) → Answers (pick b (onPair (prepareAnswer limits first second) (evidenceAnswer limits first second e)) (Refused shortBuffer))
-  room-answers true = pair-answers (prepareAnswer limits first second) (prepare-known limits first second)
-  room-answers false = inl short-known
+  room-named : (b : Bool) →
+      pick b (onPair (prepareAnswer limits first second) (evidenceAnswer limits first second e)) (Refused shortBuffer) ≡ Refused r → Named r
+  room-named true k = pair-named (prepareAnswer limits first second) (prepare-known limits first second) k
+  room-named false k = let is : shortBuffer ≡ r = cc in inl (subst Known is short-known)
 
-  pub verify-refusal : (r : Refusal) → verifyAnswer limits first second e room ≡ Refused r → Named r
+  pub verify-refusal : verifyAnswer limits first second e room ≡ Refused r → Named r
   unfolding verifyAnswer
-  verify-refusal r h = subst Answers h (room-answers (leb (workSize limits) room))
+  verify-refusal h = room-named (leb (workSize limits) room) h

