@@ -126,3 +126,92 @@ module _ (c : Call) (lent left : Buffers) where
         word-is = refl;
         leaves = leaves;
       })
+
+-- 1 to 14
+unwritten : (c : Call) (lent : Buffers) (number : ℕ) (i : Input) → Listed (c .refusals) number i → number < 15 →
+    cardOf i < partRange → (Passes c lent → ⊥) → Answers c lent lent (refused number i)
+unwritten c lent number i listed early few fails =
+    refusal-answers c lent lent number i listed (omega arith) few fails
+    (rw (lt-leb 15 number early) (record { work = filled-nothing (lent .work); result = filled-nothing (lent .result) }))
+
+-- a call gives one word, and leaves its buffers in one way
+one-same : (wordOf : ℕ → ℕ) (leftOf : List ℕ → List ℕ) (buffer : List ℕ) (P : ℕ → List ℕ → Type 0)
+    (w : ℕ) (l : List ℕ) → OneBuffer wordOf leftOf buffer w l → P w l →
+    (word : ℕ) (left : List ℕ) → OneBuffer wordOf leftOf buffer word left → P word left
+one-same wordOf leftOf buffer P w l known p word left gives =
+    subst (λ x. P word x) (known .buffer-is ∙ sym (gives .buffer-is))
+    (subst (λ x. P x l) (known .word-is ∙ sym (gives .word-is)) p)
+
+two-same : (wordOf : ℕ → ℕ → ℕ) (workOf : List ℕ → ℕ → List ℕ) (resultOf : ℕ → List ℕ → List ℕ) (work result : List ℕ)
+    (P : ℕ → List ℕ → List ℕ → Type 0)
+    (w : ℕ) (a b : List ℕ) → TwoBuffers wordOf workOf resultOf work result w a b → P w a b →
+    (word : ℕ) (workLeft left : List ℕ) → TwoBuffers wordOf workOf resultOf work result word workLeft left →
+    P word workLeft left
+two-same wordOf workOf resultOf work result P w a b known p word workLeft left gives =
+    subst (λ x. P word workLeft x) (known .result-is ∙ sym (gives .result-is))
+    (subst (λ x. P word x b) (known .work-is ∙ sym (gives .work-is))
+    (subst (λ x. P x a b) (known .word-is ∙ sym (gives .word-is)) p))
+
+by-order : {C : Type 0} (m n : ℕ) → (m ≤ n → C) → (n < m → C) → C
+by-order m n most more = by-test (leb m n) (λ e. most (leb-true m n e)) (λ e. more (leb-false m n e))
+
+by-reading : {C : Type 0} (limits : Limits) (s : List ℕ) → (Readable limits s → C) →
+    ((q : ℕ) → readingOf limits s ≡ reading.Failed q → 2 ≤ q → q ≤ 13 → (Readable limits s → ⊥) → C) → C
+by-reading {C} limits s readable failed = by (readingOf limits s) refl
+  where
+    by : (r : Reading) → readingOf limits s ≡ r → C
+    by (reading.Rows n) e = readable (record { rows = n; reads = e })
+    by (reading.Failed q) e =
+        let asked = reading-number limits s q e in
+        failed q e (asked .least) (asked .most)
+        (λ r. let other : reading.Failed q ≡ reading.Rows (r .rows) = sym e ∙ r .reads in
+        absurd (let z : _≡_ {A = ℕ} 0 1 = cc in omega arith))
+
+-- ---- one picture
+
+unreadable-validate : (limits : Limits) (s : List ℕ) (q : ℕ) → readingOf limits s ≡ reading.Failed q →
+    validateWord limits s ≡ refused q First
+unfolding validateWord answerOf
+unreadable-validate limits s q e = rw e
+
+module _ (limits : Limits) (bounded : Bounded limits) where
+  pub validate-answers : (picture : List ℕ) →
+      Answers (validateCall limits picture) (buffers [] []) (buffers [] []) (validateWord limits picture)
+  validate-answers picture =
+      let c : Call = validateCall limits picture in
+      let none : Buffers = buffers [] [] in
+      by-reading limits picture
+      (λ readable. subst (λ w. Answers c none none w) (sym (readable-validate limits picture readable))
+      (result-answers c none none outcomeYes (omega arith, omega arith, readable) refl
+      (readable-most limits picture readable) (omega (arith, readable-most limits picture readable))
+      (record { work = filled-nothing []; result = filled-nothing [] })))
+      (λ q e least most unreadable. subst (λ w. Answers c none none w) (sym (unreadable-validate limits picture q e))
+      (unwritten c none q First (inl (least, most, refl)) (omega arith) (omega arith) (λ (a, b, p). unreadable p)))
+
+  pub normalize-answers : (picture result : List ℕ) (word : ℕ) (left : List ℕ) →
+      NormalizeGives limits picture result word left →
+      Answers (normalizeCall limits picture) (buffers [] result) (buffers [] left) word
+  normalize-answers picture result word left gives =
+      let c : Call = normalizeCall limits picture in
+      let lent : Buffers = buffers [] result in
+      let P : ℕ → List ℕ → Type 0 = λ w l. Answers c lent (buffers [] l) w in
+      let by : (w : ℕ) (l : List ℕ) → NormalizeGives limits picture result w l → P w l → Answers c lent (buffers [] left) word =
+      λ w l known p. one-same _ _ result P w l known p word left gives in
+      by-order (pictureSize limits) (length result)
+      (λ enough. by-reading limits picture
+      (λ readable. by-order (mergedCount limits picture) (limits .rows)
+      (λ few.
+      let size = normal-size limits picture few in
+      by _ _ (normalize-written limits picture result enough readable few)
+      (result-answers c lent (buffers [] (put result 0 (normalFile limits picture))) outcomeYes
+      (omega arith, enough, (readable, few)) refl size (omega (arith, size))
+      (record { work = filled-nothing []; result = filled-put result (normalFile limits picture) (omega (arith, size)) })))
+      (λ many. by _ _ (normalize-many limits picture result enough readable many)
+      (unwritten c lent 14 First (inr (inl (omega arith, omega arith, refl))) (omega arith) (omega arith)
+      (λ (a, b, (r, few)). omega (arith, few)))))
+      (λ q e least most unreadable. by _ _ (normalize-unreadable limits picture result enough q e)
+      (unwritten c lent q First (inr (inl (least, omega arith, refl))) (omega arith) (omega arith)
+      (λ (a, b, (r, few)). unreadable r))))
+      (λ short. by _ _ (normalize-short limits picture result short)
+      (unwritten c lent 1 Buffer (inl (omega arith, omega arith, refl)) (omega arith) (omega arith)
+      (λ (a, b, p). omega (arith, b))))
