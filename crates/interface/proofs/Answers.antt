@@ -127,30 +127,7 @@ module _ (c : Call) (lent left : Buffers) where
         leaves = leaves;
       })
 
--- 1 to 14
-unwritten : (c : Call) (lent : Buffers) (number : ℕ) (i : Input) → Listed (c .refusals) number i → number < 15 →
-    cardOf i < partRange → (Passes c lent → ⊥) → Answers c lent lent (refused number i)
-unwritten c lent number i listed early few fails =
-    refusal-answers c lent lent number i listed (omega arith) few fails
-    (rw (lt-leb 15 number early) (record { work = filled-nothing (lent .work); result = filled-nothing (lent .result) }))
-
--- a call gives one word, and leaves its buffers in one way
-one-same : (wordOf : ℕ → ℕ) (leftOf : List ℕ → List ℕ) (buffer : List ℕ) (P : ℕ → List ℕ → Type 0)
-    (w : ℕ) (l : List ℕ) → OneBuffer wordOf leftOf buffer w l → P w l →
-    (word : ℕ) (left : List ℕ) → OneBuffer wordOf leftOf buffer word left → P word left
-one-same wordOf leftOf buffer P w l known p word left gives =
-    subst (λ x. P word x) (known .buffer-is ∙ sym (gives .buffer-is))
-    (subst (λ x. P x l) (known .word-is ∙ sym (gives .word-is)) p)
-
-two-same : (wordOf : ℕ → ℕ → ℕ) (workOf : List ℕ → ℕ → List ℕ) (resultOf : ℕ → List ℕ → List ℕ) (work result : List ℕ)
-    (P : ℕ → List ℕ → List ℕ → Type 0)
-    (w : ℕ) (a b : List ℕ) → TwoBuffers wordOf workOf resultOf work result w a b → P w a b →
-    (word : ℕ) (workLeft left : List ℕ) → TwoBuffers wordOf workOf resultOf work result word workLeft left →
-    P word workLeft left
-two-same wordOf workOf resultOf work result P w a b known p word workLeft left gives =
-    subst (λ x. P word workLeft x) (known .result-is ∙ sym (gives .result-is))
-    (subst (λ x. P word x b) (known .work-is ∙ sym (gives .work-is))
-    (subst (λ x. P x a b) (known .word-is ∙ sym (gives .word-is)) p))
+-- ---- by cases
 
 by-order : {C : Type 0} (m n : ℕ) → (m ≤ n → C) → (n < m → C) → C
 by-order m n most more = by-test (leb m n) (λ e. most (leb-true m n e)) (λ e. more (leb-false m n e))
@@ -164,8 +141,81 @@ by-reading {C} limits s readable failed = by (readingOf limits s) refl
     by (reading.Failed q) e =
         let asked = reading-number limits s q e in
         failed q e (asked .least) (asked .most)
-        (λ r. let other : reading.Failed q ≡ reading.Rows (r .rows) = sym e ∙ r .reads in
+        (λ r.
+        let other : reading.Failed q ≡ reading.Rows (r .rows) = sym e ∙ r .reads in
         absurd (let z : _≡_ {A = ℕ} 0 1 = cc in omega arith))
+
+-- G says of a word, and of what the call leaves, that the call gives them; `at` puts what it leaves in its place
+module _ {X : Type 0} (c : Call) (at : X → Buffers) (lent : X) (G : ℕ → X → Type 0) where
+  abbrev Some : Type 0
+  Some = (w : ℕ) × (left : X) × G w left × Answers c (at lent) (at left) w
+
+  -- 1 to 14
+  unwritten : (number : ℕ) (i : Input) → Listed (c .refusals) number i → number < 15 → cardOf i < partRange →
+      (Passes c (at lent) → ⊥) → G (refused number i) lent → Some
+  unwritten number i listed early few fails g = (
+    refused number i,
+    lent,
+    g,
+    refusal-answers c (at lent) (at lent) number i listed (omega arith) few fails
+        (rw (lt-leb 15 number early)
+        (record { work = filled-nothing (at lent .work); result = filled-nothing (at lent .result) })),
+  )
+
+  -- 1 to 14 of two pictures: their lines are the first three of the list
+  module _ (limits : Limits) (first second : List ℕ) (more : List Line)
+      (list : c .refusals
+      ≡ questions 1 1 (the Buffer) ∷ questions 2 14 (the First) ∷ questions 2 14 (the Second) ∷ more)
+      (acceptable : c .Passed → Acceptable limits first second) where
+    short-some : (Passes c (at lent) → ⊥) → G (refused 1 Buffer) lent → Some
+    short-some fails =
+        unwritten 1 Buffer (subst (λ l. Listed l 1 Buffer) (sym list) (inl (omega arith, omega arith, refl)))
+        (omega arith) (omega arith) fails
+
+    first-some : (q : ℕ) → 2 ≤ q → q ≤ 14 → (Acceptable limits first second → ⊥) → G (refused q First) lent → Some
+    first-some q least most fails =
+        unwritten q First (subst (λ l. Listed l q First) (sym list) (inr (inl (least, most, refl))))
+        (omega arith) (omega arith) (λ (a, b, p). fails (acceptable p))
+
+    second-some : (q : ℕ) → 2 ≤ q → q ≤ 14 → (Acceptable limits first second → ⊥) → G (refused q Second) lent → Some
+    second-some q least most fails =
+        unwritten q Second (subst (λ l. Listed l q Second) (sym list) (inr (inr (inl (least, most, refl)))))
+        (omega arith) (omega arith) (λ (a, b, p). fails (acceptable p))
+
+    pair-some : Refusals limits first second (λ w. G w lent) → (Acceptable limits first second → Some) → Some
+    pair-some refuses passed =
+        by-reading limits first
+        (λ r. by-reading limits second
+        (λ t. by-order (mergedCount limits first) (limits .rows)
+        (λ few. by-order (mergedCount limits second) (limits .rows)
+        (λ low. passed (record { first-readable = r; second-readable = t; first-few = few; second-few = low }))
+        (λ many. second-some 14 (omega arith) (omega arith) (λ pair. omega (arith, pair .second-few))
+        (refuses .second-many r t few many)))
+        (λ many. first-some 14 (omega arith) (omega arith) (λ pair. omega (arith, pair .first-few))
+        (refuses .first-many r t many)))
+        (λ q e least most unreadable. second-some q least (omega arith) (λ pair. unreadable (pair .second-readable))
+        (refuses .second-unreadable r q e)))
+        (λ q e least most unreadable. first-some q least (omega arith) (λ pair. unreadable (pair .first-readable))
+        (refuses .first-unreadable q e))
+
+-- a call gives one word, and leaves its buffers in one way
+module _ (wordOf : ℕ → ℕ) (leftOf : List ℕ → List ℕ) (c : Call) (at : List ℕ → Buffers) (buffer : List ℕ) where
+  one-answers : Some c at buffer (OneBuffer wordOf leftOf buffer) →
+      (word : ℕ) (left : List ℕ) → OneBuffer wordOf leftOf buffer word left → Answers c (at buffer) (at left) word
+  one-answers (w, l, known, p) word left gives =
+      subst (λ x. Answers c (at buffer) (at x) word) (known .buffer-is ∙ sym (gives .buffer-is))
+      (subst (λ x. Answers c (at buffer) (at l) x) (known .word-is ∙ sym (gives .word-is)) p)
+
+module _ (wordOf : ℕ → ℕ → ℕ) (workOf : List ℕ → ℕ → List ℕ) (resultOf : ℕ → List ℕ → List ℕ) (c : Call)
+    (lent : Buffers) where
+  abbrev Two : ℕ → Buffers → Type 0
+  Two w left = TwoBuffers wordOf workOf resultOf (lent .work) (lent .result) w (left .work) (left .result)
+
+  two-answers : Some c (λ b. b) lent Two → (word : ℕ) (left : Buffers) → Two word left → Answers c lent left word
+  two-answers (w, l, known, p) word left gives =
+      subst (λ x. Answers c lent (buffers (left .work) x) word) (known .result-is ∙ sym (gives .result-is))
+      (subst (λ x. Answers c lent (buffers x (l .result)) word) (known .work-is ∙ sym (gives .work-is))
+      (subst (λ x. Answers c lent l x) (known .word-is ∙ sym (gives .word-is)) p))
 
 -- ---- one picture
 
@@ -174,44 +224,56 @@ unreadable-validate : (limits : Limits) (s : List ℕ) (q : ℕ) → readingOf l
 unfolding validateWord answerOf
 unreadable-validate limits s q e = rw e
 
-module _ (limits : Limits) (bounded : Bounded limits) where
-  pub validate-answers : (picture : List ℕ) →
-      Answers (validateCall limits picture) (buffers [] []) (buffers [] []) (validateWord limits picture)
-  validate-answers picture =
-      let c : Call = validateCall limits picture in
-      let none : Buffers = buffers [] [] in
-      by-reading limits picture
-      (λ readable. subst (λ w. Answers c none none w) (sym (readable-validate limits picture readable))
-      (result-answers c none none outcomeYes (omega arith, omega arith, readable) refl
-      (readable-most limits picture readable) (omega (arith, readable-most limits picture readable))
-      (record { work = filled-nothing []; result = filled-nothing [] })))
-      (λ q e least most unreadable. subst (λ w. Answers c none none w) (sym (unreadable-validate limits picture q e))
-      (unwritten c none q First (inl (least, most, refl)) (omega arith) (omega arith) (λ (a, b, p). unreadable p)))
+pub validate-answers : (limits : Limits) → Bounded limits → (picture : List ℕ) →
+    Answers (validateCall limits picture) (buffers [] []) (buffers [] []) (validateWord limits picture)
+validate-answers limits bounded picture =
+    let c : Call = validateCall limits picture in
+    let none : Buffers = buffers [] [] in
+    let nothing : Leaves none none none = record { work = filled-nothing []; result = filled-nothing [] } in
+    by-reading limits picture
+    (λ readable.
+    let most = readable-most limits picture readable in
+    subst (λ w. Answers c none none w) (sym (readable-validate limits picture readable))
+    (result-answers c none none outcomeYes (omega arith, omega arith, readable) refl most (omega (arith, most)) nothing))
+    (λ q e least most unreadable.
+    subst (λ w. Answers c none none w) (sym (unreadable-validate limits picture q e))
+    (refusal-answers c none none q First (inl (least, most, refl)) (omega arith) (omega arith)
+    (λ (a, b, p). unreadable p) (rw (lt-leb 15 q (omega arith)) nothing)))
 
-  pub normalize-answers : (picture result : List ℕ) (word : ℕ) (left : List ℕ) →
-      NormalizeGives limits picture result word left →
+module _ (limits : Limits) (bounded : Bounded limits) (picture result : List ℕ) where
+  abbrev SomeNormal : Type 0
+  SomeNormal = Some (normalizeCall limits picture) (buffers []) result (NormalizeGives limits picture result)
+
+  -- 1, and 2 to 14, of the first
+  normal-no : (number : ℕ) (i : Input) → Listed (normalizeCall limits picture .refusals) number i → number < 15 →
+      cardOf i < partRange → (Passes (normalizeCall limits picture) (buffers [] result) → ⊥) →
+      NormalizeGives limits picture result (refused number i) result → SomeNormal
+  normal-no = unwritten (normalizeCall limits picture) (buffers []) result (NormalizeGives limits picture result)
+
+  normal-yes : pictureSize limits ≤ length result → Readable limits picture → mergedCount limits picture ≤ limits .rows →
+      SomeNormal
+  normal-yes enough readable few =
+      let table = normalFile limits picture in
+      let size : length table ≤ pictureSize limits = normal-size limits picture few in (
+        valueWord outcomeYes (length table),
+        put result 0 table,
+        normalize-written limits picture result enough readable few,
+        result-answers (normalizeCall limits picture) (buffers [] result) (buffers [] (put result 0 table)) outcomeYes
+            (omega arith, enough, (readable, few)) refl size (omega (arith, size))
+            (record { work = filled-nothing []; result = filled-put result table (omega (arith, size)) }),
+      )
+
+  pub normalize-answers : (word : ℕ) (left : List ℕ) → NormalizeGives limits picture result word left →
       Answers (normalizeCall limits picture) (buffers [] result) (buffers [] left) word
-  normalize-answers picture result word left gives =
-      let c : Call = normalizeCall limits picture in
-      let lent : Buffers = buffers [] result in
-      let P : ℕ → List ℕ → Type 0 = λ w l. Answers c lent (buffers [] l) w in
-      let by : (w : ℕ) (l : List ℕ) → NormalizeGives limits picture result w l → P w l → Answers c lent (buffers [] left) word =
-      λ w l known p. one-same _ _ result P w l known p word left gives in
-      by-order (pictureSize limits) (length result)
+  normalize-answers =
+      one-answers _ _ (normalizeCall limits picture) (buffers []) result
+      (by-order (pictureSize limits) (length result)
       (λ enough. by-reading limits picture
       (λ readable. by-order (mergedCount limits picture) (limits .rows)
-      (λ few.
-      let size = normal-size limits picture few in
-      by _ _ (normalize-written limits picture result enough readable few)
-      (result-answers c lent (buffers [] (put result 0 (normalFile limits picture))) outcomeYes
-      (omega arith, enough, (readable, few)) refl size (omega (arith, size))
-      (record { work = filled-nothing []; result = filled-put result (normalFile limits picture) (omega (arith, size)) })))
-      (λ many. by _ _ (normalize-many limits picture result enough readable many)
-      (unwritten c lent 14 First (inr (inl (omega arith, omega arith, refl))) (omega arith) (omega arith)
-      (λ (a, b, (r, few)). omega (arith, few)))))
-      (λ q e least most unreadable. by _ _ (normalize-unreadable limits picture result enough q e)
-      (unwritten c lent q First (inr (inl (least, omega arith, refl))) (omega arith) (omega arith)
-      (λ (a, b, (r, few)). unreadable r))))
-      (λ short. by _ _ (normalize-short limits picture result short)
-      (unwritten c lent 1 Buffer (inl (omega arith, omega arith, refl)) (omega arith) (omega arith)
-      (λ (a, b, p). omega (arith, b))))
+      (normal-yes enough readable)
+      (λ many. normal-no 14 First (inr (inl (omega arith, omega arith, refl))) (omega arith) (omega arith)
+      (λ (a, b, (r, few)). omega (arith, few)) (normalize-many limits picture result enough readable many)))
+      (λ q e least most unreadable. normal-no q First (inr (inl (least, omega arith, refl))) (omega arith) (omega arith)
+      (λ (a, b, (r, few)). unreadable r) (normalize-unreadable limits picture result enough q e)))
+      (λ short. normal-no 1 Buffer (inl (omega arith, omega arith, refl)) (omega arith) (omega arith)
+      (λ (a, b, p). omega (arith, b)) (normalize-short limits picture result short)))
