@@ -43,7 +43,7 @@ use Rattle.evidence.specs.declared.check.Verified.{Verified}
 use Rattle.evidence.specs.declared.check.Verified.the-variants as verified
 use Rattle.subsumption.proofs.Answers.{acceptable-subsumes, no-subsumes, yes-subsumes}
 use Rattle.subsumption.proofs.Writers.{evidence-size, verdict-covers, verdict-fails}
-use Rattle.subsumption.specs.Call.{verdictAnswer}
+use Rattle.subsumption.specs.Call.{subsumesAnswer}
 use Rattle.subsumption.specs.Verdict.{evidenceOf, evidenceSize, verdictOf}
 use Rattle.subsumption.specs.declared.verdict.Verdict.{Verdict}
 use Rattle.subsumption.specs.declared.verdict.Verdict.the-variants as verdict
@@ -198,6 +198,22 @@ module _ {X : Type 0} (c : Call) (at : X → Buffers) (lent : X) (G : ℕ → X 
         (λ q e least most unreadable. first-some q least (omega arith) (λ pair. unreadable (pair .first-readable))
         (refuses .first-unreadable q e))
 
+    -- and 1 before them
+    lent-some :
+        ((length (at lent .work) < c .work-size) ⊎ (length (at lent .result) < c .result-size) →
+        G (refused 1 Buffer) lent) →
+        (c .work-size ≤ length (at lent .work) → c .result-size ≤ length (at lent .result) →
+        Refusals limits first second (λ w. G w lent)) →
+        (c .work-size ≤ length (at lent .work) → c .result-size ≤ length (at lent .result) →
+        Acceptable limits first second → Some) →
+        Some
+    lent-some short refuses passed =
+        by-order (c .work-size) (length (at lent .work))
+        (λ enough. by-order (c .result-size) (length (at lent .result))
+        (λ long. pair-some (refuses enough long) (passed enough long))
+        (λ less. short-some (λ (a, b, p). omega (arith, b)) (short (inr less))))
+        (λ less. short-some (λ (a, b, p). omega (arith, a)) (short (inl less)))
+
 -- a call gives one word, and leaves its buffers in one way
 module _ (wordOf : ℕ → ℕ) (leftOf : List ℕ → List ℕ) (c : Call) (at : List ℕ → Buffers) (buffer : List ℕ) where
   one-answers : Some c at buffer (OneBuffer wordOf leftOf buffer) →
@@ -277,3 +293,165 @@ module _ (limits : Limits) (bounded : Bounded limits) (picture result : List ℕ
       (λ (a, b, (r, few)). unreadable r) (normalize-unreadable limits picture result enough q e)))
       (λ short. normal-no 1 Buffer (inl (omega arith, omega arith, refl)) (omega arith) (omega arith)
       (λ (a, b, p). omega (arith, b)) (normalize-short limits picture result short)))
+
+-- ---- two pictures
+
+module _ (limits : Limits) (bounded : Bounded limits) (first second work result : List ℕ) where
+  -- the verdict, once 1 to 14 are answered yes
+  module _ (enough : workSize limits ≤ length work) (long : evidenceSize limits ≤ length result)
+      (pair : Acceptable limits first second) where
+    abbrev decidedLeft : Buffers
+    decidedLeft = buffers (halvesPut limits first second work) (put result 0 (evidenceOf limits first second))
+
+    decided-gives : (v : Verdict) → subsumesAnswer limits first second (length work) (length result) ≡ v →
+        SubsumesGives limits first second work result (verdictWord v) (decidedLeft .work) (decidedLeft .result)
+    decided-gives v e =
+        subst
+        (λ x. SubsumesGives limits first second work result (verdictWord x) (decidedLeft .work) (decidedLeft .result))
+        (sym (acceptable-subsumes limits first second (length work) (length result) enough long pair) ∙ e)
+        (subsumes-decided limits first second work result enough long pair)
+
+    decided-answers : (o : ℕ) → subsumesCall limits first second .Outcome o →
+        Answers (subsumesCall limits first second) (buffers work result) decidedLeft
+        (valueWord o (length (evidenceOf limits first second)))
+    decided-answers o is =
+        let size = evidence-size limits first second bounded pair in
+        result-answers (subsumesCall limits first second) (buffers work result) decidedLeft o (enough, long, pair) is size
+        (omega (arith, size, within-most limits bounded))
+        (record {
+          work = filled-tables limits first second work pair enough;
+          result = filled-put result (evidenceOf limits first second) (omega (arith, size));
+        })
+
+    decided-some : Some (subsumesCall limits first second) (λ b. b) (buffers work result)
+        (λ w left. SubsumesGives limits first second work result w (left .work) (left .result))
+    decided-some =
+        let n = length (evidenceOf limits first second) in
+        by-test (verdictOf limits first second)
+        (λ e. (
+          valueWord outcomeYes n,
+          decidedLeft,
+          decided-gives (verdict.Yes n) (yes-subsumes limits first second (length work) (length result) enough long pair e),
+          decided-answers outcomeYes (inl (refl, verdict-covers limits first second bounded pair .1 e)),
+        ))
+        (λ e. (
+          valueWord outcomeNo n,
+          decidedLeft,
+          decided-gives (verdict.No n) (no-subsumes limits first second (length work) (length result) enough long pair e),
+          decided-answers outcomeNo (inr (refl, verdict-fails limits first second bounded pair .0 e)),
+        ))
+
+  pub subsumes-answers : (word : ℕ) (workLeft left : List ℕ) →
+      SubsumesGives limits first second work result word workLeft left →
+      Answers (subsumesCall limits first second) (buffers work result) (buffers workLeft left) word
+  subsumes-answers word workLeft left =
+      two-answers _ _ _ (subsumesCall limits first second) (buffers work result)
+      (lent-some _ _ _ _ limits first second [] refl (λ p. p) (subsumes-short limits first second work result)
+      (subsumes-refuses limits first second work result) decided-some)
+      word (buffers workLeft left)
+
+  -- 15, and the common picture
+  module _ (enough : workSize limits ≤ length work) (long : pictureSize limits ≤ length result)
+      (pair : Acceptable limits first second) where
+    common-some : lcsCount limits first second ≤ limits .rows →
+        Some (lcsCall limits first second) (λ b. b) (buffers work result)
+        (λ w left. LcsGives limits first second work result w (left .work) (left .result))
+    common-some few =
+        let size = lcs-size limits first second few in (
+          valueWord outcomeYes (length (lcsFile limits first second)),
+          buffers (halvesPut limits first second work) (put result 0 (lcsFile limits first second)),
+          lcs-common limits first second work result enough long pair few,
+          result-answers (lcsCall limits first second) (buffers work result) _ outcomeYes (enough, long, (pair, few)) refl size
+              (omega (arith, size))
+              (record {
+                work = filled-tables limits first second work pair enough;
+                result = filled-put result (lcsFile limits first second) (omega (arith, size));
+              }),
+        )
+
+    large-some : limits .rows < lcsCount limits first second →
+        Some (lcsCall limits first second) (λ b. b) (buffers work result)
+        (λ w left. LcsGives limits first second work result w (left .work) (left .result))
+    large-some many = (
+      refused 15 Second,
+      buffers (halvesPut limits first second work) result,
+      lcs-large limits first second work result enough long pair many,
+      refusal-answers (lcsCall limits first second) (buffers work result) _ 15 Second
+          (inr (inr (inr (inl (omega arith, omega arith, refl))))) (omega arith) (omega arith)
+          (λ (a, b, (p, few)). omega (arith, few))
+          (record { work = filled-tables limits first second work pair enough; result = filled-nothing result }),
+    )
+
+  pub lcs-answers : (word : ℕ) (workLeft left : List ℕ) →
+      LcsGives limits first second work result word workLeft left →
+      Answers (lcsCall limits first second) (buffers work result) (buffers workLeft left) word
+  lcs-answers word workLeft left =
+      two-answers _ _ _ (lcsCall limits first second) (buffers work result)
+      (lent-some _ _ _ _ limits first second (questions 15 15 (the Second) ∷ []) refl (λ p. p .0)
+      (lcs-short limits first second work result) (lcs-refuses limits first second work result)
+      (λ enough long pair. by-order (lcsCount limits first second) (limits .rows) (common-some enough long pair)
+      (large-some enough long pair)))
+      word (buffers workLeft left)
+
+module _ (limits : Limits) (bounded : Bounded limits) (first second evidence work : List ℕ) where
+  abbrev onWork : List ℕ → Buffers
+  onWork l = buffers l []
+
+  -- 16 to 23, and what is taken
+  module _ (enough : workSize limits ≤ length work) (pair : Acceptable limits first second) where
+    checked-leaves : Leaves (onWork work) (buffers (tables limits first second) []) (onWork (halvesPut limits first second work))
+    checked-leaves = record { work = filled-tables limits first second work pair enough; result = filled-nothing [] }
+
+    checked-gives : (v : Verified) → evidenceAnswer limits first second evidence ≡ v →
+        VerifyGives limits first second evidence work (verifiedWord v) (halvesPut limits first second work)
+    checked-gives v e =
+        subst (λ x. VerifyGives limits first second evidence work (verifiedWord x) (halvesPut limits first second work)) e
+        (verify-checked limits first second evidence work enough pair)
+
+    taken-answers : (o : ℕ) → verifyCall limits first second evidence .Outcome o →
+        MapOf limits first second evidence ⊎ RefutationOf limits first second evidence →
+        Answers (verifyCall limits first second evidence) (onWork work) (onWork (halvesPut limits first second work)) (valueWord o 0)
+    taken-answers o is taken =
+        result-answers (verifyCall limits first second evidence) (onWork work) (onWork (halvesPut limits first second work)) o
+        (enough, omega arith, (pair, taken)) is (omega arith) (omega arith) checked-leaves
+
+    none-taken : (w : ℕ) → w ≡ verifyWord limits first second evidence (length work) → outcome w ≡ 0 →
+        MapOf limits first second evidence ⊎ RefutationOf limits first second evidence → ⊥
+    none-taken w is zero (inl map) =
+        omega (arith, is, zero, map-verify limits first second evidence (length work) bounded enough pair map)
+    none-taken w is zero (inr refutes) =
+        omega (arith, is, zero, refutation-verify limits first second evidence (length work) bounded enough pair refutes)
+
+    checked-some : (v : Verified) → evidenceAnswer limits first second evidence ≡ v →
+        Some (verifyCall limits first second evidence) onWork work (VerifyGives limits first second evidence work)
+    checked-some verified.MapTaken e =
+        let gives = checked-gives verified.MapTaken e in
+        let (room, accepted, map) = verify-map limits first second evidence (length work) bounded (omega (arith, gives .word-is)) in
+        (valueWord outcomeYes 0, halvesPut limits first second work, gives, taken-answers outcomeYes (inl (refl, map)) (inl map))
+    checked-some verified.RefutationTaken e =
+        let gives = checked-gives verified.RefutationTaken e in
+        let (room, accepted, refutes) = verify-refutation limits first second evidence (length work) bounded (omega (arith, gives .word-is)) in
+        (valueWord outcomeNo 0, halvesPut limits first second work, gives, taken-answers outcomeNo (inr (refl, refutes)) (inr refutes))
+    checked-some (verified.Refused r) e =
+        let gives = checked-gives (verified.Refused r) e in
+        let (is, least, most) = evidence-refusal limits first second evidence r e in
+        let few : cardOf (r .input) < partRange = rw is (omega arith) in
+        let zero = refusal-outcome r (omega arith) few in (
+          refusalWord r,
+          halvesPut limits first second work,
+          gives,
+          refusal-answers (verifyCall limits first second evidence) (onWork work) (onWork (halvesPut limits first second work))
+              (r .number) (r .input) (inr (inr (inr (inl (least, most, is))))) (omega arith) few
+              (λ (a, b, (p, taken)). none-taken (refusalWord r) (gives .word-is) zero taken)
+              (rw (le-leb 15 (r .number) (omega arith), le-leb (r .number) 23 most) checked-leaves),
+        )
+
+  pub verify-answers : (word : ℕ) (workLeft : List ℕ) →
+      VerifyGives limits first second evidence work word workLeft →
+      Answers (verifyCall limits first second evidence) (buffers work []) (buffers workLeft []) word
+  verify-answers =
+      one-answers _ _ (verifyCall limits first second evidence) onWork work
+      (lent-some _ _ _ _ limits first second (questions 16 23 (the Evidence) ∷ []) refl (λ p. p .0)
+      (λ short. ⊎-elim (verify-short limits first second evidence work) (λ z. absurd (omega arith)) short)
+      (λ enough long. verify-refuses limits first second evidence work enough)
+      (λ enough long pair. checked-some enough pair (evidenceAnswer limits first second evidence) refl))
