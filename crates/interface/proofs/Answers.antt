@@ -25,6 +25,7 @@ use Rattle.table.specs.declared.layout.Limits.{Limits}
 use Rattle.picture.proofs.Readables.{readable-most, reading-number}
 use Rattle.picture.specs.Read.{answerOf, readingOf}
 use Rattle.picture.specs.Readable.{Readable, rowCount}
+use Rattle.picture.specs.Refusal.{shortBuffer}
 use Rattle.picture.specs.declared.answer.Input.{Input}
 use Rattle.picture.specs.declared.answer.Input.the-variants.{Book, Buffer, Card, Evidence, First, Second}
 use Rattle.picture.specs.declared.answer.Refusal.{Refusal}
@@ -53,7 +54,8 @@ use Rattle.book.proofs.Conditions.{most-specific-condition}
 use Rattle.book.proofs.Forms.{count-most}
 use Rattle.book.proofs.Selections.{word-below}
 use Rattle.book.specs.Form.{cardCount}
-use Rattle.book.specs.Refusals.{Named}
+use Rattle.book.specs.Call.{AcceptableBook}
+use Rattle.book.specs.Refusals.{FirstNo, Named}
 use Rattle.book.specs.Selection.{mostSpecificCards}
 use Rattle.interface.specs.Answers.{Answers, Buffers, Call, Filled, Leaves, Line, Listed, Passes, buffers, cards, lcsCall, mostSpecificCall, normalizeCall, questions, refusalBytes, subsumesCall, tables, the, validateCall, verifyCall}
 use Rattle.interface.specs.Calls.{LcsGives, MostSpecificGives, NormalizeGives, OneBuffer, SubsumesGives, TwoBuffers, VerifyGives, validateWord, verifyWord}
@@ -233,6 +235,10 @@ module _ (wordOf : ℕ → ℕ → ℕ) (workOf : List ℕ → ℕ → List ℕ)
       (subst (λ x. Answers c lent (buffers x (l .result)) word) (known .work-is ∙ sym (gives .work-is))
       (subst (λ x. Answers c lent l x) (known .word-is ∙ sym (gives .word-is)) p))
 
+-- a work space and no result buffer
+abbrev onWork : List ℕ → Buffers
+onWork l = buffers l []
+
 -- ---- one picture
 
 unreadable-validate : (limits : Limits) (s : List ℕ) (q : ℕ) → readingOf limits s ≡ reading.Failed q →
@@ -394,9 +400,6 @@ module _ (limits : Limits) (bounded : Bounded limits) (first second work result 
       word (buffers workLeft left)
 
 module _ (limits : Limits) (bounded : Bounded limits) (first second evidence work : List ℕ) where
-  abbrev onWork : List ℕ → Buffers
-  onWork l = buffers l []
-
   -- 16 to 23, and what is taken
   module _ (enough : workSize limits ≤ length work) (pair : Acceptable limits first second) where
     checked-leaves : Leaves (onWork work) (buffers (tables limits first second) []) (onWork (halvesPut limits first second work))
@@ -455,3 +458,67 @@ module _ (limits : Limits) (bounded : Bounded limits) (first second evidence wor
       (λ short. ⊎-elim (verify-short limits first second evidence work) (λ z. absurd (omega arith)) short)
       (λ enough long. verify-refuses limits first second evidence work enough)
       (λ enough long pair. checked-some enough pair (evidenceAnswer limits first second evidence) refl))
+
+-- ---- a case and a book
+
+module _ (limits : Limits) (case book work : List ℕ) where
+  abbrev SomeCards : Type 0
+  SomeCards = Some (mostSpecificCall limits case book) onWork work (MostSpecificGives limits case book work)
+
+  given-some : workSize limits ≤ length work → AcceptableBook limits case book → SomeCards
+  given-some enough acceptable =
+      let below = word-below limits case book in (
+        valueWord outcomeYes (mostSpecificCards limits case book),
+        put work 0 (zeros (workSize limits)),
+        most-specific-given limits case book work enough acceptable,
+        result-answers (mostSpecificCall limits case book) (onWork work) (onWork (put work 0 (zeros (workSize limits))))
+            outcomeYes (enough, omega arith, acceptable) refl (omega (arith, below)) (omega (arith, below))
+            (record {
+              work = filled-put work (zeros (workSize limits)) (omega (arith, length-zeros (workSize limits)));
+              result = filled-nothing [];
+            }),
+      )
+
+  -- 1, 2 to 14 and 24
+  module _ (r : Refusal) (gives : MostSpecificGives limits case book work (refusalWord r) work)
+      (fails : Passes (mostSpecificCall limits case book) (onWork work) → ⊥) where
+    no-some : Listed (mostSpecificCall limits case book .refusals) (r .number) (r .input) → r .number < partRange →
+        cardOf (r .input) < partRange → refusalBytes (r .number) (mostSpecificCall limits case book .bytes) ≡ buffers [] [] →
+        SomeCards
+    no-some listed small few unwritten-is = (
+      refusalWord r,
+      work,
+      gives,
+      refusal-answers (mostSpecificCall limits case book) (onWork work) (onWork work) (r .number) (r .input) listed small few fails
+          (rw unwritten-is (record { work = filled-nothing work; result = filled-nothing [] })),
+    )
+
+    early-some : Listed (mostSpecificCall limits case book .refusals) (r .number) (r .input) → r .number < 15 →
+        cardOf (r .input) < partRange → SomeCards
+    early-some listed early few = no-some listed (omega arith) few (rw (lt-leb 15 (r .number) early))
+
+    named-some : Named book r → SomeCards
+    named-some (inl (is, least, most)) = early-some (inl (least, most, is)) (omega arith) (rw is (omega arith))
+    named-some (inr (inl (is, least, most))) = early-some (inr (inl (least, most, is))) (omega arith) (rw is (omega arith))
+    named-some (inr (inr (inl (is, least, most)))) =
+        no-some (inr (inr (inl (least, most, is)))) (omega arith) (rw is (omega arith))
+        (let last : r .number ≡ 24 = omega arith in rw last)
+    named-some (inr (inr (inr (k, l, (is, least, most))))) =
+        early-some (inr (inr (inr (inl (least, most, (k, l, is)))))) (omega arith) (rw is (omega (arith, count-most book)))
+
+  refused-gives : (r : Refusal) → ((length work < workSize limits) × (r ≡ shortBuffer)) ⊎ ((workSize limits ≤ length work) × FirstNo limits case book r) →
+      MostSpecificGives limits case book work (refusalWord r) work
+  refused-gives r (inl (short, is)) = rw is (most-specific-short limits case book work short)
+  refused-gives r (inr (enough, first)) = most-specific-refuses limits case book work enough r first
+
+  pub cards-answers : (word : ℕ) (workLeft : List ℕ) → MostSpecificGives limits case book work word workLeft →
+      Answers (mostSpecificCall limits case book) (buffers work []) (buffers workLeft []) word
+  cards-answers =
+      let holds = most-specific-condition limits case book in
+      one-answers _ _ (mostSpecificCall limits case book) onWork work
+      (⊎-elim
+      (λ given. let (enough, acceptable) = holds .given-exactly (length work) .0 given in given-some enough acceptable)
+      (λ (r, e). named-some r (refused-gives r (holds .refused-exactly (length work) r .0 e))
+      (λ (enough, b, acceptable). ⊎-elim (λ short. omega (arith, enough)) (λ u. u acceptable) (holds .refused-when (length work) .0 (r, e)))
+      (holds .refused-only (length work) r e))
+      (holds .one (length work)))

@@ -7,5 +7,6 @@ pub mod SubsumesWords
 pub mod LcsWords
 pub mod MostSpecificWords
 pub mod Answers
+pub mod Conditions
 pub mod EmptySubsumes
 pub mod StarredHold

@@ -4,7 +4,7 @@
 --   Buffers, buffers, Filled, Leaves        what is lent for writing; what a buffer, and what both, hold then
 --   refusalBytes                            what a refusal writes
 --   Call                                    what is laid down for a call on given inputs
---   Passes, GivesResult, Refuses, Answers   all questions are answered yes; a result; a numbered refusal; one of the two
+--   Passes, GivesResult, Refuses, Answers   all questions are answered yes; a result; a numbered refusal; one of these
 --   tables, OutcomeYes, EitherOutcome       both normal tables, each in its half; which outcome a result has
 --   validateCall .. mostSpecificCall        what is laid down for each call
 use Prim.Native.Nat.{_<_, _≤_, ℕ}

@@ -2,11 +2,12 @@
 -- the field that says it. proofs/Conditions shows that all of it holds, at any limits that are `Bounded` and at paper
 -- 01's. By its contract a C call gives the word and leaves the buffers that Calls says (`..Gives`).
 --
--- A word is taken apart by `outcome`, `question`, `input`, `card` and `value` (Word). `Acceptable` says that two pictures
--- are readable, each at most 256 rows when merged (workspace, specs/Prepare), `AcceptableBook` the same of a case and of
--- the cards of a book (book, specs/Call). `Covers limits second first` says that in every finite interpretation each
--- individual fitting the first picture fits the second, by the published meaning (meaning, specs/Covering). The lengths
--- laid down are `workSize`, `evidenceSize` and `pictureSize`: at 256 rows, 12,294, 46,595 and 6,147 bytes.
+-- A word is taken apart by `outcome`, `question`, `input`, `card` and `value` (Word). `Acceptable` says that two
+-- pictures are readable, each at most 256 rows when merged (workspace, specs/Prepare), `AcceptableBook` the same of a
+-- case and of the cards of a book (book, specs/Call). `Covers limits second first` says that in every finite
+-- interpretation each individual fitting the first picture fits the second, by the published meaning (meaning,
+-- specs/Covering). The lengths laid down are `workSize`, `evidenceSize` and `pictureSize`: at 256 rows, 12,294, 46,595
+-- and 6,147 bytes.
 --
 --   Condition1Words                                condition 1, by what is laid down for each call (Answers)
 --   Condition2Words                                condition 2
@@ -112,8 +113,8 @@ pub record WritesTaken (limits : Limits) (first second : List ℕ) (word : ℕ) 
       verifyWord limits first second evidence room ≡ valueWord (outcome word) 0
 
 pub record Condition3Words (limits : Limits) (first second : List ℕ) : Type 0 where
-  -- "3. Whatever bytes reach the check as evidence for two such pictures, from whatever writer, again with such buffers,
-  -- a map is taken only if the second covers the first, and a refutation only if it does not."
+  -- "3. Whatever bytes reach the check as evidence for two such pictures, from whatever writer, again with such
+  -- buffers, a map is taken only if the second covers the first, and a refutation only if it does not."
   pub map-only-if : (evidence : List ℕ) (room : ℕ) →
       outcome (verifyWord limits first second evidence room) ≡ outcomeYes → Covers limits second first
   pub refutation-only-if : (evidence : List ℕ) (room : ℕ) →
@@ -150,6 +151,10 @@ pub record Conditions (limits : Limits) : Type 0 where
   pub one : Condition1Words limits
   pub two : (first second : List ℕ) → Acceptable limits first second → Condition2Words limits first second
   pub three : (first second : List ℕ) → Acceptable limits first second → Condition3Words limits first second
+  -- the first sentence of 3, whatever bytes stand in the place of the pictures too
+  pub three-any : (first second evidence : List ℕ) (room : ℕ) →
+      (outcome (verifyWord limits first second evidence room) ≡ outcomeYes → Covers limits second first)
+      × (outcome (verifyWord limits first second evidence room) ≡ outcomeNo → Covers limits second first → ⊥)
   pub cards : (case book : List ℕ) → NearestWords limits case book
 
 pub record PaperNumbers (limits : Limits) : Type 0 where
