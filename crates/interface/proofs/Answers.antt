@@ -1,21 +1,22 @@
 -- Condition 1: every call answers what is laid down for it (specs/Answers). The shape of a call is shown once, the
 -- questions that the calls on two pictures have in common once for the three, and each call cites them.
---   filled-nothing, filled-put   a buffer as it was lent; one with bytes put in from its first on
---   filled-tables                a work space with both normal tables
---   result-answers               a word of an outcome and a value is a result
---   refusal-answers, unwritten   that of a number and an input is a refusal; 1 to 14 leave both buffers as they were
---   one-same, two-same           what is so of one word and its buffers is so of every word and buffers that a call gives
---   by-order, by-reading         a number is at most another, or above it; a picture is readable, or is refused by number
---   pair-answers                 the questions of two pictures
---   validate-answers .. most-specific-answers'   the six calls
+--   filled-nothing, filled-put,
+--   filled-tables                     a buffer as it was lent; with bytes put in from its first on; with both tables
+--   result-answers, refusal-answers   a word of an outcome and a value is a result, of a number and an input a refusal
+--   by-order, by-reading              a number is at most another, or above it; a picture is readable, or is refused
+--   Some, unwritten                   an answer that the call gives; 1 to 14 leave all as it was lent
+--   pair-some, lent-some              1 to 14 of two pictures
+--   one-answers, two-answers          a call gives one word and leaves its buffers in one way: every answer is that one
+--   unreadable-validate               2 to 13 as the plain test gives them
+--   validate-answers .. verify-answers, cards-answers   the six calls
 use Prim.Native.Nat.{_+_, _-_, _<_, _≤_, ℕ}
 use borrow.Author.Tests.{le-leb, leb-false, leb-true, lt-leb}
 use lib.Dec.{leb}
-use lib.ListN.{drop, getD, length, length-append, take}
+use lib.ListN.{drop, length, length-append}
 use lib.Seq.{take-at}
-use mathlib.Core.List.{List, [], _++_, _∷_}
+use mathlib.Core.List.{List, [], _∷_}
 use mathlib.Core.Logic.{_⊎_, inl, inr, ⊎-elim}
-use mathlib.Core.Path.{_∙_, _≡_, ap, refl, subst, sym}
+use mathlib.Core.Path.{_∙_, _≡_, refl, subst, sym}
 use native.Mathlib.Omega.{arith}
 use Rattle.table.proofs.Bools.{by-test}
 use Rattle.table.proofs.Puts.{length-put, length-zeros, put-after}
@@ -24,10 +25,10 @@ use Rattle.table.specs.Put.{put, zeros}
 use Rattle.table.specs.declared.layout.Limits.{Limits}
 use Rattle.picture.proofs.Readables.{readable-most, reading-number}
 use Rattle.picture.specs.Read.{answerOf, readingOf}
-use Rattle.picture.specs.Readable.{Readable, rowCount}
+use Rattle.picture.specs.Readable.{Readable}
 use Rattle.picture.specs.Refusal.{shortBuffer}
 use Rattle.picture.specs.declared.answer.Input.{Input}
-use Rattle.picture.specs.declared.answer.Input.the-variants.{Book, Buffer, Card, Evidence, First, Second}
+use Rattle.picture.specs.declared.answer.Input.the-variants.{Book, Buffer, Evidence, First, Second}
 use Rattle.picture.specs.declared.answer.Refusal.{Refusal}
 use Rattle.picture.specs.declared.read.Reading.{Reading}
 use Rattle.picture.specs.declared.read.Reading.the-variants as reading
@@ -38,7 +39,7 @@ use Rattle.workspace.proofs.Preparations.{halves-past, halves-same, length-halv
 use Rattle.workspace.specs.Prepare.{Acceptable, halvesPut, workSize}
 use Rattle.countermodel.proofs.Individuals.{within-most}
 use Rattle.evidence.proofs.Refusals.{evidence-refusal}
-use Rattle.evidence.specs.Call.{evidenceAnswer, verifyWork}
+use Rattle.evidence.specs.Call.{evidenceAnswer}
 use Rattle.evidence.specs.Taken.{MapOf, RefutationOf}
 use Rattle.evidence.specs.declared.check.Verified.{Verified}
 use Rattle.evidence.specs.declared.check.Verified.the-variants as verified
@@ -53,11 +54,10 @@ use Rattle.lcs.specs.Product.{lcsCount, lcsFile}
 use Rattle.book.proofs.Conditions.{most-specific-condition}
 use Rattle.book.proofs.Forms.{count-most}
 use Rattle.book.proofs.Selections.{word-below}
-use Rattle.book.specs.Form.{cardCount}
 use Rattle.book.specs.Call.{AcceptableBook}
 use Rattle.book.specs.Refusals.{FirstNo, Named}
 use Rattle.book.specs.Selection.{mostSpecificCards}
-use Rattle.interface.specs.Answers.{Answers, Buffers, Call, Filled, Leaves, Line, Listed, Passes, buffers, cards, lcsCall, mostSpecificCall, normalizeCall, questions, refusalBytes, subsumesCall, tables, the, validateCall, verifyCall}
+use Rattle.interface.specs.Answers.{Answers, Buffers, Call, Filled, Leaves, Line, Listed, Passes, buffers, lcsCall, mostSpecificCall, normalizeCall, questions, refusalBytes, subsumesCall, tables, the, validateCall, verifyCall}
 use Rattle.interface.specs.Calls.{LcsGives, MostSpecificGives, NormalizeGives, OneBuffer, SubsumesGives, TwoBuffers, VerifyGives, validateWord, verifyWord}
 use Rattle.interface.specs.Refusals.{Refusals}
 use Rattle.interface.specs.Word.{cardOf, outcome, outcomeNo, outcomeYes, partRange, refusalWord, refused, valueRange, valueWord, verdictWord, verifiedWord}
@@ -112,8 +112,9 @@ module _ (c : Call) (lent left : Buffers) where
         leaves = leaves;
       })
 
-  refusal-answers : (number : ℕ) (i : Input) → Listed (c .refusals) number i → number < partRange → cardOf i < partRange →
-      (Passes c lent → ⊥) → Leaves lent (refusalBytes number (c .bytes)) left → Answers c lent left (refused number i)
+  refusal-answers : (number : ℕ) (i : Input) → Listed (c .refusals) number i →
+      number < partRange → cardOf i < partRange → (Passes c lent → ⊥) →
+      Leaves lent (refusalBytes number (c .bytes)) left → Answers c lent left (refused number i)
   refusal-answers number i listed small few fails leaves =
       let r : Refusal = record { number = number; input = i } in
       inr (record {
@@ -256,7 +257,8 @@ validate-answers limits bounded picture =
     (λ readable.
     let most = readable-most limits picture readable in
     subst (λ w. Answers c none none w) (sym (readable-validate limits picture readable))
-    (result-answers c none none outcomeYes (omega arith, omega arith, readable) refl most (omega (arith, most)) nothing))
+    (result-answers c none none outcomeYes (omega arith, omega arith, readable) refl most (omega (arith, most))
+    nothing))
     (λ q e least most unreadable.
     subst (λ w. Answers c none none w) (sym (unreadable-validate limits picture q e))
     (refusal-answers c none none q First (inl (least, most, refl)) (omega arith) (omega arith)
@@ -272,8 +274,8 @@ module _ (limits : Limits) (bounded : Bounded limits) (picture result : List ℕ
       NormalizeGives limits picture result (refused number i) result → SomeNormal
   normal-no = unwritten (normalizeCall limits picture) (buffers []) result (NormalizeGives limits picture result)
 
-  normal-yes : pictureSize limits ≤ length result → Readable limits picture → mergedCount limits picture ≤ limits .rows →
-      SomeNormal
+  normal-yes : pictureSize limits ≤ length result → Readable limits picture →
+      mergedCount limits picture ≤ limits .rows → SomeNormal
   normal-yes enough readable few =
       let table = normalFile limits picture in
       let size : length table ≤ pictureSize limits = normal-size limits picture few in (
@@ -322,8 +324,8 @@ module _ (limits : Limits) (bounded : Bounded limits) (first second work result 
         (valueWord o (length (evidenceOf limits first second)))
     decided-answers o is =
         let size = evidence-size limits first second bounded pair in
-        result-answers (subsumesCall limits first second) (buffers work result) decidedLeft o (enough, long, pair) is size
-        (omega (arith, size, within-most limits bounded))
+        result-answers (subsumesCall limits first second) (buffers work result) decidedLeft o (enough, long, pair) is
+        size (omega (arith, size, within-most limits bounded))
         (record {
           work = filled-tables limits first second work pair enough;
           result = filled-put result (evidenceOf limits first second) (omega (arith, size));
@@ -332,18 +334,18 @@ module _ (limits : Limits) (bounded : Bounded limits) (first second work result 
     decided-some : Some (subsumesCall limits first second) (λ b. b) (buffers work result)
         (λ w left. SubsumesGives limits first second work result w (left .work) (left .result))
     decided-some =
-        let n = length (evidenceOf limits first second) in
+        let (a, b, n) : ℕ × ℕ × ℕ = (length work, length result, length (evidenceOf limits first second)) in
         by-test (verdictOf limits first second)
         (λ e. (
           valueWord outcomeYes n,
           decidedLeft,
-          decided-gives (verdict.Yes n) (yes-subsumes limits first second (length work) (length result) enough long pair e),
+          decided-gives (verdict.Yes n) (yes-subsumes limits first second a b enough long pair e),
           decided-answers outcomeYes (inl (refl, verdict-covers limits first second bounded pair .1 e)),
         ))
         (λ e. (
           valueWord outcomeNo n,
           decidedLeft,
-          decided-gives (verdict.No n) (no-subsumes limits first second (length work) (length result) enough long pair e),
+          decided-gives (verdict.No n) (no-subsumes limits first second a b enough long pair e),
           decided-answers outcomeNo (inr (refl, verdict-fails limits first second bounded pair .0 e)),
         ))
 
@@ -367,8 +369,8 @@ module _ (limits : Limits) (bounded : Bounded limits) (first second work result 
           valueWord outcomeYes (length (lcsFile limits first second)),
           buffers (halvesPut limits first second work) (put result 0 (lcsFile limits first second)),
           lcs-common limits first second work result enough long pair few,
-          result-answers (lcsCall limits first second) (buffers work result) _ outcomeYes (enough, long, (pair, few)) refl size
-              (omega (arith, size))
+          result-answers (lcsCall limits first second) (buffers work result) _ outcomeYes (enough, long, (pair, few))
+              refl size (omega (arith, size))
               (record {
                 work = filled-tables limits first second work pair enough;
                 result = filled-put result (lcsFile limits first second) (omega (arith, size));
@@ -400,50 +402,57 @@ module _ (limits : Limits) (bounded : Bounded limits) (first second work result 
       word (buffers workLeft left)
 
 module _ (limits : Limits) (bounded : Bounded limits) (first second evidence work : List ℕ) where
+  abbrev checkedLeft : List ℕ
+  checkedLeft = halvesPut limits first second work
+
   -- 16 to 23, and what is taken
   module _ (enough : workSize limits ≤ length work) (pair : Acceptable limits first second) where
-    checked-leaves : Leaves (onWork work) (buffers (tables limits first second) []) (onWork (halvesPut limits first second work))
+    checked-leaves : Leaves (onWork work) (buffers (tables limits first second) []) (onWork checkedLeft)
     checked-leaves = record { work = filled-tables limits first second work pair enough; result = filled-nothing [] }
 
     checked-gives : (v : Verified) → evidenceAnswer limits first second evidence ≡ v →
-        VerifyGives limits first second evidence work (verifiedWord v) (halvesPut limits first second work)
+        VerifyGives limits first second evidence work (verifiedWord v) checkedLeft
     checked-gives v e =
-        subst (λ x. VerifyGives limits first second evidence work (verifiedWord x) (halvesPut limits first second work)) e
+        subst (λ x. VerifyGives limits first second evidence work (verifiedWord x) checkedLeft) e
         (verify-checked limits first second evidence work enough pair)
 
     taken-answers : (o : ℕ) → verifyCall limits first second evidence .Outcome o →
         MapOf limits first second evidence ⊎ RefutationOf limits first second evidence →
-        Answers (verifyCall limits first second evidence) (onWork work) (onWork (halvesPut limits first second work)) (valueWord o 0)
+        Answers (verifyCall limits first second evidence) (onWork work) (onWork checkedLeft) (valueWord o 0)
     taken-answers o is taken =
-        result-answers (verifyCall limits first second evidence) (onWork work) (onWork (halvesPut limits first second work)) o
+        result-answers (verifyCall limits first second evidence) (onWork work) (onWork checkedLeft) o
         (enough, omega arith, (pair, taken)) is (omega arith) (omega arith) checked-leaves
 
     none-taken : (w : ℕ) → w ≡ verifyWord limits first second evidence (length work) → outcome w ≡ 0 →
         MapOf limits first second evidence ⊎ RefutationOf limits first second evidence → ⊥
-    none-taken w is zero (inl map) =
-        omega (arith, is, zero, map-verify limits first second evidence (length work) bounded enough pair map)
-    none-taken w is zero (inr refutes) =
-        omega (arith, is, zero, refutation-verify limits first second evidence (length work) bounded enough pair refutes)
+    none-taken w is zero (inl m) =
+        omega (arith, is, zero, map-verify limits first second evidence (length work) bounded enough pair m)
+    none-taken w is zero (inr m) =
+        omega (arith, is, zero, refutation-verify limits first second evidence (length work) bounded enough pair m)
 
     checked-some : (v : Verified) → evidenceAnswer limits first second evidence ≡ v →
         Some (verifyCall limits first second evidence) onWork work (VerifyGives limits first second evidence work)
     checked-some verified.MapTaken e =
         let gives = checked-gives verified.MapTaken e in
-        let (room, accepted, map) = verify-map limits first second evidence (length work) bounded (omega (arith, gives .word-is)) in
-        (valueWord outcomeYes 0, halvesPut limits first second work, gives, taken-answers outcomeYes (inl (refl, map)) (inl map))
+        let told : outcome (verifyWord limits first second evidence (length work)) ≡ outcomeYes =
+        omega (arith, gives .word-is) in
+        let (room, accepted, map) = verify-map limits first second evidence (length work) bounded told in
+        (valueWord outcomeYes 0, checkedLeft, gives, taken-answers outcomeYes (inl (refl, map)) (inl map))
     checked-some verified.RefutationTaken e =
         let gives = checked-gives verified.RefutationTaken e in
-        let (room, accepted, refutes) = verify-refutation limits first second evidence (length work) bounded (omega (arith, gives .word-is)) in
-        (valueWord outcomeNo 0, halvesPut limits first second work, gives, taken-answers outcomeNo (inr (refl, refutes)) (inr refutes))
+        let told : outcome (verifyWord limits first second evidence (length work)) ≡ outcomeNo =
+        omega (arith, gives .word-is) in
+        let (room, accepted, refutes) = verify-refutation limits first second evidence (length work) bounded told in
+        (valueWord outcomeNo 0, checkedLeft, gives, taken-answers outcomeNo (inr (refl, refutes)) (inr refutes))
     checked-some (verified.Refused r) e =
         let gives = checked-gives (verified.Refused r) e in
         let (is, least, most) = evidence-refusal limits first second evidence r e in
         let few : cardOf (r .input) < partRange = rw is (omega arith) in
         let zero = refusal-outcome r (omega arith) few in (
           refusalWord r,
-          halvesPut limits first second work,
+          checkedLeft,
           gives,
-          refusal-answers (verifyCall limits first second evidence) (onWork work) (onWork (halvesPut limits first second work))
+          refusal-answers (verifyCall limits first second evidence) (onWork work) (onWork checkedLeft)
               (r .number) (r .input) (inr (inr (inr (inl (least, most, is))))) (omega arith) few
               (λ (a, b, (p, taken)). none-taken (refusalWord r) (gives .word-is) zero taken)
               (rw (le-leb 15 (r .number) (omega arith), le-leb (r .number) 23 most) checked-leaves),
@@ -462,8 +471,11 @@ module _ (limits : Limits) (bounded : Bounded limits) (first second evidence wor
 -- ---- a case and a book
 
 module _ (limits : Limits) (case book work : List ℕ) where
+  abbrev cardsCall : Call
+  cardsCall = mostSpecificCall limits case book
+
   abbrev SomeCards : Type 0
-  SomeCards = Some (mostSpecificCall limits case book) onWork work (MostSpecificGives limits case book work)
+  SomeCards = Some cardsCall onWork work (MostSpecificGives limits case book work)
 
   given-some : workSize limits ≤ length work → AcceptableBook limits case book → SomeCards
   given-some enough acceptable =
@@ -471,8 +483,8 @@ module _ (limits : Limits) (case book work : List ℕ) where
         valueWord outcomeYes (mostSpecificCards limits case book),
         put work 0 (zeros (workSize limits)),
         most-specific-given limits case book work enough acceptable,
-        result-answers (mostSpecificCall limits case book) (onWork work) (onWork (put work 0 (zeros (workSize limits))))
-            outcomeYes (enough, omega arith, acceptable) refl (omega (arith, below)) (omega (arith, below))
+        result-answers cardsCall (onWork work) (onWork (put work 0 (zeros (workSize limits)))) outcomeYes
+            (enough, omega arith, acceptable) refl (omega (arith, below)) (omega (arith, below))
             (record {
               work = filled-put work (zeros (workSize limits)) (omega (arith, length-zeros (workSize limits)));
               result = filled-nothing [];
@@ -481,32 +493,35 @@ module _ (limits : Limits) (case book work : List ℕ) where
 
   -- 1, 2 to 14 and 24
   module _ (r : Refusal) (gives : MostSpecificGives limits case book work (refusalWord r) work)
-      (fails : Passes (mostSpecificCall limits case book) (onWork work) → ⊥) where
-    no-some : Listed (mostSpecificCall limits case book .refusals) (r .number) (r .input) → r .number < partRange →
-        cardOf (r .input) < partRange → refusalBytes (r .number) (mostSpecificCall limits case book .bytes) ≡ buffers [] [] →
-        SomeCards
-    no-some listed small few unwritten-is = (
+      (fails : Passes cardsCall (onWork work) → ⊥) where
+    early-some : Listed (cardsCall .refusals) (r .number) (r .input) → r .number < 15 →
+        cardOf (r .input) < partRange → SomeCards
+    early-some listed early few =
+        unwritten cardsCall onWork work (MostSpecificGives limits case book work) (r .number) (r .input) listed early
+        few fails gives
+
+    late-some : r .number ≡ 24 → r .input ≡ Book → SomeCards
+    late-some last is = (
       refusalWord r,
       work,
       gives,
-      refusal-answers (mostSpecificCall limits case book) (onWork work) (onWork work) (r .number) (r .input) listed small few fails
-          (rw unwritten-is (record { work = filled-nothing work; result = filled-nothing [] })),
+      refusal-answers cardsCall (onWork work) (onWork work) (r .number) (r .input)
+          (inr (inr (inl (omega arith, omega arith, is)))) (omega arith) (rw is (omega arith)) fails
+          (rw last (record { work = filled-nothing work; result = filled-nothing [] })),
     )
-
-    early-some : Listed (mostSpecificCall limits case book .refusals) (r .number) (r .input) → r .number < 15 →
-        cardOf (r .input) < partRange → SomeCards
-    early-some listed early few = no-some listed (omega arith) few (rw (lt-leb 15 (r .number) early))
 
     named-some : Named book r → SomeCards
     named-some (inl (is, least, most)) = early-some (inl (least, most, is)) (omega arith) (rw is (omega arith))
-    named-some (inr (inl (is, least, most))) = early-some (inr (inl (least, most, is))) (omega arith) (rw is (omega arith))
-    named-some (inr (inr (inl (is, least, most)))) =
-        no-some (inr (inr (inl (least, most, is)))) (omega arith) (rw is (omega arith))
-        (let last : r .number ≡ 24 = omega arith in rw last)
+    named-some (inr (inl (is, least, most))) =
+        early-some (inr (inl (least, most, is))) (omega arith) (rw is (omega arith))
+    named-some (inr (inr (inl (is, least, most)))) = late-some (omega arith) is
     named-some (inr (inr (inr (k, l, (is, least, most))))) =
-        early-some (inr (inr (inr (inl (least, most, (k, l, is)))))) (omega arith) (rw is (omega (arith, count-most book)))
+        early-some (inr (inr (inr (inl (least, most, (k, l, is)))))) (omega arith)
+        (rw is (omega (arith, count-most book)))
 
-  refused-gives : (r : Refusal) → ((length work < workSize limits) × (r ≡ shortBuffer)) ⊎ ((workSize limits ≤ length work) × FirstNo limits case book r) →
+  refused-gives : (r : Refusal) →
+      ((length work < workSize limits) × (r ≡ shortBuffer))
+      ⊎ ((workSize limits ≤ length work) × FirstNo limits case book r) →
       MostSpecificGives limits case book work (refusalWord r) work
   refused-gives r (inl (short, is)) = rw is (most-specific-short limits case book work short)
   refused-gives r (inr (enough, first)) = most-specific-refuses limits case book work enough r first
@@ -514,11 +529,13 @@ module _ (limits : Limits) (case book work : List ℕ) where
   pub cards-answers : (word : ℕ) (workLeft : List ℕ) → MostSpecificGives limits case book work word workLeft →
       Answers (mostSpecificCall limits case book) (buffers work []) (buffers workLeft []) word
   cards-answers =
+      let room = length work in
       let holds = most-specific-condition limits case book in
-      one-answers _ _ (mostSpecificCall limits case book) onWork work
+      one-answers _ _ cardsCall onWork work
       (⊎-elim
-      (λ given. let (enough, acceptable) = holds .given-exactly (length work) .0 given in given-some enough acceptable)
-      (λ (r, e). named-some r (refused-gives r (holds .refused-exactly (length work) r .0 e))
-      (λ (enough, b, acceptable). ⊎-elim (λ short. omega (arith, enough)) (λ u. u acceptable) (holds .refused-when (length work) .0 (r, e)))
-      (holds .refused-only (length work) r e))
-      (holds .one (length work)))
+      (λ given. let (enough, acceptable) = holds .given-exactly room .0 given in given-some enough acceptable)
+      (λ (r, e). named-some r (refused-gives r (holds .refused-exactly room r .0 e))
+      (λ (enough, b, acceptable).
+      ⊎-elim (λ short. omega (arith, enough)) (λ u. u acceptable) (holds .refused-when room .0 (r, e)))
+      (holds .refused-only room r e))
+      (holds .one room))

@@ -5,18 +5,19 @@
 --   nearest-words        the nearest cards
 --   conditions-bounded   all of them, at any limits that the code can hold
 --   conditions-hold      at paper 01's, with its numbers
-use Prim.Native.Nat.{_<_, _≤_, ℕ}
+use Prim.Native.Nat.{_≤_, ℕ}
 use borrow.Author.Tests.{leb-false, leb-true}
 use lib.Dec.{leb}
 use lib.ListN.{length}
 use mathlib.Core.Bool.{false, true}
 use mathlib.Core.List.{List}
-use mathlib.Core.Logic.{_⊎_, inl, inr, ⊎-elim}
-use mathlib.Core.Path.{_∙_, _≡_, ap, refl, subst, sym}
+use mathlib.Core.Logic.{_↔_, _⊎_, inl, inr, ⊎-elim}
+use mathlib.Core.Path.{_∙_, _≡_, ap, refl, sym}
 use native.Mathlib.Omega.{arith}
 use Rattle.table.proofs.Bools.{by-test}
-use Rattle.table.specs.Bounds.{Bounded, benchLimits, pictureSize}
+use Rattle.table.specs.Bounds.{Bounded, benchLimits}
 use Rattle.table.specs.declared.layout.Limits.{Limits}
+use Rattle.meaning.specs.Covering.{Covers}
 use Rattle.meaning.specs.Meaning.{pictureTable}
 use Rattle.meaning.specs.NormalTable.{normalFile}
 use Rattle.workspace.specs.Prepare.{Acceptable, workSize}
@@ -27,8 +28,8 @@ use Rattle.subsumption.proofs.Writers.{evidence-bytes, evidence-size}
 use Rattle.subsumption.specs.Verdict.{evidenceOf, evidenceSize}
 use Rattle.lcs.specs.Product.{lcsCount}
 use Rattle.interface.specs.Conditions.{Condition1Words, Condition2Words, Condition3Words, Conditions, NearestWords, PaperNumbers, WritesTaken, evidenceWritten}
-use Rattle.interface.specs.Calls.{subsumesWord, verifyWord}
-use Rattle.interface.specs.Word.{outcome, outcomeNo, outcomeYes, value, valueWord}
+use Rattle.interface.specs.Calls.{subsumesWord}
+use Rattle.interface.specs.Word.{outcome, outcomeNo, outcomeYes, value}
 use Rattle.interface.proofs.Answers.{cards-answers, lcs-answers, normalize-answers, subsumes-answers, validate-answers, verify-answers}
 use Rattle.interface.proofs.LcsWords.{lcs-exactly, lcs-least-common}
 use Rattle.interface.proofs.MostSpecificWords.{most-specific-answers, most-specific-cards}
@@ -48,14 +49,28 @@ module _ (limits : Limits) (bounded : Bounded limits) where
   }
 
   module _ (first second : List ℕ) (pair : Acceptable limits first second) where
+    -- the three parts of the verdict's law
+    module _ (work result : ℕ) (enough : workSize limits ≤ work) (long : evidenceSize limits ≤ result) where
+      exactly-yes : (outcome (subsumesWord limits first second work result) ≡ outcomeYes) ↔ Covers limits second first
+      exactly-yes =
+          let (a, b, c) = subsumes-exactly limits first second work result bounded enough long pair in a
+
+      exactly-no :
+          (outcome (subsumesWord limits first second work result) ≡ outcomeNo) ↔ (Covers limits second first → ⊥)
+      exactly-no =
+          let (a, b, c) = subsumes-exactly limits first second work result bounded enough long pair in b
+
+      exactly-one :
+          (outcome (subsumesWord limits first second work result) ≡ outcomeYes)
+          ⊎ (outcome (subsumesWord limits first second work result) ≡ outcomeNo)
+      exactly-one =
+          let (a, b, c) = subsumes-exactly limits first second work result bounded enough long pair in c
+
     pub condition-2-words : Condition2Words limits first second
     condition-2-words = record {
-      verdict-yes = λ work result enough long.
-          let (yes-exactly, no-exactly, one) = subsumes-exactly limits first second work result bounded enough long pair in yes-exactly;
-      verdict-no = λ work result enough long.
-          let (yes-exactly, no-exactly, one) = subsumes-exactly limits first second work result bounded enough long pair in no-exactly;
-      verdict-one = λ work result enough long.
-          let (yes-exactly, no-exactly, one) = subsumes-exactly limits first second work result bounded enough long pair in one;
+      verdict-yes = exactly-yes;
+      verdict-no = exactly-no;
+      verdict-one = exactly-one;
       common = λ work result h. lcs-least-common limits first second work result bounded h;
       common-refused = λ work result enough long.
           let (given, refused) = lcs-exactly limits first second work result bounded enough long pair in
@@ -81,15 +96,17 @@ module _ (limits : Limits) (bounded : Bounded limits) where
       -- the check's answer on what is written shows its form; the least work space will do
       yes-form : outcome word ≡ outcomeYes → IsMap
       yes-form h =
-          let taken = subsumes-map-taken limits first second work result bounded (workSize limits) (omega arith) h in
-          let (room, accepted, map) = verify-map limits first second written (workSize limits) bounded (omega (arith, taken)) in
+          let size = workSize limits in
+          let taken = subsumes-map-taken limits first second work result bounded size (omega arith) h in
+          let (room, accepted, map) = verify-map limits first second written size bounded (omega (arith, taken)) in
           map .form
 
       no-form : outcome word ≡ outcomeNo → IsRefutation
       no-form h =
-          let taken = subsumes-refutation-taken limits first second work result bounded (workSize limits) (omega arith) h in
-          let (room, accepted, refutes) = verify-refutation limits first second written (workSize limits) bounded (omega (arith, taken)) in
-          refutes .form
+          let size = workSize limits in
+          let taken = subsumes-refutation-taken limits first second work result bounded size (omega arith) h in
+          let (room, accepted, m) = verify-refutation limits first second written size bounded (omega (arith, taken)) in
+          m .form
 
       evidence-is : (outcome word ≡ outcomeYes) ⊎ (outcome word ≡ outcomeNo) →
           (written ≡ evidenceOf limits first second) × (value word ≡ length (evidenceOf limits first second))
@@ -125,7 +142,7 @@ module _ (limits : Limits) (bounded : Bounded limits) where
       one = λ room enough. verify-one limits first second room bounded enough pair .0;
       not-both = λ room enough. verify-one limits first second room bounded enough pair .1;
       writer = λ work result enough long.
-          writes-taken work result (condition-2-words .verdict-one work (length result) enough long);
+          writes-taken work result (exactly-one work (length result) enough long);
     }
 
   pub nearest-words : (case book : List ℕ) → NearestWords limits case book
