@@ -81,13 +81,13 @@ abbrev pub refusalBytes : ℕ → Buffers → Buffers
 refusalBytes number success = buffers (pick (leb 15 number && leb number 23) (success .work) []) []
 
 pub record Call : Type 1 where
-  -- 1: the lengths named
+  -- 1: the lengths named of the work space and of the result buffer
   pub work-size : ℕ
   pub result-size : ℕ
-  -- 1 and the other questions that it asks, and that the others are answered yes
+  -- the questions that it asks; those after 1 are answered yes
   pub refusals : List Line
   pub Passed : Type 0
-  -- a result: its outcome, its value, how much that is at most, and what is written into each buffer
+  -- a result: its outcome, its value, how much that is at most, and the bytes that it writes into each buffer
   pub Outcome : ℕ → Type 0
   pub given : ℕ
   pub most : ℕ
