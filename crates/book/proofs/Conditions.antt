@@ -1,5 +1,5 @@
 -- The nearest cards for a case, of the call's definitions over byte lists: what zuvaropy_most_specific promises is an equality with these (interface,
--- specs/Calls). Each sentence of paper 01 stands above what says it. The limits are any; those of the paper, with its numbers, are `benchLimits`.
+-- specs/Calls). Each sentence of paper 01 stands above what says it. The limits are any; at the paper's, of the C words: interface, specs/Conditions.
 --
 -- The case and the book are lists of any numbers, bytes among them; what the work space holds beforehand is no argument of the answer, only its length is.
 -- `card book n` is the value of the book's field n and `cardCount` how many cards it has (specs/Form; a book of bytes has the form exactly if it is written as
@@ -11,7 +11,6 @@
 --   SaysCards, SaysRefusal    a word is given; the call refuses
 --   MostSpecificCondition     what the call gives for a case and a book, when it refuses, and what it leaves in the work space
 --   most-specific-condition   so it is, of every case and book
---   paper-limits              paper 01's limits are such that the code can hold them, and have its lengths
 use Prim.Native.Nat.{_<_, _^_, _≤_, ℕ}
 use borrow.Author.Tests.{leb-false, leb-true}
 use lib.Dec.{leb}
@@ -19,17 +18,16 @@ use lib.ListN.{getD, length}
 use mathlib.Core.Bool.{false, true}
 use mathlib.Core.List.{List}
 use mathlib.Core.Logic.{_↔_, _⊎_, inl, inr, ⊎-elim}
-use mathlib.Core.Path.{_∙_, _≡_, refl, subst, sym}
+use mathlib.Core.Path.{_∙_, _≡_, subst, sym}
 use native.Mathlib.Omega.{arith}
 use Rattle.picture.specs.Refusal.{shortBuffer}
 use Rattle.picture.specs.declared.answer.Refusal.{Refusal}
 use Rattle.table.proofs.Bools.{by-test}
-use Rattle.table.specs.Bounds.{Bounded, benchLimits}
 use Rattle.table.specs.NameSet.{has}
 use Rattle.table.specs.declared.layout.Limits.{Limits}
 use Rattle.workspace.specs.Prepare.{workSize}
 use Rattle.book.specs.Call.{AcceptableBook, mostSpecificAnswer, mostSpecificWork}
-use Rattle.book.specs.Form.{cardCount, cardTag, mostCards}
+use Rattle.book.specs.Form.{cardCount, mostCards}
 use Rattle.book.specs.Refusals.{FirstNo, Named}
 use Rattle.book.specs.Selection.{MostSpecific, mostSpecificCards}
 use Rattle.book.specs.declared.answer.Selected.{Selected}
@@ -112,7 +110,3 @@ most-specific-condition limits case book =
       beyond = work-past limits case book;
       kept = work-kept limits case book;
     }
-
--- at most 256 rows and 12 edges from the root; a work space of 12,294 bytes; 0 to 32 cards, tag 51
-pub paper-limits : Bounded benchLimits × (benchLimits .rows ≡ 256) × (benchLimits .depth ≡ 12) × (workSize benchLimits ≡ 12294) × (mostCards ≡ 32) × (cardTag ≡ 0x51)
-paper-limits = ((omega arith, omega arith), refl, refl, refl, refl, refl)

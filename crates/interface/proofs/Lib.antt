@@ -6,5 +6,7 @@ pub mod VerifyWords
 pub mod SubsumesWords
 pub mod LcsWords
 pub mod MostSpecificWords
+pub mod Answers
+pub mod Conditions
 pub mod EmptySubsumes
 pub mod StarredHold

@@ -1,6 +1,9 @@
--- The answer word, the calls, what those on two pictures refuse, and the starred cases.
+-- The answer word, the calls, what those on two pictures refuse, what each call answers, the customer's conditions, and
+-- the starred cases.
 pub mod Word
 pub mod Calls
 pub mod Refusals
+pub mod Answers
+pub mod Conditions
 pub mod StarredClaims
 pub mod Starred

@@ -1,5 +1,5 @@
 -- Condition 2 (the common picture), of the call's definitions over byte lists: what zuvaropy_lcs promises is an equality with these (interface, specs/Calls).
--- Each sentence stands above what says it. The limits are any that the code can hold; those of paper 01, with its numbers, are `benchLimits`.
+-- Each sentence stands above what says it. The limits are any that the code can hold; at paper 01's, of the C words: interface, specs/Conditions.
 --
 -- The pair: "any two readable pictures, each at most 256 rows when merged" is `Acceptable` (workspace, specs/Prepare). "Buffers of the lengths laid down" are
 -- at least `workSize` and `pictureSize` bytes long; what they hold beforehand is no argument of an answer, only their lengths are. The inputs are lists of any
@@ -12,7 +12,6 @@
 --   Condition2Common      what the call gives for a pair, and when it refuses
 --   condition-2-common    condition 2
 --   product-rows          what 15 counts are the rows of the product
---   paper-limits          paper 01's limits are such limits, and have its lengths
 use Prim.Native.Nat.{_<_, _≤_, ℕ}
 use lib.Dec.{leb}
 use lib.ListN.{length, take}
@@ -32,7 +31,7 @@ use Rattle.picture.specs.Readable.{Readable}
 use Rattle.picture.specs.declared.answer.Refusal.{Refusal}
 use Rattle.picture.specs.declared.read.Reading.the-variants.{Rows}
 use Rattle.table.proofs.Bools.{by-test}
-use Rattle.table.specs.Bounds.{Bounded, benchLimits, pictureSize}
+use Rattle.table.specs.Bounds.{Bounded, pictureSize}
 use Rattle.table.specs.Number.{Bytes}
 use Rattle.table.specs.declared.layout.Limits.{Limits}
 use Rattle.workspace.specs.Prepare.{Acceptable, workSize}
@@ -122,7 +121,3 @@ pub product-rows : (limits : Limits) (first second : List ℕ) →
     lcsCount limits first second ≡ size pictureSignature (product pictureSignature (normalTreeOf limits first) (normalTreeOf limits second))
 unfolding lcsCount lcsTree
 product-rows limits first second = refl
-
--- at most 256 rows and 12 edges from the root; a work space of 12,294 bytes, a result buffer of 6,147
-pub paper-limits : Bounded benchLimits × (benchLimits .rows ≡ 256) × (workSize benchLimits ≡ 12294) × (pictureSize benchLimits ≡ 6147)
-paper-limits = ((omega arith, omega arith), refl, refl, refl)

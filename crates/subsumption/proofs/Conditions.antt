@@ -1,6 +1,6 @@
 -- Conditions 2 (the verdict) and 3, of the calls' definitions over byte lists: what zuvaropy_subsumes and zuvaropy_verify promise is an equality with these
--- (interface, specs/Calls). Each sentence stands above what says it. The limits are any that the code can hold; those of paper 01, with its numbers, are
--- `benchLimits`.
+-- (interface, specs/Calls). Each sentence stands above what says it. The limits are any that the code can hold; of the C words, at paper 01's with
+-- its numbers: interface, specs/Conditions.
 --
 -- The pair: "any two readable pictures, each at most 256 rows when merged" is `Acceptable` (workspace, specs/Prepare). "Buffers of the lengths laid down"
 -- are at least `workSize` and `evidenceSize` bytes long; what the two lent buffers hold beforehand is no argument of an answer, only their lengths are. The
@@ -19,7 +19,6 @@
 --   Condition3,
 --   condition-3           condition 3
 --   condition-3-any       its first sentence of any bytes at all, in the place of the pictures too
---   paper-limits          paper 01's limits are such limits, and have its lengths
 use Prim.Native.Nat.{_+_, _<_, _≤_, ℕ}
 use lib.Dec.{T, eqb→eq}
 use lib.ListN.{length, take}
@@ -43,7 +42,7 @@ use Rattle.meaning.specs.NormalTable.{mergedCount, normalFile}
 use Rattle.meaning.proofs.Pictures.{count-whole, picture-whole}
 use Rattle.picture.specs.Readable.{Readable}
 use Rattle.table.proofs.Bools.{by-test}
-use Rattle.table.specs.Bounds.{Bounded, benchLimits}
+use Rattle.table.specs.Bounds.{Bounded}
 use Rattle.table.specs.Number.{Bytes}
 use Rattle.table.specs.declared.layout.Limits.{Limits}
 use Rattle.evidence.specs.declared.check.Verified.the-variants.{MapTaken, RefutationTaken}
@@ -209,7 +208,3 @@ pub condition-3-any : (limits : Limits) → Bounded limits → (first second e :
     × (verifyAnswer limits first second e room ≡ RefutationTaken → Covers limits second first → ⊥)
 condition-3-any limits bounded first second e room =
     (map-covers limits first second e room bounded, refutation-fails limits first second e room bounded)
-
--- at most 256 rows and 12 edges from the root; a work space of 12,294 bytes, a result buffer of 46,595
-pub paper-limits : Bounded benchLimits × (workSize benchLimits ≡ 12294) × (evidenceSize benchLimits ≡ 46595)
-paper-limits = ((omega arith, omega arith), refl, refl)

@@ -1,0 +1,219 @@
+-- Condition 1, "a result or a numbered refusal, each laid down beforehand along with the contents of the buffers": what
+-- every call answers, said once, and what paper 01 lays down for each of the six.
+--   Whom, Names, Line, questions, Listed    questions that a call asks, by number, and whom they name
+--   Buffers, buffers, Filled, Leaves        what is lent for writing; what a buffer, and what both, hold then
+--   refusalBytes                            what a refusal writes
+--   Call                                    what is laid down for a call on given inputs
+--   Passes, GivesResult, Refuses, Answers   all questions are answered yes; a result; a numbered refusal; one of these
+--   tables, OutcomeYes, EitherOutcome       both normal tables, each in its half; which outcome a result has
+--   validateCall .. mostSpecificCall        what is laid down for each call
+use Prim.Native.Nat.{_<_, _≤_, ℕ}
+use lib.Dec.{leb}
+use lib.ListN.{getD, length, take}
+use mathlib.Core.Bool.{_&&_}
+use mathlib.Core.List.{List, [], _++_, _∷_}
+use mathlib.Core.Logic.{_⊎_}
+use mathlib.Core.Path.{_≡_}
+use Rattle.table.specs.Bounds.{pictureSize}
+use Rattle.table.specs.Pick.{pick}
+use Rattle.table.specs.Put.{zeros}
+use Rattle.table.specs.declared.layout.Limits.{Limits}
+use Rattle.picture.specs.Readable.{Readable, rowCount}
+use Rattle.picture.specs.declared.answer.Input.{Input}
+use Rattle.picture.specs.declared.answer.Input.the-variants.{Book, Buffer, Card, Evidence, First, Second}
+use Rattle.meaning.specs.Covering.{Covers}
+use Rattle.meaning.specs.NormalTable.{mergedCount, normalFile}
+use Rattle.normal.specs.Half.{halfOf}
+use Rattle.workspace.specs.Prepare.{Acceptable, workSize}
+use Rattle.evidence.specs.Taken.{MapOf, RefutationOf}
+use Rattle.subsumption.specs.Verdict.{evidenceOf, evidenceSize}
+use Rattle.lcs.specs.Product.{lcsCount, lcsFile}
+use Rattle.book.specs.Call.{AcceptableBook}
+use Rattle.book.specs.Form.{cardCount}
+use Rattle.book.specs.Selection.{mostSpecificCards}
+use Rattle.interface.specs.Word.{card, cardOf, input, inputCode, outcome, outcomeNo, outcomeYes, question, refused, value, valueWord}
+
+-- ---- a call, whichever it is
+
+-- an input; or a card of the book, by its number, which is below the number of cards
+pub data Whom : Type 0 where
+  the : Input → Whom
+  cards : ℕ → Whom
+
+abbrev pub Names : Whom → Input → Type 0
+Names (the named) input = input ≡ named
+Names (cards count) input = (k : ℕ) × (k < count) × (input ≡ Card k)
+
+pub record Line : Type 0 where
+  pub least : ℕ
+  pub most : ℕ
+  pub whom : Whom
+
+abbrev pub questions : ℕ → ℕ → Whom → Line
+questions least most whom = record { least = least; most = most; whom = whom }
+
+abbrev pub Listed : List Line → ℕ → Input → Type 0
+Listed [] number input = ⊥
+Listed (l ∷ more) number input =
+    ((l .least ≤ number) × (number ≤ l .most) × Names (l .whom) input) ⊎ Listed more number input
+
+-- a buffer that a call is not lent is one without bytes here
+pub record Buffers : Type 0 where
+  pub work : List ℕ
+  pub result : List ℕ
+
+abbrev pub buffers : List ℕ → List ℕ → Buffers
+buffers work result = record { work = work; result = result }
+
+-- bytes are written from the buffer's first byte on; bytes past them keep their contents, and so does its length
+pub record Filled (lent bytes left : List ℕ) : Type 0 where
+  pub holds : take (length bytes) left ≡ bytes
+  pub past : (i : ℕ) → length bytes ≤ i → getD left i 0 ≡ getD lent i 0
+  pub kept : length left ≡ length lent
+
+pub record Leaves (lent bytes left : Buffers) : Type 0 where
+  pub work : Filled (lent .work) (bytes .work) (left .work)
+  pub result : Filled (lent .result) (bytes .result) (left .result)
+
+-- 01, "Refusals 1 to 14 and 24 write nothing. 15 to 23 leave the work space as a success does and result buffers
+-- untouched": by the number, and what a success writes
+abbrev pub refusalBytes : ℕ → Buffers → Buffers
+refusalBytes number success = buffers (pick (leb 15 number && leb number 23) (success .work) []) []
+
+pub record Call : Type 1 where
+  -- 1: the lengths named of the work space and of the result buffer
+  pub work-size : ℕ
+  pub result-size : ℕ
+  -- the questions that it asks; those after 1 are answered yes
+  pub refusals : List Line
+  pub Passed : Type 0
+  -- a result: its outcome, its value, how much that is at most, and the bytes that it writes into each buffer
+  pub Outcome : ℕ → Type 0
+  pub given : ℕ
+  pub most : ℕ
+  pub bytes : Buffers
+
+-- every question is answered yes
+abbrev pub Passes : Call → Buffers → Type 0
+Passes c lent = (c .work-size ≤ length (lent .work)) × (c .result-size ≤ length (lent .result)) × c .Passed
+
+module _ (c : Call) (lent left : Buffers) (word : ℕ) where
+  pub record GivesResult : Type 0 where
+    pub passes : Passes c lent
+    pub outcome-is : c .Outcome (outcome word)
+    pub value-is : value word ≡ c .given
+    pub in-range : c .given ≤ c .most
+    pub word-is : word ≡ valueWord (outcome word) (value word)
+    pub leaves : Leaves lent (c .bytes) left
+
+  pub record Refuses : Type 0 where
+    pub number : ℕ
+    pub names : Input
+    pub listed : Listed (c .refusals) number names
+    pub fails : Passes c lent → ⊥
+    pub outcome-is : outcome word ≡ 0
+    pub question-is : question word ≡ number
+    pub input-is : input word ≡ inputCode names
+    pub card-is : card word ≡ cardOf names
+    pub word-is : word ≡ refused number names
+    pub leaves : Leaves lent (refusalBytes number (c .bytes)) left
+
+  abbrev pub Answers : Type 0
+  Answers = GivesResult ⊎ Refuses
+
+-- ---- the six calls
+
+abbrev pub tables : Limits → List ℕ → List ℕ → List ℕ
+tables limits first second = halfOf limits (normalFile limits first) ++ halfOf limits (normalFile limits second)
+
+abbrev pub OutcomeYes : ℕ → Type 0
+OutcomeYes outcome = outcome ≡ outcomeYes
+
+-- yes in one case, no in the other
+abbrev pub EitherOutcome : Type 0 → Type 0 → ℕ → Type 0
+EitherOutcome Y N outcome = ((outcome ≡ outcomeYes) × Y) ⊎ ((outcome ≡ outcomeNo) × N)
+
+-- Test one picture; give its row count.
+abbrev pub validateCall : Limits → List ℕ → Call
+validateCall limits picture = record {
+  work-size = 0;
+  result-size = 0;
+  refusals = questions 2 13 (the First) ∷ [];
+  Passed = Readable limits picture;
+  Outcome = OutcomeYes;
+  given = rowCount picture;
+  most = limits .rows;
+  bytes = buffers [] [];
+}
+
+-- Write its normal table and give its length in bytes.
+abbrev pub normalizeCall : Limits → List ℕ → Call
+normalizeCall limits picture = record {
+  work-size = 0;
+  result-size = pictureSize limits;
+  refusals = questions 1 1 (the Buffer) ∷ questions 2 14 (the First) ∷ [];
+  Passed = Readable limits picture × (mergedCount limits picture ≤ limits .rows);
+  Outcome = OutcomeYes;
+  given = length (normalFile limits picture);
+  most = pictureSize limits;
+  bytes = buffers [] (normalFile limits picture);
+}
+
+-- Verdict with evidence, and its length.
+abbrev pub subsumesCall : Limits → List ℕ → List ℕ → Call
+subsumesCall limits first second = record {
+  work-size = workSize limits;
+  result-size = evidenceSize limits;
+  refusals = questions 1 1 (the Buffer) ∷ questions 2 14 (the First) ∷ questions 2 14 (the Second) ∷ [];
+  Passed = Acceptable limits first second;
+  Outcome = EitherOutcome (Covers limits second first) (Covers limits second first → ⊥);
+  given = length (evidenceOf limits first second);
+  most = evidenceSize limits;
+  bytes = buffers (tables limits first second) (evidenceOf limits first second);
+}
+
+-- Common picture and its length.
+abbrev pub lcsCall : Limits → List ℕ → List ℕ → Call
+lcsCall limits first second = record {
+  work-size = workSize limits;
+  result-size = pictureSize limits;
+  refusals =
+      questions 1 1 (the Buffer) ∷ questions 2 14 (the First) ∷ questions 2 14 (the Second)
+      ∷ questions 15 15 (the Second) ∷ [];
+  Passed = Acceptable limits first second × (lcsCount limits first second ≤ limits .rows);
+  Outcome = OutcomeYes;
+  given = length (lcsFile limits first second);
+  most = pictureSize limits;
+  bytes = buffers (tables limits first second) (lcsFile limits first second);
+}
+
+-- Check evidence: map taken or refutation taken.
+abbrev pub verifyCall : Limits → List ℕ → List ℕ → List ℕ → Call
+verifyCall limits first second evidence = record {
+  work-size = workSize limits;
+  result-size = 0;
+  refusals =
+      questions 1 1 (the Buffer) ∷ questions 2 14 (the First) ∷ questions 2 14 (the Second)
+      ∷ questions 16 23 (the Evidence) ∷ [];
+  Passed =
+      Acceptable limits first second × (MapOf limits first second evidence ⊎ RefutationOf limits first second evidence);
+  Outcome = EitherOutcome (MapOf limits first second evidence) (RefutationOf limits first second evidence);
+  given = 0;
+  most = 0;
+  bytes = buffers (tables limits first second) [];
+}
+
+-- Nearest cards for a case.
+abbrev pub mostSpecificCall : Limits → List ℕ → List ℕ → Call
+mostSpecificCall limits case book = record {
+  work-size = workSize limits;
+  result-size = 0;
+  refusals =
+      questions 1 1 (the Buffer) ∷ questions 2 14 (the First) ∷ questions 24 24 (the Book)
+      ∷ questions 2 14 (cards (cardCount book)) ∷ [];
+  Passed = AcceptableBook limits case book;
+  Outcome = OutcomeYes;
+  given = mostSpecificCards limits case book;
+  most = 0xFFFFFFFF;
+  bytes = buffers (zeros (workSize limits)) [];
+}
