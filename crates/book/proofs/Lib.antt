@@ -10,8 +10,5 @@ pub mod Orders
 pub mod Selections
 -- the call
 pub mod Answers
-pub mod Refusals
--- the condition
-pub mod Conditions
 -- worked cases, computed
 pub mod BookCases

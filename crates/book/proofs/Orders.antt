@@ -1,5 +1,6 @@
 -- The questions about a case and a book, in their order: all are answered yes exactly of an acceptable book, and else the
 -- first no is the refusal.
+--   book-refuses   every refusal is 2 to 14 of the case or of a card, or 24
 --   book-decides   all yes exactly of an acceptable book; the first no is r exactly if `FirstNo` says so
 use Prim.Native.Nat.{_<_, _≤_, ℕ}
 use mathlib.Core.Bool.{false, true}
@@ -7,7 +8,7 @@ use mathlib.Core.List.{List}
 use mathlib.Core.Logic.{_⊎_, inl, inr}
 use mathlib.Core.Path.{_≡_, refl, subst, sym}
 use native.Mathlib.Omega.{arith}
-use Rattle.picture.proofs.Asking.{AllFrom, Decides, FirstFrom, Unreadable, and-decides, asked-decides, from-decides, read-decides, said-so}
+use Rattle.picture.proofs.Asking.{AllFrom, Decides, FirstFrom, Refuses, Unreadable, and-decides, and-refuses, asked-decides, asked-refuses, from-decides, from-refuses, read-decides, read-refuses, said-so}
 use Rattle.picture.specs.Asked.{andThen, askedFrom, readAsked}
 use Rattle.picture.specs.Readable.{Readable}
 use Rattle.picture.specs.Refusal.{refusal, tooMany}
@@ -16,7 +17,7 @@ use Rattle.picture.specs.declared.answer.Input.the-variants.{Card, First}
 use Rattle.picture.specs.declared.answer.Refusal.{Refusal}
 use Rattle.table.specs.declared.layout.Limits.{Limits}
 use Rattle.meaning.specs.NormalTable.{mergedCount}
-use Rattle.normal.proofs.Answers.{TooMany, merged-decides}
+use Rattle.normal.proofs.Answers.{TooMany, merged-decides, merged-refuses}
 use Rattle.normal.specs.Call.{mergedAsked}
 use Rattle.book.specs.Call.{AcceptableBook, bookAsked, cardMerged, cardRead, formAsked, noBook}
 use Rattle.book.specs.Form.{bookForm, card, cardCount}
@@ -115,3 +116,22 @@ module _ (limits : Limits) (case book : List ℕ) where
         ),
       )
       (λ r. (case-first r, from-first r))
+
+  -- 2 to 14 of the case and of the cards, 24
+  pub book-refuses : (P : Refusal → Type 0) → ((q : ℕ) → 2 ≤ q → q ≤ 14 → P (refusal q First)) → P noBook →
+      ((k q : ℕ) → k < cardCount book → 2 ≤ q → q ≤ 14 → P (refusal q (Card k))) → Refuses P (bookAsked limits case book)
+  unfolding bookAsked
+  book-refuses P named none card-named =
+      let read = readAsked limits First case in
+      let cards = askedFrom (cardRead limits book) (cardCount book) 0 in
+      let merged = mergedAsked limits First case in
+      let rest = askedFrom (cardMerged limits book) (cardCount book) 0 in
+      and-refuses P read (andThen (formAsked book) (andThen cards (andThen merged rest)))
+      (read-refuses P limits First case (λ q a b. named q a (omega arith)))
+      (and-refuses P (formAsked book) (andThen cards (andThen merged rest)) (asked-refuses P (bookForm book) noBook none)
+      (and-refuses P cards (andThen merged rest)
+      (from-refuses P (cardRead limits book) (cardCount book) 0
+      (λ k a b. read-refuses P limits (Card k) (card book k) (λ q c d. card-named k q (omega arith) c (omega arith))))
+      (and-refuses P merged rest (merged-refuses limits First case P (named 14 (omega arith) (omega arith)))
+      (from-refuses P (cardMerged limits book) (cardCount book) 0
+      (λ k a b. merged-refuses limits (Card k) (card book k) P (card-named k 14 (omega arith) (omega arith) (omega arith)))))))

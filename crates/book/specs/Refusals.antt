@@ -1,20 +1,17 @@
 -- What the sixth call refuses, in the statements about it.
 --   FirstNo   a question that is answered no, those before it being answered yes, and what it names
---   Named     1 names the buffer, 2 to 14 the case, which is the first input, or a card of the book, 24 the book
 use Prim.Native.Nat.{_<_, _≤_, ℕ}
 use mathlib.Core.Bool.{false, true}
 use mathlib.Core.List.{List}
-use mathlib.Core.Logic.{_⊎_}
 use mathlib.Core.Path.{_≡_}
 use Rattle.table.specs.declared.layout.Limits.{Limits}
 use Rattle.picture.specs.Refusal.{refusal, tooMany}
 use Rattle.picture.specs.Read.{readingOf}
 use Rattle.picture.specs.Readable.{Readable}
-use Rattle.picture.specs.declared.answer.Input.the-variants.{Book, Buffer, Card, First}
+use Rattle.picture.specs.declared.answer.Input.the-variants.{Card, First}
 use Rattle.picture.specs.declared.answer.Refusal.{Refusal}
 use Rattle.picture.specs.declared.read.Reading.the-variants as reading
 use Rattle.meaning.specs.NormalTable.{mergedCount}
-use Rattle.workspace.specs.Refusals.{Concerns}
 use Rattle.book.specs.Call.{noBook}
 use Rattle.book.specs.Form.{bookForm, card, cardCount}
 
@@ -35,10 +32,3 @@ pub data FirstNo (limits : Limits) (case book : List ℕ) : Refusal → Type 0 w
       mergedCount limits case ≤ limits .rows →
       (k : ℕ) → k < cardCount book → ((j : ℕ) → j < k → mergedCount limits (card book j) ≤ limits .rows) →
       limits .rows < mergedCount limits (card book k) → FirstNo limits case book (tooMany (Card k))
-
-abbrev pub Named : List ℕ → Refusal → Type 0
-Named book r =
-    Concerns r Buffer 1 1
-    ⊎ (Concerns r First 2 14
-    ⊎ (Concerns r Book 24 24
-    ⊎ ((k : ℕ) × (k < cardCount book) × Concerns r (Card k) 2 14)))

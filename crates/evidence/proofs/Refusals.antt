@@ -1,16 +1,10 @@
--- Which refusals the fifth call gives: 1 names the buffer, 2 to 14 one of the two pictures, 16 to 23 the evidence; there is
--- no other.
---   Named              1 to 14 as in every call on two pictures (workspace, specs/Refusals: `Known`), or 16 to 23 and the
---                      evidence
---   evidence-refuses   the questions about the evidence refuse by 16 to 23 and name it
---   verify-named       and every refusal of the call is such a one
+-- Which refusals the questions about evidence give: 16 to 23, of the evidence; there is no other.
+--   row-refuses, map-refuses, refutation-refuses, evidence-refuses   every refusal has a property that those numbers have
 use Prim.Native.Nat.{ℕ, _≤_}
 use native.Mathlib.Omega.{arith}
-use lib.Dec.{eqb, leb, ltb}
+use lib.Dec.{eqb, ltb}
 use mathlib.Core.Bool.{Bool, _||_, false, not, true}
 use mathlib.Core.List.{List}
-use mathlib.Core.Logic.{_⊎_, inl, inr}
-use mathlib.Core.Path.{refl}
 use Rattle.table.specs.Pick.{pick}
 use Rattle.table.specs.Range.{each}
 use Rattle.table.specs.declared.layout.Limits.{Limits}
@@ -19,10 +13,9 @@ use Rattle.ale.specs.PictureSignature.{pictureSignature}
 use Rattle.ale.specs.RowMap.{edgeAgrees, labelAgrees}
 use Rattle.ale.specs.Table.{Table}
 use Rattle.ale.specs.Tree.{Tree}
-use Rattle.picture.proofs.Asking.{Refuses, and-refuses, asked-refuses, from-refuses, refuses-so}
+use Rattle.picture.proofs.Asking.{Refuses, and-refuses, asked-refuses, from-refuses}
 use Rattle.picture.specs.Asked.{andThen, asked}
 use Rattle.picture.specs.declared.answer.Asked.{Asked}
-use Rattle.picture.specs.declared.answer.Input.the-variants.{Evidence}
 use Rattle.picture.specs.declared.answer.Refusal.{Refusal}
 use Rattle.meaning.specs.Meaning.{pictureTable, pictureTree}
 use Rattle.meaning.specs.NormalTable.{normalFile}
@@ -30,78 +23,59 @@ use Rattle.countermodel.specs.Individual.{individualOk, refutationForm}
 use Rattle.countermodel.specs.Layout.{individualCount}
 use Rattle.countermodel.specs.Model.{modelTree}
 use Rattle.homomorphism.specs.Layout.{imageOf}
-use Rattle.workspace.proofs.Pairs.{lent-known}
-use Rattle.workspace.specs.Prepare.{workSize}
-use Rattle.workspace.specs.Refusals.{Concerns, Known}
-use Rattle.evidence.specs.Call.{evidenceAsked, verifyAsked, verifyLent}
+use Rattle.evidence.specs.Call.{evidenceAsked}
 use Rattle.evidence.specs.Check.{checkAsked, refutationAsked}
 use Rattle.evidence.specs.Form.{mapForm}
 use Rattle.evidence.specs.Map.{mapAsked, refusalBy, rowAsked}
 
-abbrev pub OfEvidence : Refusal → Type 0
-OfEvidence r = Concerns r Evidence 16 23
+module _ (P : Refusal → Type 0) (by : (n : ℕ) → 16 ≤ n → n ≤ 23 → P (refusalBy n)) where
+  row-refuses : (p q : Table pictureSignature) (im : ℕ → ℕ) (i : ℕ) → Refuses P (rowAsked p q im i)
+  unfolding rowAsked
+  row-refuses p q im i =
+      let within = ltb (im i) (p .rows) in
+      let rooted = pick (eqb i 0) (eqb (im i) 0) true in
+      let labelled = labelAgrees pictureSignature p q i (im i) in
+      let joined = pick (eqb i 0) true (edgeAgrees pictureSignature p q i (im (q .parent i)) (im i)) in
+      let b = asked rooted (refusalBy 18) in
+      let c = asked labelled (refusalBy 19) in
+      let d = asked joined (refusalBy 20) in
+      and-refuses P (asked within (refusalBy 17)) (andThen b (andThen c d))
+      (asked-refuses P within (refusalBy 17) (by 17 (omega arith) (omega arith)))
+      (and-refuses P b (andThen c d) (asked-refuses P rooted (refusalBy 18) (by 18 (omega arith) (omega arith)))
+      (and-refuses P c d (asked-refuses P labelled (refusalBy 19) (by 19 (omega arith) (omega arith)))
+      (asked-refuses P joined (refusalBy 20) (by 20 (omega arith) (omega arith)))))
 
-abbrev pub Named : Refusal → Type 0
-Named r = Known r ⊎ OfEvidence r
+  map-refuses : (p q : Table pictureSignature) (im : ℕ → ℕ) → Refuses P (mapAsked p q im)
+  unfolding mapAsked
+  map-refuses p q im = from-refuses P (rowAsked p q im) (q .rows) 0 (λ i a b. row-refuses p q im i)
 
--- ---- 16 to 23
+  refutation-refuses : (t u : Tree pictureSignature) (e : List ℕ) → Refuses P (refutationAsked t u e)
+  unfolding refutationAsked
+  refutation-refuses t u e =
+      let passing = each (individualOk e) (individualCount e) 0 in
+      let fits = fitsTest pictureSignature t (modelTree e 0) in
+      let fails = not (fitsTest pictureSignature u (modelTree e 0)) in
+      let b = asked fits (refusalBy 22) in
+      let c = asked fails (refusalBy 23) in
+      and-refuses P (asked passing (refusalBy 21)) (andThen b c)
+      (asked-refuses P passing (refusalBy 21) (by 21 (omega arith) (omega arith)))
+      (and-refuses P b c (asked-refuses P fits (refusalBy 22) (by 22 (omega arith) (omega arith)))
+      (asked-refuses P fails (refusalBy 23) (by 23 (omega arith) (omega arith))))
 
-by : (n : ℕ) → 16 ≤ n → n ≤ 23 → OfEvidence (refusalBy n)
-by n a b = (refl, a, b)
+  form-refuses : (m n : Asked) → Refuses P m → Refuses P n → (b : Bool) → Refuses P (pick b m n)
+  form-refuses m n h k true = h
+  form-refuses m n h k false = k
 
-row-refuses : (p q : Table pictureSignature) (im : ℕ → ℕ) (i : ℕ) → Refuses OfEvidence (rowAsked p q im i)
-unfolding rowAsked
-row-refuses p q im i =
-    let within = ltb (im i) (p .rows) in
-    let rooted = pick (eqb i 0) (eqb (im i) 0) true in
-    let labelled = labelAgrees pictureSignature p q i (im i) in
-    let joined = pick (eqb i 0) true (edgeAgrees pictureSignature p q i (im (q .parent i)) (im i)) in
-    let b = asked rooted (refusalBy 18) in
-    let c = asked labelled (refusalBy 19) in
-    let d = asked joined (refusalBy 20) in
-    and-refuses OfEvidence (asked within (refusalBy 17)) (andThen b (andThen c d))
-    (asked-refuses OfEvidence within (refusalBy 17) (by 17 (omega arith) (omega arith)))
-    (and-refuses OfEvidence b (andThen c d) (asked-refuses OfEvidence rooted (refusalBy 18) (by 18 (omega arith) (omega arith)))
-    (and-refuses OfEvidence c d (asked-refuses OfEvidence labelled (refusalBy 19) (by 19 (omega arith) (omega arith)))
-    (asked-refuses OfEvidence joined (refusalBy 20) (by 20 (omega arith) (omega arith)))))
-
-map-refuses : (p q : Table pictureSignature) (im : ℕ → ℕ) → Refuses OfEvidence (mapAsked p q im)
-unfolding mapAsked
-map-refuses p q im = from-refuses OfEvidence (rowAsked p q im) (q .rows) 0 (λ i a b. row-refuses p q im i)
-
-refutation-refuses : (t u : Tree pictureSignature) (e : List ℕ) → Refuses OfEvidence (refutationAsked t u e)
-unfolding refutationAsked
-refutation-refuses t u e =
-    let passing = each (individualOk e) (individualCount e) 0 in
-    let fits = fitsTest pictureSignature t (modelTree e 0) in
-    let fails = not (fitsTest pictureSignature u (modelTree e 0)) in
-    let b = asked fits (refusalBy 22) in
-    let c = asked fails (refusalBy 23) in
-    and-refuses OfEvidence (asked passing (refusalBy 21)) (andThen b c)
-    (asked-refuses OfEvidence passing (refusalBy 21) (by 21 (omega arith) (omega arith)))
-    (and-refuses OfEvidence b c (asked-refuses OfEvidence fits (refusalBy 22) (by 22 (omega arith) (omega arith)))
-    (asked-refuses OfEvidence fails (refusalBy 23) (by 23 (omega arith) (omega arith))))
-
-form-refuses : (m n : Asked) → Refuses OfEvidence m → Refuses OfEvidence n → (b : Bool) → Refuses OfEvidence (pick b m n)
-form-refuses m n h k true = h
-form-refuses m n h k false = k
-
-module _ (limits : Limits) (first second e : List ℕ) where
-  pub evidence-refuses : Refuses OfEvidence (evidenceAsked limits first second e)
-  unfolding evidenceAsked checkAsked
-  evidence-refuses =
-      let p = pictureTable (normalFile limits first) in
-      let q = pictureTable (normalFile limits second) in
-      let m = mapAsked p q (imageOf e) in
-      let n = refutationAsked (pictureTree limits first) (pictureTree limits second) e in
-      let formed = mapForm (q .rows) e || refutationForm limits e in
-      and-refuses OfEvidence (asked formed (refusalBy 16)) (pick (mapForm (q .rows) e) m n)
-      (asked-refuses OfEvidence formed (refusalBy 16) (by 16 (omega arith) (omega arith)))
-      (form-refuses m n (map-refuses p q (imageOf e)) (refutation-refuses (pictureTree limits first) (pictureTree limits second) e)
-      (mapForm (q .rows) e))
-
-  pub verify-named : (room : ℕ) → Refuses Named (verifyAsked limits first second e room)
-  verify-named room =
-      and-refuses Named (verifyLent limits first second room) (evidenceAsked limits first second e)
-      (refuses-so Known Named (λ r h. inl h) (verifyLent limits first second room) (lent-known limits first second (leb (workSize limits) room)))
-      (refuses-so OfEvidence Named (λ r h. inr h) (evidenceAsked limits first second e) evidence-refuses)
+  module _ (limits : Limits) (first second e : List ℕ) where
+    pub evidence-refuses : Refuses P (evidenceAsked limits first second e)
+    unfolding evidenceAsked checkAsked
+    evidence-refuses =
+        let p = pictureTable (normalFile limits first) in
+        let q = pictureTable (normalFile limits second) in
+        let m = mapAsked p q (imageOf e) in
+        let n = refutationAsked (pictureTree limits first) (pictureTree limits second) e in
+        let formed = mapForm (q .rows) e || refutationForm limits e in
+        and-refuses P (asked formed (refusalBy 16)) (pick (mapForm (q .rows) e) m n)
+        (asked-refuses P formed (refusalBy 16) (by 16 (omega arith) (omega arith)))
+        (form-refuses m n (map-refuses p q (imageOf e)) (refutation-refuses (pictureTree limits first) (pictureTree limits second) e)
+        (mapForm (q .rows) e))

@@ -1,13 +1,12 @@
 -- 01, "For such a pair the check answers": which evidence is taken, for arbitrary bytes, and what that shows of the two pictures.
 --   forms-apart         no file has both forms
---   map-no-refusal, refutation-no-refusal   a refusal is neither answer
 --   asked-map, asked-refutation             all is answered yes, by the form and the questions of it
 --   Taken               16 to 23 are answered yes, and the evidence is of a kind
 --   map-taken           "map taken" exactly when the evidence is a map and 17 to 20 are answered yes
 --   refutation-taken    "refutation taken" exactly when it is a refutation and 21 to 23 are
 --   evidence-taken      so 16 to 23 are answered yes exactly of one or the other
---   map-sound           a map is taken only if the second covers the first
---   refutation-sound    and a refutation only if it does not
+--   map-covers          there is a map only if the second covers the first,
+--   refutation-fails    and a refutation only if it does not
 use Prim.Native.Nat.{ℕ, _*_}
 use native.Mathlib.Omega.{arith}
 use borrow.Author.Tests.{eqb-true}
@@ -29,7 +28,6 @@ use Rattle.ale.proofs.MapExistence.{homomorphism-exists}
 use Rattle.ale.proofs.Subsumption.{subsumption-homomorphism}
 use Rattle.ale.proofs.Tests.{clash, refute}
 use Rattle.ale.specs.Homomorphism.{mapsTo}
-use Rattle.ale.specs.Interpretation.{Subsumed}
 use Rattle.ale.specs.ModelCheck.{fitsTest}
 use Rattle.ale.specs.PictureSignature.{pictureSignature}
 use Rattle.ale.specs.Table.{Table}
@@ -37,9 +35,10 @@ use Rattle.ale.specs.Tree.{Tree}
 use Rattle.picture.specs.Asked.{andThen, asked}
 use Rattle.picture.specs.declared.answer.Asked.{Asked}
 use Rattle.picture.specs.declared.answer.Asked.the-variants.{Yes}
-use Rattle.picture.specs.declared.answer.Refusal.{Refusal}
+use Rattle.meaning.proofs.Coverings.{covers-fits}
 use Rattle.meaning.proofs.Normals.{normal-readable}
 use Rattle.meaning.proofs.Pictures.{picture-known, picture-parents}
+use Rattle.meaning.specs.Covering.{Covers}
 use Rattle.meaning.specs.Meaning.{pictureTable, pictureTree}
 use Rattle.meaning.specs.NormalTable.{normalFile, normalTreeOf}
 use Rattle.countermodel.proofs.Individuals.{form-asks, ok-parents}
@@ -54,7 +53,7 @@ use Rattle.evidence.specs.Form.{mapForm}
 use Rattle.evidence.specs.Map.{mapAsked, refusalBy}
 use Rattle.evidence.specs.Taken.{MapOf, RefutationOf}
 use Rattle.evidence.specs.declared.check.Verified.{Verified}
-use Rattle.evidence.specs.declared.check.Verified.the-variants.{MapTaken, RefutationTaken, Refused}
+use Rattle.evidence.specs.declared.check.Verified.the-variants.{MapTaken, RefutationTaken}
 use Rattle.evidence.proofs.Homomorphisms.{map-yes, yes-map}
 use Rattle.evidence.proofs.NormalTables.{normal-rowTree, normal-some}
 use Rattle.evidence.proofs.Refutations.{question-fits, refutation-exactly}
@@ -80,13 +79,6 @@ pub forms-apart : (limits : Limits) (rows : ℕ) (e : List ℕ) → mapForm rows
 forms-apart limits rows e h k = omega (arith, map-tag rows e h, refutation-tag limits e k)
 
 -- ---- the kinds
-
--- no refusal is such an answer
-pub map-no-refusal : (r : Refusal) → Refused r ≡ MapTaken → ⊥
-map-no-refusal r h = let z : _≡_ {A = ℕ} 0 1 = cc in omega arith
-
-pub refutation-no-refusal : (r : Refusal) → Refused r ≡ RefutationTaken → ⊥
-refutation-no-refusal r h = let z : _≡_ {A = ℕ} 0 1 = cc in omega arith
 
 -- neither is the other
 other-taken : MapTaken ≡ RefutationTaken → ⊥
@@ -183,10 +175,9 @@ module _ (limits : Limits) (first second e : List ℕ) (bounded : Bounded limits
     ⊎-elim (λ m. map-taken .1 m .0) (λ r. refutation-taken .1 r .0),
   )
 
-  pub map-sound : Taken limits first second e MapTaken → Subsumed pictureSignature (pictureTree limits first) (pictureTree limits second)
+  pub map-covers : MapOf limits first second e → Covers limits second first
   unfolding normalTreeOf
-  map-sound h =
-      let m = map-taken .0 h in
+  map-covers m =
       let up = picture-parents limits (normalFile limits first) (normal-readable limits first (pair .first-few) bounded) in
       let uq = picture-parents limits (normalFile limits second) (normal-readable limits second (pair .second-few) bounded) in
       let sp = normal-some limits first bounded (pair .first-few) in
@@ -194,10 +185,9 @@ module _ (limits : Limits) (first second e : List ℕ) (bounded : Bounded limits
       let t = homomorphism-exists pictureSignature p q up uq sp sq .0 (imageOf e, m .maps) in
       let v = subst (λ d. T (mapsTo pictureSignature d (normalTreeOf limits first))) (normal-rowTree limits second bounded (pair .second-few))
       (subst (λ d. T (mapsTo pictureSignature (rowTree q 0) d)) (normal-rowTree limits first bounded (pair .first-few)) t) in
-      subsumption-homomorphism pictureSignature (pictureTable first) (pictureTable second)
-      (picture-known limits first (pair .first-readable)) (picture-known limits second (pair .second-readable)) (limits .depth) (limits .depth) .1 v
+      covers-fits limits first second .0
+      (subsumption-homomorphism pictureSignature (pictureTable first) (pictureTable second)
+      (picture-known limits first (pair .first-readable)) (picture-known limits second (pair .second-readable)) (limits .depth) (limits .depth) .1 v)
 
-  pub refutation-sound : Taken limits first second e RefutationTaken → Subsumed pictureSignature (pictureTree limits first) (pictureTree limits second) → ⊥
-  refutation-sound h covered =
-      let r = refutation-taken .0 h in
-      r .fails (covered (individuals e (r .some)) 0 (r .some) (r .fits))
+  pub refutation-fails : RefutationOf limits first second e → Covers limits second first → ⊥
+  refutation-fails r c = r .fails (covers-fits limits first second .1 c (individuals e (r .some)) 0 (r .some) (r .fits))

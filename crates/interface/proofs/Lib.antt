@@ -1,5 +1,6 @@
 -- The laws of the words, by call, and the starred cases.
 pub mod Words
+pub mod Shapes
 pub mod CallWords
 pub mod NormalWords
 pub mod VerifyWords

@@ -1,8 +1,7 @@
--- The answer word, the calls, what those on two pictures refuse, what each call answers, the customer's conditions, and
+-- The answer word, the calls, what each call answers, the customer's conditions, and
 -- the starred cases.
 pub mod Word
 pub mod Calls
-pub mod Refusals
 pub mod Answers
 pub mod Conditions
 pub mod StarredClaims

@@ -145,3 +145,19 @@ module _ (limits : Limits) (first second : List ℕ) where
             let roles = picture-known limits p q in
             let known = treeOf-rolesKnown pictureSignature (pictureTable p) roles (limits .depth) 0 in
             lcs-least-any (conceptOf pictureSignature u) (conceptOf-over pictureSignature u known)
+
+-- all of these
+pub common-least : (limits : Limits) → Bounded limits → (first second : List ℕ) → Acceptable limits first second →
+    lcsCount limits first second ≤ limits .rows → (n : ℕ) → n ≡ length (lcsFile limits first second) →
+    LeastCommon limits first second n (lcsFile limits first second)
+common-least limits bounded first second pair few n is = record {
+  readable = lcs-readable limits first second few bounded;
+  rows = lcs-reads limits first second few bounded;
+  sized = sym is;
+  fits = omega (arith, is, lcs-size limits first second few);
+  bytes = lcs-bytes limits first second;
+  covers-first = lcs-covers-first limits first second few bounded;
+  covers-second = lcs-covers-second limits first second few bounded;
+  least = lcs-least limits first second few bounded (pair .first-readable) (pair .second-readable);
+  least-any = lcs-least-any limits first second few bounded (pair .first-readable) (pair .second-readable);
+}

@@ -3,7 +3,6 @@
 pub mod Commons
 -- the call
 pub mod Answers
-pub mod Refusals
 -- the condition
 pub mod Conditions
 -- worked cases, computed; first those that rule out a shortcut

@@ -3,10 +3,5 @@
 pub mod EvidenceBytes
 pub mod Writers
 pub mod Lowest
--- the call
-pub mod Answers
-pub mod Refusals
--- the conditions
-pub mod Conditions
 -- worked cases, computed
 pub mod VerdictCases

@@ -3,12 +3,9 @@
 --   verdict-covers, verdict-fails    the verdict is yes exactly if the second covers the first (003, Theorem 41, and Table 1), else no
 --   map-written                      where it is yes, our file is a map of the two normal tables
 --   refutation-written               where it is no, our file is a refutation, whose individual 0 fits the first and not the second
---   yes-taken, no-taken              so the questions for evidence are all answered yes
---   yes-verify, no-verify            and the check takes it, if its work space is long enough
---   yes-form, no-refutation, no-form   the evidence is a map if the verdict is yes, else a refutation and no map
+--   yes-written, no-written          so the evidence is a map of the pair if the verdict is yes, else a refutation of it
 --   map-size, refutation-size, evidence-size      it is never longer than the length laid down
 --   map-bytes, refutation-bytes, evidence-bytes   and it is bytes
---   map-covers, refutation-fails     what the check takes, whatever it was written by: a map only if the second covers the first, a refutation only if not
 use Prim.Native.Nat.{_*_, _<_, _^_, _≤_, ℕ}
 use borrow.Author.Tests.{eq-eqb}
 use lib.Dec.{T}
@@ -41,9 +38,6 @@ use Rattle.countermodel.specs.Layout.{individualCount, individualsWithin}
 use Rattle.countermodel.specs.Model.{rowTree}
 use Rattle.countermodel.specs.Writing.{refutationFile}
 use Rattle.evidence.proofs.NormalTables.{normal-rowTree, normal-rows, normal-some}
-use Rattle.evidence.proofs.Soundness.{Taken, forms-apart, map-no-refusal, map-sound, map-taken, refutation-no-refusal, refutation-sound, refutation-taken}
-use Rattle.evidence.proofs.Verifications.{taken-verify, verify-taken}
-use Rattle.evidence.specs.Call.{verifyAnswer}
 use Rattle.evidence.specs.Form.{mapForm}
 use Rattle.evidence.specs.Taken.{MapOf, RefutationOf}
 use Rattle.homomorphism.proofs.MapFiles.{length-mapFile, mapFile-ends, mapFile-image, mapFile-says, mapFile-tag}
@@ -60,7 +54,7 @@ use Rattle.table.specs.Bounds.{Bounded}
 use Rattle.table.specs.Layout.{lengthOffset, numberSize}
 use Rattle.table.specs.Number.{Bytes, be}
 use Rattle.table.specs.declared.layout.Limits.{Limits}
-use Rattle.evidence.specs.declared.check.Verified.the-variants.{MapTaken, RefutationTaken}
+
 use Rattle.workspace.specs.Prepare.{Acceptable, workSize}
 use Rattle.subsumption.specs.Verdict.{evidenceOf, evidenceSize, mapOf, refutationOf, verdictOf}
 use Rattle.subsumption.proofs.EvidenceBytes.{bytes-map, bytes-refutation}
@@ -172,33 +166,15 @@ module _ (limits : Limits) (first second : List ℕ) (bounded : Bounded limits) 
         fails = λ f. fails (same (pictureTree limits second) .0 f);
       }
 
-  -- ---- it is taken
+  -- ---- it is evidence of its kind
 
-  pub yes-taken : verdictOf limits first second ≡ true → Taken limits first second (evidenceOf limits first second) MapTaken
+  pub yes-written : verdictOf limits first second ≡ true → MapOf limits first second (evidenceOf limits first second)
   unfolding evidenceOf
-  yes-taken e = rw e (map-taken limits first second (mapOf limits first second) bounded pair .1 (map-written e))
+  yes-written e = rw e (map-written e)
 
-  pub no-taken : verdictOf limits first second ≡ false → Taken limits first second (evidenceOf limits first second) RefutationTaken
+  pub no-written : verdictOf limits first second ≡ false → RefutationOf limits first second (evidenceOf limits first second)
   unfolding evidenceOf
-  no-taken e = rw e (refutation-taken limits first second (refutationOf limits first second) bounded pair .1 (refutation-written e))
-
-  module _ (room : ℕ) (enough : workSize limits ≤ room) where
-    pub yes-verify : verdictOf limits first second ≡ true → verifyAnswer limits first second (evidenceOf limits first second) room ≡ MapTaken
-    yes-verify e = taken-verify limits first second (evidenceOf limits first second) room enough pair MapTaken (yes-taken e)
-
-    pub no-verify : verdictOf limits first second ≡ false → verifyAnswer limits first second (evidenceOf limits first second) room ≡ RefutationTaken
-    no-verify e = taken-verify limits first second (evidenceOf limits first second) room enough pair RefutationTaken (no-taken e)
-
-  pub yes-form : verdictOf limits first second ≡ true → mapForm (q .rows) (evidenceOf limits first second) ≡ true
-  unfolding evidenceOf
-  yes-form e = rw e (map-written e .form)
-
-  pub no-refutation : verdictOf limits first second ≡ false → refutationForm limits (evidenceOf limits first second) ≡ true
-  unfolding evidenceOf
-  no-refutation e = rw e (refutation-written e .form)
-
-  pub no-form : verdictOf limits first second ≡ false → mapForm (q .rows) (evidenceOf limits first second) ≡ true → ⊥
-  no-form e h = forms-apart limits (q .rows) (evidenceOf limits first second) h (no-refutation e)
+  no-written e = rw e (refutation-written e)
 
   -- ---- its length
 
@@ -228,19 +204,3 @@ module _ (limits : Limits) (first second : List ℕ) (bounded : Bounded limits) 
   pub evidence-bytes : Bytes (evidenceOf limits first second)
   unfolding evidenceOf
   evidence-bytes = by-test (verdictOf limits first second) (λ e. rw e map-bytes) (λ e. rw e refutation-bytes)
-
--- ---- what evidence that is taken shows, for arbitrary bytes
-
-module _ (limits : Limits) (first second e : List ℕ) (room : ℕ) (bounded : Bounded limits) where
-  pub map-covers : verifyAnswer limits first second e room ≡ MapTaken →
-      ConceptSubsumed pictureSignature (conceptOf pictureSignature (pictureTree limits first)) (conceptOf pictureSignature (pictureTree limits second))
-  map-covers h =
-      let (enough, pair, same) = verify-taken limits first second e room MapTaken map-no-refusal h in
-      subsumed-concepts pictureSignature (pictureTree limits first) (pictureTree limits second) .0 (map-sound limits first second e bounded pair same)
-
-  pub refutation-fails : verifyAnswer limits first second e room ≡ RefutationTaken →
-      ConceptSubsumed pictureSignature (conceptOf pictureSignature (pictureTree limits first)) (conceptOf pictureSignature (pictureTree limits second)) → ⊥
-  refutation-fails h c =
-      let (enough, pair, same) = verify-taken limits first second e room RefutationTaken refutation-no-refusal h in
-      refutation-sound limits first second e bounded pair same
-      (subsumed-concepts pictureSignature (pictureTree limits first) (pictureTree limits second) .1 c)

@@ -6,7 +6,7 @@
 --   work-put               the work space where all is answered yes
 --   work-past, work-kept   bytes past the two halves keep their contents, whatever the answer; so does its length
 --   work-same              and its halves, where all is answered yes, do not depend on what stood there
-use Prim.Native.Nat.{ℕ, _≤_}
+use Prim.Native.Nat.{ℕ, _<_, _≤_}
 use borrow.Author.Tests.{le-leb, leb-false, leb-true, lt-leb}
 use lib.Dec.{leb}
 use lib.ListN.{getD, length, take}
@@ -23,11 +23,14 @@ use Rattle.meaning.specs.NormalTable.{normalFile}
 use Rattle.normal.specs.Half.{halfOf}
 use Rattle.workspace.specs.Lent.{lentAsked, pairWork, roomy}
 use Rattle.workspace.specs.Prepare.{Acceptable, halvesPut, workSize}
-use Rattle.workspace.specs.Refusals.{TooShort}
 use Rattle.workspace.proofs.Pairs.{PairNo, lent-decides, lent-yes}
 use Rattle.workspace.proofs.Preparations.{halves-past, halves-same, length-halves}
 
 -- ---- 1
+
+-- one of the two buffers is shorter than the length named
+abbrev pub TooShort : Limits → ℕ → ℕ → ℕ → Type 0
+TooShort limits size work result = (work < workSize limits) ⊎ (result < size)
 
 module _ (limits : Limits) (size work result : ℕ) where
   pub room-no : TooShort limits size work result → roomy limits size work result ≡ false

@@ -2,9 +2,8 @@
 --   PairNo                        the first no: 2 to 13 of the first; of the second; 14 of the first; of the second
 --   pair-decides                  all are answered yes exactly of an acceptable pair, and the first no is exactly that
 --   acceptable-yes, yes-acceptable   so of such a pair
---   pair-read                     of readable pictures 14 of both is left
---   pair-known                    every refusal is one of `Known`
---   lent-decides, lent-known      the same after 1
+--   pair-refuses, lent-refuses    every refusal is 1 of the buffer, or 2 to 14 of the first or of the second
+--   lent-decides                  the questions after 1
 --   lent-short, lent-pair, lent-yes  1 is answered no; it is answered yes; so is all of an acceptable pair
 use Prim.Native.Nat.{_≤_, ℕ}
 use native.Mathlib.Omega.{arith}
@@ -26,7 +25,6 @@ use Rattle.normal.proofs.Answers.{TooMany, merged-decides, merged-refuses}
 use Rattle.normal.specs.Call.{mergedAsked}
 use Rattle.workspace.specs.Lent.{lentAsked}
 use Rattle.workspace.specs.Prepare.{Acceptable, pairAsked}
-use Rattle.workspace.specs.Refusals.{Known}
 
 module _ (limits : Limits) (first second : List ℕ) where
   abbrev pub PairNo : Refusal → Type 0
@@ -61,28 +59,29 @@ module _ (limits : Limits) (first second : List ℕ) where
   pub yes-acceptable : pairAsked limits first second ≡ Yes → Acceptable limits first second
   yes-acceptable h = pair-decides .yes .0 h
 
-  pub pair-known : Refuses Known (pairAsked limits first second)
-  unfolding pairAsked
-  pair-known =
-      let read = readAsked limits First first in
-      let read-second = readAsked limits Second second in
-      and-refuses Known read (andThen read-second merged) (read-refuses Known limits First first (λ q a b. inr (inl (refl, a, omega arith))))
-      (and-refuses Known read-second merged (read-refuses Known limits Second second (λ q a b. inr (inr (refl, a, omega arith))))
-      (and-refuses Known (mergedAsked limits First first) (mergedAsked limits Second second)
-      (merged-refuses limits First first Known (inr (inl (refl, omega arith, omega arith))))
-      (merged-refuses limits Second second Known (inr (inr (refl, omega arith, omega arith))))))
+  -- the numbers are 2 to 14, of the first and of the second
+  module _ (P : Refusal → Type 0) (named : (q : ℕ) → 2 ≤ q → q ≤ 14 → P (refusal q First)) (named-second : (q : ℕ) → 2 ≤ q → q ≤ 14 → P (refusal q Second)) where
+    pub pair-refuses : Refuses P (pairAsked limits first second)
+    unfolding pairAsked
+    pair-refuses =
+        let read = readAsked limits First first in
+        let read-second = readAsked limits Second second in
+        and-refuses P read (andThen read-second merged) (read-refuses P limits First first (λ q a b. named q a (omega arith)))
+        (and-refuses P read-second merged (read-refuses P limits Second second (λ q a b. named-second q a (omega arith)))
+        (and-refuses P (mergedAsked limits First first) (mergedAsked limits Second second)
+        (merged-refuses limits First first P (named 14 (omega arith) (omega arith)))
+        (merged-refuses limits Second second P (named-second 14 (omega arith) (omega arith)))))
+
+    pub lent-refuses : P shortBuffer → (enough : Bool) → Refuses P (lentAsked limits enough first second)
+    unfolding lentAsked
+    lent-refuses short enough =
+        and-refuses P (roomAsked enough) (pairAsked limits first second) (asked-refuses P enough shortBuffer short) pair-refuses
 
   module _ (enough : Bool) where
     pub lent-decides : Decides (lentAsked limits enough first second) ((enough ≡ true) × Acceptable limits first second)
         (λ r. ((enough ≡ false) × (r ≡ shortBuffer)) ⊎ ((enough ≡ true) × PairNo r))
     unfolding lentAsked
     lent-decides = and-decides (roomAsked enough) (pairAsked limits first second) (asked-decides enough shortBuffer) (λ e. pair-decides)
-
-    pub lent-known : Refuses Known (lentAsked limits enough first second)
-    unfolding lentAsked
-    lent-known =
-        and-refuses Known (roomAsked enough) (pairAsked limits first second)
-        (asked-refuses Known enough shortBuffer (inl (refl, omega arith, omega arith))) pair-known
 
     pub lent-short : enough ≡ false → lentAsked limits enough first second ≡ No shortBuffer
     lent-short e = lent-decides .no shortBuffer .1 (inl (e, refl))

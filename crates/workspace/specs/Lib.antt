@@ -1,4 +1,3 @@
 -- The work space of the calls on two pictures.
 pub mod Prepare
 pub mod Lent
-pub mod Refusals
