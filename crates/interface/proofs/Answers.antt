@@ -132,7 +132,7 @@ module _ (c : Call) (lent left : Buffers) where
 
 -- ---- by cases
 
-by-order : {C : Type 0} (m n : ℕ) → (m ≤ n → C) → (n < m → C) → C
+pub by-order : {C : Type 0} (m n : ℕ) → (m ≤ n → C) → (n < m → C) → C
 by-order m n most more = by-test (leb m n) (λ e. most (leb-true m n e)) (λ e. more (leb-false m n e))
 
 by-reading : {C : Type 0} (limits : Limits) (s : List ℕ) → (Readable limits s → C) →

@@ -6,15 +6,12 @@
 --   conditions-bounded   all of them, at any limits that the code can hold
 --   conditions-hold      at paper 01's, with its numbers
 use Prim.Native.Nat.{_≤_, ℕ}
-use borrow.Author.Tests.{leb-false, leb-true}
-use lib.Dec.{leb}
 use lib.ListN.{length}
 use mathlib.Core.Bool.{false, true}
 use mathlib.Core.List.{List}
 use mathlib.Core.Logic.{_↔_, _⊎_, inl, inr, ⊎-elim}
 use mathlib.Core.Path.{_∙_, _≡_, ap, refl, sym}
 use native.Mathlib.Omega.{arith}
-use Rattle.table.proofs.Bools.{by-test}
 use Rattle.table.specs.Bounds.{Bounded, benchLimits}
 use Rattle.table.specs.declared.layout.Limits.{Limits}
 use Rattle.meaning.specs.Covering.{Covers}
@@ -30,7 +27,7 @@ use Rattle.lcs.specs.Product.{lcsCount}
 use Rattle.interface.specs.Conditions.{Condition1Words, Condition2Words, Condition3Words, Conditions, NearestWords, PaperNumbers, WritesTaken, evidenceWritten}
 use Rattle.interface.specs.Calls.{subsumesWord}
 use Rattle.interface.specs.Word.{outcome, outcomeNo, outcomeYes, value}
-use Rattle.interface.proofs.Answers.{cards-answers, lcs-answers, normalize-answers, subsumes-answers, validate-answers, verify-answers}
+use Rattle.interface.proofs.Answers.{by-order, cards-answers, lcs-answers, normalize-answers, subsumes-answers, validate-answers, verify-answers}
 use Rattle.interface.proofs.LcsWords.{lcs-exactly, lcs-least-common}
 use Rattle.interface.proofs.MostSpecificWords.{most-specific-answers, most-specific-cards}
 use Rattle.interface.proofs.SubsumesWords.{subsumes-evidence, subsumes-exactly, subsumes-map-taken, subsumes-no, subsumes-refutation-taken, subsumes-yes}
@@ -74,10 +71,8 @@ module _ (limits : Limits) (bounded : Bounded limits) where
       common = λ work result h. lcs-least-common limits first second work result bounded h;
       common-refused = λ work result enough long.
           let (given, refused) = lcs-exactly limits first second work result bounded enough long pair in
-          let count = lcsCount limits first second in
-          by-test (leb count (limits .rows))
-          (λ few. inl (given .1 (leb-true count (limits .rows) few)))
-          (λ e. let many = leb-false count (limits .rows) e in inr (refused .1 many, many));
+          by-order (lcsCount limits first second) (limits .rows) (λ few. inl (given .1 few))
+          (λ many. inr (refused .1 many, many));
     }
 
     module _ (work : ℕ) (result : List ℕ) where
