@@ -1,541 +1,328 @@
--- Condition 1: every call answers what is laid down for it (specs/Answers). The shape of a call is shown once, the
--- questions that the calls on two pictures have in common once for the three, and each call cites them.
---   filled-nothing, filled-put,
---   filled-tables                     a buffer as it was lent; with bytes put in from its first on; with both tables
---   result-answers, refusal-answers   a word of an outcome and a value is a result, of a number and an input a refusal
---   by-order, by-reading              a number is at most another, or above it; a picture is readable, or is refused
---   Some, unwritten                   an answer that the call gives; 1 to 14 leave all as it was lent
---   pair-some, lent-some              1 to 14 of two pictures
---   one-answers, two-answers          a call gives one word and leaves its buffers in one way: every answer is that one
---   unreadable-validate               2 to 13 as the plain test gives them
---   validate-answers .. verify-answers, cards-answers   the six calls
-use Prim.Native.Nat.{_+_, _-_, _<_, _≤_, ℕ}
-use borrow.Author.Tests.{le-leb, leb-false, leb-true, lt-leb}
+-- The six calls, each by its questions, its word and its buffers (Shapes), so that it answers what is laid down for it
+-- (specs/Answers; proofs/Conditions).
+--   length-tables                        both halves are as long as the work space
+--   pair-early                           1 to 14 of a call on two pictures are on its list
+--   validate-shape .. cards-shape        the six calls: their questions, words and buffers
+use Prim.Native.Nat.{_<_, _≤_, ℕ}
 use lib.Dec.{leb}
-use lib.ListN.{drop, length, length-append}
-use lib.Seq.{take-at}
+use lib.ListN.{length, length-append}
+use mathlib.Core.Bool.{Bool, false, true}
 use mathlib.Core.List.{List, [], _∷_}
 use mathlib.Core.Logic.{_⊎_, inl, inr, ⊎-elim}
-use mathlib.Core.Path.{_∙_, _≡_, refl, subst, sym}
+use mathlib.Core.Path.{_∙_, _≡_, ap, refl, subst, sym}
 use native.Mathlib.Omega.{arith}
 use Rattle.table.proofs.Bools.{by-test}
-use Rattle.table.proofs.Puts.{length-put, length-zeros, put-after}
+use Rattle.table.proofs.Puts.{length-zeros}
 use Rattle.table.specs.Bounds.{Bounded, pictureSize}
+use Rattle.table.specs.Pick.{pick}
 use Rattle.table.specs.Put.{put, zeros}
 use Rattle.table.specs.declared.layout.Limits.{Limits}
-use Rattle.picture.proofs.Readables.{readable-most, reading-number}
-use Rattle.picture.specs.Read.{answerOf, readingOf}
-use Rattle.picture.specs.Readable.{Readable}
-use Rattle.picture.specs.Refusal.{shortBuffer}
-use Rattle.picture.specs.declared.answer.Input.{Input}
-use Rattle.picture.specs.declared.answer.Input.the-variants.{Book, Buffer, Evidence, First, Second}
+use Rattle.picture.proofs.Asking.{Refuses, and-refuses, asked-refuses, read-decides, read-refuses}
+use Rattle.picture.proofs.Readables.{readable-count, readable-most}
+use Rattle.picture.specs.Asked.{kept, onAsked, readAsked, readingAsked, roomAsked}
+use Rattle.picture.specs.Read.{answerOf, answered, readingOf}
+use Rattle.picture.specs.Readable.{Readable, rowCount}
+use Rattle.picture.specs.Refusal.{refusal, shortBuffer}
+use Rattle.picture.specs.declared.answer.Asked.{Asked}
+use Rattle.picture.specs.declared.answer.Asked.the-variants.{No, Yes}
+use Rattle.picture.specs.declared.answer.Input.the-variants.{Book, Buffer, Card, Evidence, First, Second}
 use Rattle.picture.specs.declared.answer.Refusal.{Refusal}
 use Rattle.picture.specs.declared.read.Reading.{Reading}
 use Rattle.picture.specs.declared.read.Reading.the-variants as reading
 use Rattle.meaning.proofs.Normals.{normal-size}
+use Rattle.meaning.specs.Meaning.{pictureTable}
 use Rattle.meaning.specs.NormalTable.{mergedCount, normalFile}
+use Rattle.normal.proofs.Answers.{one-decides, one-refuses}
 use Rattle.normal.proofs.Halves.{length-half}
-use Rattle.workspace.proofs.Preparations.{halves-past, halves-same, length-halves}
+use Rattle.normal.specs.Call.{normalizeAnswer, normalizeResult, oneAsked}
+use Rattle.normal.specs.declared.normalize.Normalized.the-variants as normalized
+use Rattle.workspace.proofs.Lendings.{two-decides}
+use Rattle.workspace.proofs.Pairs.{lent-refuses}
+use Rattle.workspace.specs.Lent.{lentAsked, roomy}
 use Rattle.workspace.specs.Prepare.{Acceptable, halvesPut, workSize}
 use Rattle.countermodel.proofs.Individuals.{within-most}
-use Rattle.evidence.proofs.Refusals.{evidence-refusal}
-use Rattle.evidence.specs.Call.{evidenceAnswer}
+use Rattle.countermodel.specs.Individual.{refutationForm}
+use Rattle.evidence.proofs.Refusals.{evidence-refuses}
+use Rattle.evidence.proofs.Soundness.{forms-apart}
+use Rattle.evidence.proofs.Verifications.{verify-yes}
+use Rattle.evidence.proofs.Verifications as verifications
+use Rattle.evidence.specs.Call.{evidenceAsked, evidenceKind, verifyAnswer, verifyAsked, verifyLent}
+use Rattle.evidence.specs.Form.{mapForm}
 use Rattle.evidence.specs.Taken.{MapOf, RefutationOf}
-use Rattle.evidence.specs.declared.check.Verified.{Verified}
 use Rattle.evidence.specs.declared.check.Verified.the-variants as verified
-use Rattle.subsumption.proofs.Answers.{acceptable-subsumes, no-subsumes, yes-subsumes}
 use Rattle.subsumption.proofs.Writers.{evidence-size, verdict-covers, verdict-fails}
-use Rattle.subsumption.specs.Call.{subsumesAnswer}
+use Rattle.subsumption.specs.Call.{subsumesAnswer, subsumesAsked, verdictAnswer}
 use Rattle.subsumption.specs.Verdict.{evidenceOf, evidenceSize, verdictOf}
-use Rattle.subsumption.specs.declared.verdict.Verdict.{Verdict}
 use Rattle.subsumption.specs.declared.verdict.Verdict.the-variants as verdict
+use Rattle.lcs.proofs.Answers.{lcs-decides, lent-decides}
 use Rattle.lcs.proofs.Commons.{lcs-size}
+use Rattle.lcs.specs.Call.{largeAsked, lcsAnswer, lcsAsked, lcsLent, tooLarge}
 use Rattle.lcs.specs.Product.{lcsCount, lcsFile}
-use Rattle.book.proofs.Conditions.{most-specific-condition}
+use Rattle.lcs.specs.declared.common.Common.the-variants as common
+use Rattle.book.proofs.Answers.{ask-decides}
 use Rattle.book.proofs.Forms.{count-most}
+use Rattle.book.proofs.Orders.{book-refuses}
 use Rattle.book.proofs.Selections.{word-below}
-use Rattle.book.specs.Call.{AcceptableBook}
-use Rattle.book.specs.Refusals.{FirstNo, Named}
+use Rattle.book.specs.Call.{bookAsked, mostSpecificAnswer, mostSpecificAsked}
 use Rattle.book.specs.Selection.{mostSpecificCards}
-use Rattle.interface.specs.Answers.{Answers, Buffers, Call, Filled, Leaves, Line, Listed, Passes, buffers, lcsCall, mostSpecificCall, normalizeCall, questions, refusalBytes, subsumesCall, tables, the, validateCall, verifyCall}
-use Rattle.interface.specs.Calls.{LcsGives, MostSpecificGives, NormalizeGives, OneBuffer, SubsumesGives, TwoBuffers, VerifyGives, validateWord, verifyWord}
-use Rattle.interface.specs.Refusals.{Refusals}
-use Rattle.interface.specs.Word.{cardOf, outcome, outcomeNo, outcomeYes, partRange, refusalWord, refused, valueRange, valueWord, verdictWord, verifiedWord}
-use Rattle.interface.proofs.LcsWords.{lcs-common, lcs-large, lcs-refuses, lcs-short}
-use Rattle.interface.proofs.MostSpecificWords.{most-specific-given, most-specific-refuses, most-specific-short}
-use Rattle.interface.proofs.NormalWords.{normalize-many, normalize-short, normalize-unreadable, normalize-written}
-use Rattle.interface.proofs.SubsumesWords.{subsumes-decided, subsumes-refuses, subsumes-short}
-use Rattle.interface.proofs.VerifyWords.{map-verify, refutation-verify, verify-checked, verify-map, verify-refutation, verify-refuses, verify-short}
-use Rattle.interface.proofs.Words.{readable-validate, refusal-card, refusal-input, refusal-outcome, refusal-question, value-outcome, value-value}
+use Rattle.book.specs.declared.answer.Selected.the-variants as selected
+use Rattle.interface.specs.Answers.{Answers, Buffers, Call, Line, Listed, buffers, lcsCall, mostSpecificCall, normalizeCall, questions, subsumesCall, tables, the, validateCall, verifyCall}
+use Rattle.interface.specs.Calls.{LcsGives, MostSpecificGives, NormalizeGives, SubsumesGives, VerifyGives, lcsWord, mostSpecificWord, normalizeWord, subsumesWord, validateWord, verifyWord}
+use Rattle.interface.specs.Word.{cardOf, commonWord, normalizedWord, outcomeNo, outcomeYes, partRange, readWord, refusalWord, selectedWord, valueWord, verdictWord, verifiedWord}
+use Rattle.interface.proofs.Shapes.{Early, Late, Shape, is-early, is-late, then-yes, word-on}
 
--- ---- a buffer
+-- ---- lists
 
-filled-nothing : (lent : List ℕ) → Filled lent [] lent
-filled-nothing lent = record { holds = refl; past = λ i h. refl; kept = refl }
+early : (c : Call) (r : Refusal) → Listed (c .refusals) (r .number) (r .input) → r .number < 15 → cardOf (r .input) < partRange → Early c r
+early c r on l few = (record { listed = on; fits = (omega arith, few) }, is-early (r .number) (inl l))
 
-filled-put : (lent bytes : List ℕ) → length bytes ≤ length lent → Filled lent bytes (put lent 0 bytes)
+late : (c : Call) (r : Refusal) → Listed (c .refusals) (r .number) (r .input) → 15 ≤ r .number → r .number ≤ 23 → cardOf (r .input) < partRange → Late c r
+late c r on least most few = (record { listed = on; fits = (omega arith, few) }, is-late (r .number) least most)
+
+-- a buffer that is not lent
+not-lent : (a : Asked) → [] ≡ kept a (put [] 0 []) []
 unfolding put
-filled-put lent bytes fits = record {
-  holds = take-at bytes (drop (0 + length bytes) lent) (length bytes) refl;
-  past = λ i h.
-      let k : 0 + length bytes + (i - length bytes) ≡ i = omega arith in
-      rw k at (put-after lent 0 bytes (i - length bytes) (omega arith));
-  kept = length-put lent 0 bytes (omega arith);
-}
-
-filled-tables : (limits : Limits) (first second work : List ℕ) → Acceptable limits first second →
-    workSize limits ≤ length work → Filled work (tables limits first second) (halvesPut limits first second work)
-filled-tables limits first second work pair enough =
-    let lower = length-half limits (normalFile limits first) (normal-size limits first (pair .first-few)) in
-    let upper = length-half limits (normalFile limits second) (normal-size limits second (pair .second-few)) in
-    let whole : length (tables limits first second) ≡ workSize limits = simp (length-append, lower, upper) in
-    record {
-      holds = rw whole (halves-same limits first second work (pair .first-few) (pair .second-few));
-      past = λ i h. halves-past limits first second work (pair .first-few) (pair .second-few) i (omega (arith, whole));
-      kept = length-halves limits first second work (pair .first-few) (pair .second-few) enough;
-    }
-
--- ---- a call, whichever it is
-
-module _ (c : Call) (lent left : Buffers) where
-  result-answers : (o : ℕ) → Passes c lent → c .Outcome o → c .given ≤ c .most → c .given < valueRange →
-      Leaves lent (c .bytes) left → Answers c lent left (valueWord o (c .given))
-  result-answers o passes is range small leaves =
-      let told = value-outcome o (c .given) small in
-      let value-is = value-value o (c .given) small in
-      inl (record {
-        passes = passes;
-        outcome-is = subst (c .Outcome) (sym told) is;
-        value-is = value-is;
-        in-range = range;
-        word-is = omega (arith, told, value-is);
-        leaves = leaves;
-      })
-
-  refusal-answers : (number : ℕ) (i : Input) → Listed (c .refusals) number i →
-      number < partRange → cardOf i < partRange → (Passes c lent → ⊥) →
-      Leaves lent (refusalBytes number (c .bytes)) left → Answers c lent left (refused number i)
-  refusal-answers number i listed small few fails leaves =
-      let r : Refusal = record { number = number; input = i } in
-      inr (record {
-        number = number;
-        names = i;
-        listed = listed;
-        fails = fails;
-        outcome-is = refusal-outcome r small few;
-        question-is = refusal-question r small few;
-        input-is = refusal-input r small few;
-        card-is = refusal-card r small few;
-        word-is = refl;
-        leaves = leaves;
-      })
-
--- ---- by cases
-
-pub by-order : {C : Type 0} (m n : ℕ) → (m ≤ n → C) → (n < m → C) → C
-by-order m n most more = by-test (leb m n) (λ e. most (leb-true m n e)) (λ e. more (leb-false m n e))
-
-by-reading : {C : Type 0} (limits : Limits) (s : List ℕ) → (Readable limits s → C) →
-    ((q : ℕ) → readingOf limits s ≡ reading.Failed q → 2 ≤ q → q ≤ 13 → (Readable limits s → ⊥) → C) → C
-by-reading {C} limits s readable failed = by (readingOf limits s) refl
-  where
-    by : (r : Reading) → readingOf limits s ≡ r → C
-    by (reading.Rows n) e = readable (record { rows = n; reads = e })
-    by (reading.Failed q) e =
-        let asked = reading-number limits s q e in
-        failed q e (asked .least) (asked .most)
-        (λ r.
-        let other : reading.Failed q ≡ reading.Rows (r .rows) = sym e ∙ r .reads in
-        absurd (let z : _≡_ {A = ℕ} 0 1 = cc in omega arith))
-
--- G says of a word, and of what the call leaves, that the call gives them; `at` puts what it leaves in its place
-module _ {X : Type 0} (c : Call) (at : X → Buffers) (lent : X) (G : ℕ → X → Type 0) where
-  abbrev Some : Type 0
-  Some = (w : ℕ) × (left : X) × G w left × Answers c (at lent) (at left) w
-
-  -- 1 to 14
-  unwritten : (number : ℕ) (i : Input) → Listed (c .refusals) number i → number < 15 → cardOf i < partRange →
-      (Passes c (at lent) → ⊥) → G (refused number i) lent → Some
-  unwritten number i listed early few fails g = (
-    refused number i,
-    lent,
-    g,
-    refusal-answers c (at lent) (at lent) number i listed (omega arith) few fails
-        (rw (lt-leb 15 number early)
-        (record { work = filled-nothing (at lent .work); result = filled-nothing (at lent .result) })),
-  )
-
-  -- 1 to 14 of two pictures: their lines are the first three of the list
-  module _ (limits : Limits) (first second : List ℕ) (more : List Line)
-      (list : c .refusals
-      ≡ questions 1 1 (the Buffer) ∷ questions 2 14 (the First) ∷ questions 2 14 (the Second) ∷ more)
-      (acceptable : c .Passed → Acceptable limits first second) where
-    short-some : (Passes c (at lent) → ⊥) → G (refused 1 Buffer) lent → Some
-    short-some fails =
-        unwritten 1 Buffer (subst (λ l. Listed l 1 Buffer) (sym list) (inl (omega arith, omega arith, refl)))
-        (omega arith) (omega arith) fails
-
-    first-some : (q : ℕ) → 2 ≤ q → q ≤ 14 → (Acceptable limits first second → ⊥) → G (refused q First) lent → Some
-    first-some q least most fails =
-        unwritten q First (subst (λ l. Listed l q First) (sym list) (inr (inl (least, most, refl))))
-        (omega arith) (omega arith) (λ (a, b, p). fails (acceptable p))
-
-    second-some : (q : ℕ) → 2 ≤ q → q ≤ 14 → (Acceptable limits first second → ⊥) → G (refused q Second) lent → Some
-    second-some q least most fails =
-        unwritten q Second (subst (λ l. Listed l q Second) (sym list) (inr (inr (inl (least, most, refl)))))
-        (omega arith) (omega arith) (λ (a, b, p). fails (acceptable p))
-
-    pair-some : Refusals limits first second (λ w. G w lent) → (Acceptable limits first second → Some) → Some
-    pair-some refuses passed =
-        by-reading limits first
-        (λ r. by-reading limits second
-        (λ t. by-order (mergedCount limits first) (limits .rows)
-        (λ few. by-order (mergedCount limits second) (limits .rows)
-        (λ low. passed (record { first-readable = r; second-readable = t; first-few = few; second-few = low }))
-        (λ many. second-some 14 (omega arith) (omega arith) (λ pair. omega (arith, pair .second-few))
-        (refuses .second-many r t few many)))
-        (λ many. first-some 14 (omega arith) (omega arith) (λ pair. omega (arith, pair .first-few))
-        (refuses .first-many r t many)))
-        (λ q e least most unreadable. second-some q least (omega arith) (λ pair. unreadable (pair .second-readable))
-        (refuses .second-unreadable r q e)))
-        (λ q e least most unreadable. first-some q least (omega arith) (λ pair. unreadable (pair .first-readable))
-        (refuses .first-unreadable q e))
-
-    -- and 1 before them
-    lent-some :
-        ((length (at lent .work) < c .work-size) ⊎ (length (at lent .result) < c .result-size) →
-        G (refused 1 Buffer) lent) →
-        (c .work-size ≤ length (at lent .work) → c .result-size ≤ length (at lent .result) →
-        Refusals limits first second (λ w. G w lent)) →
-        (c .work-size ≤ length (at lent .work) → c .result-size ≤ length (at lent .result) →
-        Acceptable limits first second → Some) →
-        Some
-    lent-some short refuses passed =
-        by-order (c .work-size) (length (at lent .work))
-        (λ enough. by-order (c .result-size) (length (at lent .result))
-        (λ long. pair-some (refuses enough long) (passed enough long))
-        (λ less. short-some (λ (a, b, p). omega (arith, b)) (short (inr less))))
-        (λ less. short-some (λ (a, b, p). omega (arith, a)) (short (inl less)))
-
--- a call gives one word, and leaves its buffers in one way
-module _ (wordOf : ℕ → ℕ) (leftOf : List ℕ → List ℕ) (c : Call) (at : List ℕ → Buffers) (buffer : List ℕ) where
-  one-answers : Some c at buffer (OneBuffer wordOf leftOf buffer) →
-      (word : ℕ) (left : List ℕ) → OneBuffer wordOf leftOf buffer word left → Answers c (at buffer) (at left) word
-  one-answers (w, l, known, p) word left gives =
-      subst (λ x. Answers c (at buffer) (at x) word) (known .buffer-is ∙ sym (gives .buffer-is))
-      (subst (λ x. Answers c (at buffer) (at l) x) (known .word-is ∙ sym (gives .word-is)) p)
-
-module _ (wordOf : ℕ → ℕ → ℕ) (workOf : List ℕ → ℕ → List ℕ) (resultOf : ℕ → List ℕ → List ℕ) (c : Call)
-    (lent : Buffers) where
-  abbrev Two : ℕ → Buffers → Type 0
-  Two w left = TwoBuffers wordOf workOf resultOf (lent .work) (lent .result) w (left .work) (left .result)
-
-  two-answers : Some c (λ b. b) lent Two → (word : ℕ) (left : Buffers) → Two word left → Answers c lent left word
-  two-answers (w, l, known, p) word left gives =
-      subst (λ x. Answers c lent (buffers (left .work) x) word) (known .result-is ∙ sym (gives .result-is))
-      (subst (λ x. Answers c lent (buffers x (l .result)) word) (known .work-is ∙ sym (gives .work-is))
-      (subst (λ x. Answers c lent l x) (known .word-is ∙ sym (gives .word-is)) p))
-
--- a work space and no result buffer
-abbrev onWork : List ℕ → Buffers
-onWork l = buffers l []
+not-lent Yes = refl
+not-lent (No r) = refl
 
 -- ---- one picture
 
-unreadable-validate : (limits : Limits) (s : List ℕ) (q : ℕ) → readingOf limits s ≡ reading.Failed q →
-    validateWord limits s ≡ refused q First
-unfolding validateWord answerOf
-unreadable-validate limits s q e = rw e
+validate-word : (limits : Limits) (s : List ℕ) → validateWord limits s ≡ onAsked refusalWord (readAsked limits First s) (valueWord outcomeYes (rowCount s))
+unfolding validateWord answerOf readAsked
+validate-word limits s = by (readingOf limits s) refl
+  where
+    by : (t : Reading) → readingOf limits s ≡ t →
+        readWord (answered First t) ≡ onAsked refusalWord (readingAsked First t) (valueWord outcomeYes (rowCount s))
+    by (reading.Rows n) e = ap (valueWord outcomeYes) (sym (readable-count limits s (record { rows = n; reads = e })))
+    by (reading.Failed q) e = refl
 
-pub validate-answers : (limits : Limits) → Bounded limits → (picture : List ℕ) →
-    Answers (validateCall limits picture) (buffers [] []) (buffers [] []) (validateWord limits picture)
-validate-answers limits bounded picture =
-    let c : Call = validateCall limits picture in
-    let none : Buffers = buffers [] [] in
-    let nothing : Leaves none none none = record { work = filled-nothing []; result = filled-nothing [] } in
-    by-reading limits picture
-    (λ readable.
-    let most = readable-most limits picture readable in
-    subst (λ w. Answers c none none w) (sym (readable-validate limits picture readable))
-    (result-answers c none none outcomeYes (omega arith, omega arith, readable) refl most (omega (arith, most))
-    nothing))
-    (λ q e least most unreadable.
-    subst (λ w. Answers c none none w) (sym (unreadable-validate limits picture q e))
-    (refusal-answers c none none q First (inl (least, most, refl)) (omega arith) (omega arith)
-    (λ (a, b, p). unreadable p) (rw (lt-leb 15 q (omega arith)) nothing)))
+pub validate-shape : (limits : Limits) → Bounded limits → (picture : List ℕ) →
+    Shape (validateCall limits picture) (buffers [] []) (buffers [] []) (validateWord limits picture)
+validate-shape limits bounded picture =
+    let asks = readAsked limits First picture in
+    record {
+      before = asks;
+      after = Yes;
+      all = asks;
+      all-is = then-yes asks;
+      early = read-refuses (Early (validateCall limits picture)) limits First picture
+          (λ q a b. early (validateCall limits picture) (refusal q First) (inl (a, b, refl)) (omega arith) (omega arith));
+      late = tt;
+      passes = (
+        λ e. (omega arith, omega arith, read-decides limits First picture .yes .0 e),
+        λ (a, b, readable). read-decides limits First picture .yes .1 readable,
+      );
+      outcome-of = outcomeYes;
+      outcome-is = λ p. refl;
+      in-range = λ (a, b, readable). readable-most limits picture readable;
+      small = λ (a, b, readable). omega (arith, readable-most limits picture readable, bounded .0);
+      word-by = validate-word limits picture;
+      work-fits = λ e. omega arith;
+      work-by = not-lent asks;
+      result-fits = λ p. omega arith;
+      result-by = not-lent asks;
+    }
 
-module _ (limits : Limits) (bounded : Bounded limits) (picture result : List ℕ) where
-  abbrev SomeNormal : Type 0
-  SomeNormal = Some (normalizeCall limits picture) (buffers []) result (NormalizeGives limits picture result)
-
-  -- 1, and 2 to 14, of the first
-  normal-no : (number : ℕ) (i : Input) → Listed (normalizeCall limits picture .refusals) number i → number < 15 →
-      cardOf i < partRange → (Passes (normalizeCall limits picture) (buffers [] result) → ⊥) →
-      NormalizeGives limits picture result (refused number i) result → SomeNormal
-  normal-no = unwritten (normalizeCall limits picture) (buffers []) result (NormalizeGives limits picture result)
-
-  normal-yes : pictureSize limits ≤ length result → Readable limits picture →
-      mergedCount limits picture ≤ limits .rows → SomeNormal
-  normal-yes enough readable few =
-      let table = normalFile limits picture in
-      let size : length table ≤ pictureSize limits = normal-size limits picture few in (
-        valueWord outcomeYes (length table),
-        put result 0 table,
-        normalize-written limits picture result enough readable few,
-        result-answers (normalizeCall limits picture) (buffers [] result) (buffers [] (put result 0 table)) outcomeYes
-            (omega arith, enough, (readable, few)) refl size (omega (arith, size))
-            (record { work = filled-nothing []; result = filled-put result table (omega (arith, size)) }),
-      )
-
-  pub normalize-answers : (word : ℕ) (left : List ℕ) → NormalizeGives limits picture result word left →
-      Answers (normalizeCall limits picture) (buffers [] result) (buffers [] left) word
-  normalize-answers =
-      one-answers _ _ (normalizeCall limits picture) (buffers []) result
-      (by-order (pictureSize limits) (length result)
-      (λ enough. by-reading limits picture
-      (λ readable. by-order (mergedCount limits picture) (limits .rows)
-      (normal-yes enough readable)
-      (λ many. normal-no 14 First (inr (inl (omega arith, omega arith, refl))) (omega arith) (omega arith)
-      (λ (a, b, (r, few)). omega (arith, few)) (normalize-many limits picture result enough readable many)))
-      (λ q e least most unreadable. normal-no q First (inr (inl (least, omega arith, refl))) (omega arith) (omega arith)
-      (λ (a, b, (r, few)). unreadable r) (normalize-unreadable limits picture result enough q e)))
-      (λ short. normal-no 1 Buffer (inl (omega arith, omega arith, refl)) (omega arith) (omega arith)
-      (λ (a, b, p). omega (arith, b)) (normalize-short limits picture result short)))
+pub normalize-shape : (limits : Limits) → Bounded limits → (picture result : List ℕ) (word : ℕ) (left : List ℕ) → NormalizeGives limits picture result word left →
+    Shape (normalizeCall limits picture) (buffers [] result) (buffers [] left) word
+unfolding normalizeWord normalizeAnswer normalizeResult
+normalize-shape limits bounded picture result word left gives =
+    let asks = oneAsked limits picture (length result) in
+    let decides = one-decides limits picture (length result) in
+    let c : Call = normalizeCall limits picture in
+    record {
+      before = asks;
+      after = Yes;
+      all = asks;
+      all-is = then-yes asks;
+      early = one-refuses limits picture (length result) (Early c)
+          (early c shortBuffer (inl (omega arith, omega arith, refl)) (omega arith) (omega arith))
+          (λ q a b. early c (refusal q First) (inr (inl (a, b, refl))) (omega arith) (omega arith));
+      late = tt;
+      passes = (
+        λ e. let a = decides .yes .0 e in (omega arith, a .enough, (a .readable, a .few)),
+        λ (none, enough, (readable, few)). decides .yes .1 (record { enough = enough; readable = readable; few = few }),
+      );
+      outcome-of = outcomeYes;
+      outcome-is = λ p. refl;
+      in-range = λ (none, enough, (readable, few)). normal-size limits picture few;
+      small = λ (none, enough, (readable, few)). omega (arith, normal-size limits picture few, bounded .0);
+      word-by = gives .word-is ∙ word-on normalizedWord normalized.Refused (λ r. refl) asks (normalized.Length (length (normalFile limits picture))) _ refl;
+      work-fits = λ e. omega arith;
+      work-by = not-lent asks;
+      result-fits = λ (none, enough, (readable, few)). omega (arith, normal-size limits picture few);
+      result-by = gives .buffer-is;
+    }
 
 -- ---- two pictures
 
-module _ (limits : Limits) (bounded : Bounded limits) (first second work result : List ℕ) where
-  -- the verdict, once 1 to 14 are answered yes
-  module _ (enough : workSize limits ≤ length work) (long : evidenceSize limits ≤ length result)
-      (pair : Acceptable limits first second) where
-    abbrev decidedLeft : Buffers
-    decidedLeft = buffers (halvesPut limits first second work) (put result 0 (evidenceOf limits first second))
+pub length-tables : (limits : Limits) (first second : List ℕ) → Acceptable limits first second → length (tables limits first second) ≡ workSize limits
+length-tables limits first second pair =
+    let lower = length-half limits (normalFile limits first) (normal-size limits first (pair .first-few)) in
+    let upper = length-half limits (normalFile limits second) (normal-size limits second (pair .second-few)) in
+    simp (length-append, lower, upper)
 
-    decided-gives : (v : Verdict) → subsumesAnswer limits first second (length work) (length result) ≡ v →
-        SubsumesGives limits first second work result (verdictWord v) (decidedLeft .work) (decidedLeft .result)
-    decided-gives v e =
-        subst
-        (λ x. SubsumesGives limits first second work result (verdictWord x) (decidedLeft .work) (decidedLeft .result))
-        (sym (acceptable-subsumes limits first second (length work) (length result) enough long pair) ∙ e)
-        (subsumes-decided limits first second work result enough long pair)
+-- their lines are the first three of the list
+pair-early : (c : Call) (more : List Line) →
+    c .refusals ≡ questions 1 1 (the Buffer) ∷ questions 2 14 (the First) ∷ questions 2 14 (the Second) ∷ more →
+    (limits : Limits) (enough : Bool) (first second : List ℕ) → Refuses (Early c) (lentAsked limits enough first second)
+pair-early c more list limits enough first second =
+    lent-refuses limits first second (Early c)
+    (λ q a b. early c (refusal q First) (subst (λ l. Listed l q First) (sym list) (inr (inl (a, b, refl)))) (omega arith) (omega arith))
+    (λ q a b. early c (refusal q Second) (subst (λ l. Listed l q Second) (sym list) (inr (inr (inl (a, b, refl))))) (omega arith) (omega arith))
+    (early c shortBuffer (subst (λ l. Listed l 1 Buffer) (sym list) (inl (omega arith, omega arith, refl))) (omega arith) (omega arith)) enough
 
-    decided-answers : (o : ℕ) → subsumesCall limits first second .Outcome o →
-        Answers (subsumesCall limits first second) (buffers work result) decidedLeft
-        (valueWord o (length (evidenceOf limits first second)))
-    decided-answers o is =
-        let size = evidence-size limits first second bounded pair in
-        result-answers (subsumesCall limits first second) (buffers work result) decidedLeft o (enough, long, pair) is
-        size (omega (arith, size, within-most limits bounded))
-        (record {
-          work = filled-tables limits first second work pair enough;
-          result = filled-put result (evidenceOf limits first second) (omega (arith, size));
-        })
+-- yes or no, and so the word
+verdict-by : (v : Bool) (n : ℕ) → verdictWord (pick v (verdict.Yes n) (verdict.No n)) ≡ valueWord (pick v outcomeYes outcomeNo) n
+verdict-by true n = refl
+verdict-by false n = refl
 
-    decided-some : Some (subsumesCall limits first second) (λ b. b) (buffers work result)
-        (λ w left. SubsumesGives limits first second work result w (left .work) (left .result))
-    decided-some =
-        let (a, b, n) : ℕ × ℕ × ℕ = (length work, length result, length (evidenceOf limits first second)) in
-        by-test (verdictOf limits first second)
-        (λ e. (
-          valueWord outcomeYes n,
-          decidedLeft,
-          decided-gives (verdict.Yes n) (yes-subsumes limits first second a b enough long pair e),
-          decided-answers outcomeYes (inl (refl, verdict-covers limits first second bounded pair .1 e)),
-        ))
-        (λ e. (
-          valueWord outcomeNo n,
-          decidedLeft,
-          decided-gives (verdict.No n) (no-subsumes limits first second a b enough long pair e),
-          decided-answers outcomeNo (inr (refl, verdict-fails limits first second bounded pair .0 e)),
-        ))
+kind-by : (b : Bool) → verifiedWord (pick b verified.MapTaken verified.RefutationTaken) ≡ valueWord (pick b outcomeYes outcomeNo) 0
+kind-by true = refl
+kind-by false = refl
 
-  pub subsumes-answers : (word : ℕ) (workLeft left : List ℕ) →
-      SubsumesGives limits first second work result word workLeft left →
-      Answers (subsumesCall limits first second) (buffers work result) (buffers workLeft left) word
-  subsumes-answers word workLeft left =
-      two-answers _ _ _ (subsumesCall limits first second) (buffers work result)
-      (lent-some _ _ _ _ limits first second [] refl (λ p. p) (subsumes-short limits first second work result)
-      (subsumes-refuses limits first second work result) decided-some)
-      word (buffers workLeft left)
+module _ (limits : Limits) (bounded : Bounded limits) (first second work result : List ℕ) (word : ℕ) (workLeft left : List ℕ) where
+  pub subsumes-shape : SubsumesGives limits first second work result word workLeft left →
+      Shape (subsumesCall limits first second) (buffers work result) (buffers workLeft left) word
+  unfolding subsumesWord subsumesAnswer verdictAnswer halvesPut
+  subsumes-shape gives =
+      let asks = subsumesAsked limits first second (length work) (length result) in
+      let decides = two-decides limits first second (evidenceSize limits) (length work) (length result) in
+      let size = evidence-size limits first second bounded in
+      record {
+        before = asks;
+        after = Yes;
+        all = asks;
+        all-is = then-yes asks;
+        early = pair-early (subsumesCall limits first second) [] refl limits (roomy limits (evidenceSize limits) (length work) (length result)) first second;
+        late = tt;
+        passes = (
+          λ e. let l = decides .yes .0 e in (l .work-long, l .result-long, l .pair),
+          λ (enough, long, pair). decides .yes .1 (record { work-long = enough; result-long = long; pair = pair }),
+        );
+        outcome-of = pick (verdictOf limits first second) outcomeYes outcomeNo;
+        outcome-is = λ (enough, long, pair). by-test (verdictOf limits first second)
+            (λ e. inl (ap (λ v. pick v outcomeYes outcomeNo) e, verdict-covers limits first second bounded pair .1 e))
+            (λ e. inr (ap (λ v. pick v outcomeYes outcomeNo) e, verdict-fails limits first second bounded pair .0 e));
+        in-range = λ (enough, long, pair). size pair;
+        small = λ (enough, long, pair). omega (arith, size pair, within-most limits bounded);
+        word-by = gives .word-is
+            ∙ word-on verdictWord verdict.Refused (λ r. refl) asks (verdictAnswer limits first second) _
+            (verdict-by (verdictOf limits first second) (length (evidenceOf limits first second)));
+        work-fits = λ e. let l = decides .yes .0 e in omega (arith, l .work-long, length-tables limits first second (l .pair));
+        work-by = gives .work-is;
+        result-fits = λ (enough, long, pair). omega (arith, size pair);
+        result-by = gives .result-is;
+      }
 
-  -- 15, and the common picture
-  module _ (enough : workSize limits ≤ length work) (long : pictureSize limits ≤ length result)
-      (pair : Acceptable limits first second) where
-    common-some : lcsCount limits first second ≤ limits .rows →
-        Some (lcsCall limits first second) (λ b. b) (buffers work result)
-        (λ w left. LcsGives limits first second work result w (left .work) (left .result))
-    common-some few =
-        let size = lcs-size limits first second few in (
-          valueWord outcomeYes (length (lcsFile limits first second)),
-          buffers (halvesPut limits first second work) (put result 0 (lcsFile limits first second)),
-          lcs-common limits first second work result enough long pair few,
-          result-answers (lcsCall limits first second) (buffers work result) _ outcomeYes (enough, long, (pair, few))
-              refl size (omega (arith, size))
-              (record {
-                work = filled-tables limits first second work pair enough;
-                result = filled-put result (lcsFile limits first second) (omega (arith, size));
-              }),
-        )
+  pub lcs-shape : LcsGives limits first second work result word workLeft left →
+      Shape (lcsCall limits first second) (buffers work result) (buffers workLeft left) word
+  unfolding lcsWord lcsAnswer halvesPut
+  lcs-shape gives =
+      let asks = lcsAsked limits first second (length work) (length result) in
+      let decides = lcs-decides limits first second (length work) (length result) in
+      let c : Call = lcsCall limits first second in
+      record {
+        before = lcsLent limits first second (length work) (length result);
+        after = largeAsked limits first second;
+        all = asks;
+        all-is = refl;
+        early = pair-early c (questions 15 15 (the Second) ∷ []) refl limits (roomy limits (pictureSize limits) (length work) (length result)) first second;
+        late = asked-refuses (Late c) (leb (lcsCount limits first second) (limits .rows)) tooLarge
+            (late c tooLarge (inr (inr (inr (inl (omega arith, omega arith, refl))))) (omega arith) (omega arith) (omega arith));
+        passes = (
+          λ e. let (l, few) = decides .yes .0 e in (l .work-long, l .result-long, (l .pair, few)),
+          λ (enough, long, (pair, few)). decides .yes .1 (record { work-long = enough; result-long = long; pair = pair }, few),
+        );
+        outcome-of = outcomeYes;
+        outcome-is = λ p. refl;
+        in-range = λ (enough, long, (pair, few)). lcs-size limits first second few;
+        small = λ (enough, long, (pair, few)). omega (arith, lcs-size limits first second few, bounded .0);
+        word-by = gives .word-is ∙ word-on commonWord common.Refused (λ r. refl) asks (common.Length (length (lcsFile limits first second))) _ refl;
+        work-fits = λ e.
+            let l = lent-decides limits first second (length work) (length result) .yes .0 e in
+            omega (arith, l .work-long, length-tables limits first second (l .pair));
+        work-by = gives .work-is;
+        result-fits = λ (enough, long, (pair, few)). omega (arith, lcs-size limits first second few);
+        result-by = gives .result-is;
+      }
 
-    large-some : limits .rows < lcsCount limits first second →
-        Some (lcsCall limits first second) (λ b. b) (buffers work result)
-        (λ w left. LcsGives limits first second work result w (left .work) (left .result))
-    large-some many = (
-      refused 15 Second,
-      buffers (halvesPut limits first second work) result,
-      lcs-large limits first second work result enough long pair many,
-      refusal-answers (lcsCall limits first second) (buffers work result) _ 15 Second
-          (inr (inr (inr (inl (omega arith, omega arith, refl))))) (omega arith) (omega arith)
-          (λ (a, b, (p, few)). omega (arith, few))
-          (record { work = filled-tables limits first second work pair enough; result = filled-nothing result }),
-    )
-
-  pub lcs-answers : (word : ℕ) (workLeft left : List ℕ) →
-      LcsGives limits first second work result word workLeft left →
-      Answers (lcsCall limits first second) (buffers work result) (buffers workLeft left) word
-  lcs-answers word workLeft left =
-      two-answers _ _ _ (lcsCall limits first second) (buffers work result)
-      (lent-some _ _ _ _ limits first second (questions 15 15 (the Second) ∷ []) refl (λ p. p .0)
-      (lcs-short limits first second work result) (lcs-refuses limits first second work result)
-      (λ enough long pair. by-order (lcsCount limits first second) (limits .rows) (common-some enough long pair)
-      (large-some enough long pair)))
-      word (buffers workLeft left)
-
-module _ (limits : Limits) (bounded : Bounded limits) (first second evidence work : List ℕ) where
-  abbrev checkedLeft : List ℕ
-  checkedLeft = halvesPut limits first second work
-
-  -- 16 to 23, and what is taken
-  module _ (enough : workSize limits ≤ length work) (pair : Acceptable limits first second) where
-    checked-leaves : Leaves (onWork work) (buffers (tables limits first second) []) (onWork checkedLeft)
-    checked-leaves = record { work = filled-tables limits first second work pair enough; result = filled-nothing [] }
-
-    checked-gives : (v : Verified) → evidenceAnswer limits first second evidence ≡ v →
-        VerifyGives limits first second evidence work (verifiedWord v) checkedLeft
-    checked-gives v e =
-        subst (λ x. VerifyGives limits first second evidence work (verifiedWord x) checkedLeft) e
-        (verify-checked limits first second evidence work enough pair)
-
-    taken-answers : (o : ℕ) → verifyCall limits first second evidence .Outcome o →
-        MapOf limits first second evidence ⊎ RefutationOf limits first second evidence →
-        Answers (verifyCall limits first second evidence) (onWork work) (onWork checkedLeft) (valueWord o 0)
-    taken-answers o is taken =
-        result-answers (verifyCall limits first second evidence) (onWork work) (onWork checkedLeft) o
-        (enough, omega arith, (pair, taken)) is (omega arith) (omega arith) checked-leaves
-
-    none-taken : (w : ℕ) → w ≡ verifyWord limits first second evidence (length work) → outcome w ≡ 0 →
-        MapOf limits first second evidence ⊎ RefutationOf limits first second evidence → ⊥
-    none-taken w is zero (inl m) =
-        omega (arith, is, zero, map-verify limits first second evidence (length work) bounded enough pair m)
-    none-taken w is zero (inr m) =
-        omega (arith, is, zero, refutation-verify limits first second evidence (length work) bounded enough pair m)
-
-    checked-some : (v : Verified) → evidenceAnswer limits first second evidence ≡ v →
-        Some (verifyCall limits first second evidence) onWork work (VerifyGives limits first second evidence work)
-    checked-some verified.MapTaken e =
-        let gives = checked-gives verified.MapTaken e in
-        let told : outcome (verifyWord limits first second evidence (length work)) ≡ outcomeYes =
-        omega (arith, gives .word-is) in
-        let (room, accepted, map) = verify-map limits first second evidence (length work) bounded told in
-        (valueWord outcomeYes 0, checkedLeft, gives, taken-answers outcomeYes (inl (refl, map)) (inl map))
-    checked-some verified.RefutationTaken e =
-        let gives = checked-gives verified.RefutationTaken e in
-        let told : outcome (verifyWord limits first second evidence (length work)) ≡ outcomeNo =
-        omega (arith, gives .word-is) in
-        let (room, accepted, refutes) = verify-refutation limits first second evidence (length work) bounded told in
-        (valueWord outcomeNo 0, checkedLeft, gives, taken-answers outcomeNo (inr (refl, refutes)) (inr refutes))
-    checked-some (verified.Refused r) e =
-        let gives = checked-gives (verified.Refused r) e in
-        let (is, least, most) = evidence-refusal limits first second evidence r e in
-        let few : cardOf (r .input) < partRange = rw is (omega arith) in
-        let zero = refusal-outcome r (omega arith) few in (
-          refusalWord r,
-          checkedLeft,
-          gives,
-          refusal-answers (verifyCall limits first second evidence) (onWork work) (onWork checkedLeft)
-              (r .number) (r .input) (inr (inr (inr (inl (least, most, is))))) (omega arith) few
-              (λ (a, b, (p, taken)). none-taken (refusalWord r) (gives .word-is) zero taken)
-              (rw (le-leb 15 (r .number) (omega arith), le-leb (r .number) 23 most) checked-leaves),
-        )
-
-  pub verify-answers : (word : ℕ) (workLeft : List ℕ) →
-      VerifyGives limits first second evidence work word workLeft →
-      Answers (verifyCall limits first second evidence) (buffers work []) (buffers workLeft []) word
-  verify-answers =
-      one-answers _ _ (verifyCall limits first second evidence) onWork work
-      (lent-some _ _ _ _ limits first second (questions 16 23 (the Evidence) ∷ []) refl (λ p. p .0)
-      (λ short. ⊎-elim (verify-short limits first second evidence work) (λ z. absurd (omega arith)) short)
-      (λ enough long. verify-refuses limits first second evidence work enough)
-      (λ enough long pair. checked-some enough pair (evidenceAnswer limits first second evidence) refl))
+module _ (limits : Limits) (bounded : Bounded limits) (first second evidence work : List ℕ) (word : ℕ) (left : List ℕ) where
+  pub verify-shape : VerifyGives limits first second evidence work word left →
+      Shape (verifyCall limits first second evidence) (buffers work []) (buffers left []) word
+  unfolding verifyWord verifyAnswer halvesPut
+  verify-shape gives =
+      let asks = verifyAsked limits first second evidence (length work) in
+      let decides = verify-yes limits first second evidence (length work) bounded in
+      let rows = (pictureTable (normalFile limits second)) .rows in
+      let c : Call = verifyCall limits first second evidence in
+      record {
+        before = verifyLent limits first second (length work);
+        after = evidenceAsked limits first second evidence;
+        all = asks;
+        all-is = refl;
+        early = pair-early c (questions 16 23 (the Evidence) ∷ []) refl limits (leb (workSize limits) (length work)) first second;
+        late = evidence-refuses (Late c)
+            (λ n a b. late c (refusal n Evidence) (inr (inr (inr (inl (a, b, refl))))) (omega arith) b (omega arith))
+            limits first second evidence;
+        passes = (
+          λ e. let (enough, pair, taken) = decides .0 e in (enough, omega arith, (pair, taken)),
+          λ (enough, none, (pair, taken)). decides .1 (enough, pair, taken),
+        );
+        outcome-of = pick (mapForm rows evidence) outcomeYes outcomeNo;
+        outcome-is = λ (enough, none, (pair, taken)). ⊎-elim
+            (λ m. inl (ap (λ b. pick b outcomeYes outcomeNo) (m .form), m))
+            (λ r. inr (ap (λ b. pick b outcomeYes outcomeNo) (no-map rows (r .form)), r)) taken;
+        in-range = λ p. omega arith;
+        small = λ p. omega arith;
+        word-by = gives .word-is
+            ∙ word-on verifiedWord verified.Refused (λ r. refl) asks (evidenceKind limits second evidence) _ (kind-by (mapForm rows evidence));
+        work-fits = λ e.
+            let (enough, pair) = verifications.lent-decides limits first second (length work) .yes .0 e in
+            omega (arith, enough, length-tables limits first second pair);
+        work-by = gives .buffer-is;
+        result-fits = λ p. omega arith;
+        result-by = not-lent asks;
+      }
+    where
+      no-map : (rows : ℕ) → refutationForm limits evidence ≡ true → mapForm rows evidence ≡ false
+      no-map rows form = by-test (mapForm rows evidence) (λ map. absurd (forms-apart limits rows evidence map form)) (λ none. none)
 
 -- ---- a case and a book
 
-module _ (limits : Limits) (case book work : List ℕ) where
-  abbrev cardsCall : Call
-  cardsCall = mostSpecificCall limits case book
-
-  abbrev SomeCards : Type 0
-  SomeCards = Some cardsCall onWork work (MostSpecificGives limits case book work)
-
-  given-some : workSize limits ≤ length work → AcceptableBook limits case book → SomeCards
-  given-some enough acceptable =
-      let below = word-below limits case book in (
-        valueWord outcomeYes (mostSpecificCards limits case book),
-        put work 0 (zeros (workSize limits)),
-        most-specific-given limits case book work enough acceptable,
-        result-answers cardsCall (onWork work) (onWork (put work 0 (zeros (workSize limits)))) outcomeYes
-            (enough, omega arith, acceptable) refl (omega (arith, below)) (omega (arith, below))
-            (record {
-              work = filled-put work (zeros (workSize limits)) (omega (arith, length-zeros (workSize limits)));
-              result = filled-nothing [];
-            }),
-      )
-
-  -- 1, 2 to 14 and 24
-  module _ (r : Refusal) (gives : MostSpecificGives limits case book work (refusalWord r) work)
-      (fails : Passes cardsCall (onWork work) → ⊥) where
-    early-some : Listed (cardsCall .refusals) (r .number) (r .input) → r .number < 15 →
-        cardOf (r .input) < partRange → SomeCards
-    early-some listed early few =
-        unwritten cardsCall onWork work (MostSpecificGives limits case book work) (r .number) (r .input) listed early
-        few fails gives
-
-    late-some : r .number ≡ 24 → r .input ≡ Book → SomeCards
-    late-some last is = (
-      refusalWord r,
-      work,
-      gives,
-      refusal-answers cardsCall (onWork work) (onWork work) (r .number) (r .input)
-          (inr (inr (inl (omega arith, omega arith, is)))) (omega arith) (rw is (omega arith)) fails
-          (rw last (record { work = filled-nothing work; result = filled-nothing [] })),
-    )
-
-    named-some : Named book r → SomeCards
-    named-some (inl (is, least, most)) = early-some (inl (least, most, is)) (omega arith) (rw is (omega arith))
-    named-some (inr (inl (is, least, most))) =
-        early-some (inr (inl (least, most, is))) (omega arith) (rw is (omega arith))
-    named-some (inr (inr (inl (is, least, most)))) = late-some (omega arith) is
-    named-some (inr (inr (inr (k, l, (is, least, most))))) =
-        early-some (inr (inr (inr (inl (least, most, (k, l, is)))))) (omega arith)
-        (rw is (omega (arith, count-most book)))
-
-  refused-gives : (r : Refusal) →
-      ((length work < workSize limits) × (r ≡ shortBuffer))
-      ⊎ ((workSize limits ≤ length work) × FirstNo limits case book r) →
-      MostSpecificGives limits case book work (refusalWord r) work
-  refused-gives r (inl (short, is)) = rw is (most-specific-short limits case book work short)
-  refused-gives r (inr (enough, first)) = most-specific-refuses limits case book work enough r first
-
-  pub cards-answers : (word : ℕ) (workLeft : List ℕ) → MostSpecificGives limits case book work word workLeft →
-      Answers (mostSpecificCall limits case book) (buffers work []) (buffers workLeft []) word
-  cards-answers =
-      let room = length work in
-      let holds = most-specific-condition limits case book in
-      one-answers _ _ cardsCall onWork work
-      (⊎-elim
-      (λ given. let (enough, acceptable) = holds .given-exactly room .0 given in given-some enough acceptable)
-      (λ (r, e). named-some r (refused-gives r (holds .refused-exactly room r .0 e))
-      (λ (enough, b, acceptable).
-      ⊎-elim (λ short. omega (arith, enough)) (λ u. u acceptable) (holds .refused-when room .0 (r, e)))
-      (holds .refused-only room r e))
-      (holds .one room))
+module _ (limits : Limits) (case book work : List ℕ) (word : ℕ) (left : List ℕ) where
+  pub cards-shape : MostSpecificGives limits case book work word left →
+      Shape (mostSpecificCall limits case book) (buffers work []) (buffers left []) word
+  unfolding mostSpecificWord mostSpecificAnswer
+  cards-shape gives =
+      let asks = mostSpecificAsked limits case book (length work) in
+      let decides = ask-decides limits case book (length work) in
+      let c : Call = mostSpecificCall limits case book in
+      let below = word-below limits case book in
+      record {
+        before = asks;
+        after = Yes;
+        all = asks;
+        all-is = then-yes asks;
+        early = and-refuses (Early c) (roomAsked (leb (workSize limits) (length work))) (bookAsked limits case book)
+            (asked-refuses (Early c) (leb (workSize limits) (length work)) shortBuffer
+            (early c shortBuffer (inl (omega arith, omega arith, refl)) (omega arith) (omega arith)))
+            (book-refuses limits case book (Early c)
+            (λ q a b. early c (refusal q First) (inr (inl (a, b, refl))) (omega arith) (omega arith))
+            (record { listed = inr (inr (inl (omega arith, omega arith, refl))); fits = (omega arith, omega arith) }, refl)
+            (λ k q l a b. early c (refusal q (Card k)) (inr (inr (inr (inl (a, b, (k, l, refl)))))) (omega arith) (omega (arith, l, count-most book))));
+        late = tt;
+        passes = (
+          λ e. let (enough, acceptable) = decides .yes .0 e in (enough, omega arith, acceptable),
+          λ (enough, none, acceptable). decides .yes .1 (enough, acceptable),
+        );
+        outcome-of = outcomeYes;
+        outcome-is = λ p. refl;
+        in-range = λ p. omega (arith, below);
+        small = λ p. omega (arith, below);
+        word-by = gives .word-is ∙ word-on selectedWord selected.Refused (λ r. refl) asks (selected.Cards (mostSpecificCards limits case book)) _ refl;
+        work-fits = λ e. let (enough, acceptable) = decides .yes .0 e in omega (arith, enough, length-zeros (workSize limits));
+        work-by = gives .buffer-is;
+        result-fits = λ p. omega arith;
+        result-by = not-lent asks;
+      }

@@ -34,8 +34,8 @@ use Rattle.countermodel.specs.Individual.{refutationForm}
 use Rattle.evidence.specs.Form.{mapForm}
 use Rattle.subsumption.specs.Call.{subsumesResult}
 use Rattle.subsumption.specs.Verdict.{evidenceSize}
-use Rattle.lcs.proofs.Conditions.{LeastCommon}
 use Rattle.lcs.specs.Call.{lcsResult}
+use Rattle.lcs.specs.Description.{LeastCommon}
 use Rattle.lcs.specs.Product.{lcsCount}
 use Rattle.book.specs.Call.{AcceptableBook}
 use Rattle.book.specs.Form.{cardTag, mostCards}

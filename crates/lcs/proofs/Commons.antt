@@ -9,6 +9,7 @@
 --   lcs-covers-first, lcs-covers-second   it covers both pictures,
 --   lcs-least-any                      and every concept over the names and roles that covers both covers it,
 --   lcs-least                          so every readable picture that does
+--   common-least                       all of these: it is the least common subsumer
 use Prim.Native.Nat.{_^_, _≤_, ℕ}
 use lib.ListN.{length}
 use mathlib.Core.List.{List}
@@ -40,7 +41,8 @@ use Rattle.table.specs.Bounds.{Bounded, pictureSize}
 use Rattle.table.specs.Layout.{endSize, numberSize, place}
 use Rattle.table.specs.Number.{Bytes}
 use Rattle.table.specs.declared.layout.Limits.{Limits}
-use Rattle.lcs.specs.Description.{DescriptionCovers}
+use Rattle.lcs.specs.Description.{DescriptionCovers, LeastCommon}
+use Rattle.workspace.specs.Prepare.{Acceptable}
 use Rattle.lcs.specs.Product.{lcsCount, lcsFile, lcsTree}
 
 module _ (limits : Limits) (first second : List ℕ) where

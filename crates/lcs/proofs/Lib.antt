@@ -3,8 +3,6 @@
 pub mod Commons
 -- the call
 pub mod Answers
--- the condition
-pub mod Conditions
 -- worked cases, computed; first those that rule out a shortcut
 pub mod AgainstShortcuts
 pub mod CommonCases
