@@ -2,7 +2,4 @@
 pub mod Words
 pub mod Shapes
 pub mod Answers
-
-
-
-
+pub mod Conditions
