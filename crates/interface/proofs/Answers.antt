@@ -97,7 +97,7 @@ validate-word limits s = by (readingOf limits s) refl
     by (reading.Failed q) e = refl
 
 pub validate-shape : (limits : Limits) → Bounded limits → (picture : List ℕ) →
-    Shape (validateCall limits picture) (buffers [] []) (buffers [] []) (validateWord limits picture)
+    Shape (validateCall limits picture) (buffers [] []) (buffers [] []) (validateWord limits picture) outcomeYes
 validate-shape limits bounded picture =
     let asks = readAsked limits First picture in
     record {
@@ -112,7 +112,6 @@ validate-shape limits bounded picture =
         λ e. (omega arith, omega arith, read-decides limits First picture .yes .0 e),
         λ (a, b, readable). read-decides limits First picture .yes .1 readable,
       );
-      outcome-of = outcomeYes;
       outcome-is = λ p. refl;
       in-range = λ (a, b, readable). readable-most limits picture readable;
       small = λ (a, b, readable). omega (arith, readable-most limits picture readable, bounded .0);
@@ -124,7 +123,7 @@ validate-shape limits bounded picture =
     }
 
 pub normalize-shape : (limits : Limits) → Bounded limits → (picture result : List ℕ) (word : ℕ) (left : List ℕ) → NormalizeGives limits picture result word left →
-    Shape (normalizeCall limits picture) (buffers [] result) (buffers [] left) word
+    Shape (normalizeCall limits picture) (buffers [] result) (buffers [] left) word outcomeYes
 unfolding normalizeWord normalizeAnswer normalizeResult
 normalize-shape limits bounded picture result word left gives =
     let asks = oneAsked limits picture (length result) in
@@ -143,7 +142,6 @@ normalize-shape limits bounded picture result word left gives =
         λ e. let a = decides .yes .0 e in (omega arith, a .enough, (a .readable, a .few)),
         λ (none, enough, (readable, few)). decides .yes .1 (record { enough = enough; readable = readable; few = few }),
       );
-      outcome-of = outcomeYes;
       outcome-is = λ p. refl;
       in-range = λ (none, enough, (readable, few)). normal-size limits picture few;
       small = λ (none, enough, (readable, few)). omega (arith, normal-size limits picture few, bounded .0);
@@ -183,7 +181,7 @@ kind-by false = refl
 
 module _ (limits : Limits) (bounded : Bounded limits) (first second work result : List ℕ) (word : ℕ) (workLeft left : List ℕ) where
   pub subsumes-shape : SubsumesGives limits first second work result word workLeft left →
-      Shape (subsumesCall limits first second) (buffers work result) (buffers workLeft left) word
+      Shape (subsumesCall limits first second) (buffers work result) (buffers workLeft left) word (pick (verdictOf limits first second) outcomeYes outcomeNo)
   unfolding subsumesWord subsumesAnswer verdictAnswer halvesPut
   subsumes-shape gives =
       let asks = subsumesAsked limits first second (length work) (length result) in
@@ -200,8 +198,7 @@ module _ (limits : Limits) (bounded : Bounded limits) (first second work result 
           λ e. let l = decides .yes .0 e in (l .work-long, l .result-long, l .pair),
           λ (enough, long, pair). decides .yes .1 (record { work-long = enough; result-long = long; pair = pair }),
         );
-        outcome-of = pick (verdictOf limits first second) outcomeYes outcomeNo;
-        outcome-is = λ (enough, long, pair). by-test (verdictOf limits first second)
+          outcome-is = λ (enough, long, pair). by-test (verdictOf limits first second)
             (λ e. inl (ap (λ v. pick v outcomeYes outcomeNo) e, verdict-covers limits first second bounded pair .1 e))
             (λ e. inr (ap (λ v. pick v outcomeYes outcomeNo) e, verdict-fails limits first second bounded pair .0 e));
         in-range = λ (enough, long, pair). size pair;
@@ -216,7 +213,7 @@ module _ (limits : Limits) (bounded : Bounded limits) (first second work result 
       }
 
   pub lcs-shape : LcsGives limits first second work result word workLeft left →
-      Shape (lcsCall limits first second) (buffers work result) (buffers workLeft left) word
+      Shape (lcsCall limits first second) (buffers work result) (buffers workLeft left) word outcomeYes
   unfolding lcsWord lcsAnswer halvesPut
   lcs-shape gives =
       let asks = lcsAsked limits first second (length work) (length result) in
@@ -234,8 +231,7 @@ module _ (limits : Limits) (bounded : Bounded limits) (first second work result 
           λ e. let (l, few) = decides .yes .0 e in (l .work-long, l .result-long, (l .pair, few)),
           λ (enough, long, (pair, few)). decides .yes .1 (record { work-long = enough; result-long = long; pair = pair }, few),
         );
-        outcome-of = outcomeYes;
-        outcome-is = λ p. refl;
+          outcome-is = λ p. refl;
         in-range = λ (enough, long, (pair, few)). lcs-size limits first second few;
         small = λ (enough, long, (pair, few)). omega (arith, lcs-size limits first second few, bounded .0);
         word-by = gives .word-is ∙ word-on commonWord common.Refused (λ r. refl) asks (common.Length (length (lcsFile limits first second))) _ refl;
@@ -250,6 +246,7 @@ module _ (limits : Limits) (bounded : Bounded limits) (first second work result 
 module _ (limits : Limits) (bounded : Bounded limits) (first second evidence work : List ℕ) (word : ℕ) (left : List ℕ) where
   pub verify-shape : VerifyGives limits first second evidence work word left →
       Shape (verifyCall limits first second evidence) (buffers work []) (buffers left []) word
+      (pick (mapForm ((pictureTable (normalFile limits second)) .rows) evidence) outcomeYes outcomeNo)
   unfolding verifyWord verifyAnswer halvesPut
   verify-shape gives =
       let asks = verifyAsked limits first second evidence (length work) in
@@ -269,8 +266,7 @@ module _ (limits : Limits) (bounded : Bounded limits) (first second evidence wor
           λ e. let (enough, pair, taken) = decides .0 e in (enough, omega arith, (pair, taken)),
           λ (enough, none, (pair, taken)). decides .1 (enough, pair, taken),
         );
-        outcome-of = pick (mapForm rows evidence) outcomeYes outcomeNo;
-        outcome-is = λ (enough, none, (pair, taken)). ⊎-elim
+          outcome-is = λ (enough, none, (pair, taken)). ⊎-elim
             (λ m. inl (ap (λ b. pick b outcomeYes outcomeNo) (m .form), m))
             (λ r. inr (ap (λ b. pick b outcomeYes outcomeNo) (no-map rows (r .form)), r)) taken;
         in-range = λ p. omega arith;
@@ -292,7 +288,7 @@ module _ (limits : Limits) (bounded : Bounded limits) (first second evidence wor
 
 module _ (limits : Limits) (case book work : List ℕ) (word : ℕ) (left : List ℕ) where
   pub cards-shape : MostSpecificGives limits case book work word left →
-      Shape (mostSpecificCall limits case book) (buffers work []) (buffers left []) word
+      Shape (mostSpecificCall limits case book) (buffers work []) (buffers left []) word outcomeYes
   unfolding mostSpecificWord mostSpecificAnswer
   cards-shape gives =
       let asks = mostSpecificAsked limits case book (length work) in
@@ -316,8 +312,7 @@ module _ (limits : Limits) (case book work : List ℕ) (word : ℕ) (left : List
           λ e. let (enough, acceptable) = decides .yes .0 e in (enough, omega arith, acceptable),
           λ (enough, none, acceptable). decides .yes .1 (enough, acceptable),
         );
-        outcome-of = outcomeYes;
-        outcome-is = λ p. refl;
+          outcome-is = λ p. refl;
         in-range = λ p. omega (arith, below);
         small = λ p. omega (arith, below);
         word-by = gives .word-is ∙ word-on selectedWord selected.Refused (λ r. refl) asks (selected.Cards (mostSpecificCards limits case book)) _ refl;

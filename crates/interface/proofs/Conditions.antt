@@ -9,7 +9,7 @@ use Prim.Native.Nat.{_<_, _≤_, ℕ}
 use borrow.Author.Tests.{leb-false, leb-true}
 use lib.Dec.{leb}
 use lib.ListN.{length, take}
-use mathlib.Core.Bool.{false, true}
+use mathlib.Core.Bool.{Bool, false, true}
 use mathlib.Core.List.{List, []}
 use mathlib.Core.Logic.{_↔_, _⊎_, inl, inr, ⊎-elim}
 use mathlib.Core.Path.{_∙_, _≡_, ap, refl, subst, sym}
@@ -17,6 +17,8 @@ use native.Mathlib.Omega.{arith}
 use Rattle.table.proofs.Bools.{by-test}
 use Rattle.table.specs.Bounds.{Bounded, benchLimits, pictureSize}
 use Rattle.table.specs.NameSet.{has}
+use Rattle.table.specs.Pick.{pick}
+use Rattle.table.specs.Put.{put}
 use Rattle.table.specs.declared.layout.Limits.{Limits}
 use Rattle.picture.specs.Asked.{onAsked}
 use Rattle.picture.specs.declared.answer.Input.the-variants.{Second}
@@ -41,26 +43,27 @@ use Rattle.lcs.specs.Product.{lcsCount, lcsFile}
 use Rattle.book.proofs.Selections.{most-specific-exactly}
 use Rattle.book.specs.Call.{mostSpecificWork}
 use Rattle.book.specs.Selection.{MostSpecific}
-use Rattle.interface.specs.Answers.{Answers, EitherOutcome, buffers, lcsCall, mostSpecificCall, subsumesCall, verifyCall}
+use Rattle.interface.specs.Answers.{Answers, EitherOutcome, Passes, buffers, lcsCall, mostSpecificCall, subsumesCall, verifyCall}
 use Rattle.interface.specs.Calls.{lcsWord}
 use Rattle.interface.specs.Conditions.{Condition1Words, Condition2Words, Condition3Words, Conditions, Lengths, NearestWords, PaperNumbers, Taken, WritesTaken, check, common, evidenceWritten, nearestCards, pictureWritten, verdict}
+use Rattle.interface.specs.StarredClaims.{WritesEvidence}
 use Rattle.interface.specs.Word.{commonWord, outcome, outcomeNo, outcomeYes, refused, value, valueWord}
 use Rattle.interface.proofs.Answers.{cards-shape, lcs-shape, normalize-shape, subsumes-shape, validate-shape, verify-shape}
-use Rattle.interface.proofs.Shapes.{result-shown, result-when, shape-answers}
+use Rattle.interface.proofs.Shapes.{result-shown, result-when, shape-answers, shape-given}
 use Rattle.interface.proofs.Words.{bench-bounded}
 
 module _ (limits : Limits) (bounded : Bounded limits) where
   pub condition-1-words : Condition1Words limits
   condition-1-words = record {
-    validate = λ picture. shape-answers _ _ _ _ (validate-shape limits bounded picture);
-    normalize = λ picture result word left gives. shape-answers _ _ _ _ (normalize-shape limits bounded picture result word left gives);
+    validate = λ picture. shape-answers _ _ _ _ _ (validate-shape limits bounded picture);
+    normalize = λ picture result word left gives. shape-answers _ _ _ _ _ (normalize-shape limits bounded picture result word left gives);
     subsumes = λ first second work result word workLeft left gives.
-        shape-answers _ _ _ _ (subsumes-shape limits bounded first second work result word workLeft left gives);
+        shape-answers _ _ _ _ _ (subsumes-shape limits bounded first second work result word workLeft left gives);
     lcs = λ first second work result word workLeft left gives.
-        shape-answers _ _ _ _ (lcs-shape limits bounded first second work result word workLeft left gives);
+        shape-answers _ _ _ _ _ (lcs-shape limits bounded first second work result word workLeft left gives);
     verify = λ first second evidence work word left gives.
-        shape-answers _ _ _ _ (verify-shape limits bounded first second evidence work word left gives);
-    most-specific = λ case book work word left gives. shape-answers _ _ _ _ (cards-shape limits case book work word left gives);
+        shape-answers _ _ _ _ _ (verify-shape limits bounded first second evidence work word left gives);
+    most-specific = λ case book work word left gives. shape-answers _ _ _ _ _ (cards-shape limits case book work word left gives);
   }
 
   -- ---- the verdict and the common picture
@@ -75,6 +78,9 @@ module _ (limits : Limits) (bounded : Bounded limits) where
         (buffers (lcsWork limits first second work (length result)) (lcsResult limits first second (length work) result))
         (common limits first second work result)
     common-answers = condition-1-words .lcs first second work result _ _ _ (record { word-is = refl; work-is = refl; result-is = refl })
+
+    pub common-shown : outcome (common limits first second work result) ≡ outcomeYes → Passes (lcsCall limits first second) (buffers work result)
+    common-shown h = result-shown _ _ _ _ common-answers (omega (arith, h)) .passes
 
     common-is : outcome (common limits first second work result) ≡ outcomeYes →
         LeastCommon limits first second (value (common limits first second work result)) (pictureWritten limits first second work result)
@@ -127,13 +133,13 @@ module _ (limits : Limits) (bounded : Bounded limits) where
     check-answers = condition-1-words .verify first second evidence work _ _ (record { word-is = refl; buffer-is = refl })
 
     -- outcome 1 is given only to a map of an acceptable pair, 2 only to a refutation of one
-    map-shown : outcome (check limits first second evidence work) ≡ outcomeYes → Acceptable limits first second × MapOf limits first second evidence
+    pub map-shown : outcome (check limits first second evidence work) ≡ outcomeYes → Acceptable limits first second × MapOf limits first second evidence
     map-shown h =
         let g = result-shown _ _ _ _ check-answers (omega (arith, h)) in
         let (enough, none, (pair, taken)) = g .passes in
         (pair, ⊎-elim (λ (o, m). m) (λ (o, r). absurd (omega (arith, h, o))) (g .outcome-is))
 
-    refutation-shown : outcome (check limits first second evidence work) ≡ outcomeNo → Acceptable limits first second × RefutationOf limits first second evidence
+    pub refutation-shown : outcome (check limits first second evidence work) ≡ outcomeNo → Acceptable limits first second × RefutationOf limits first second evidence
     refutation-shown h =
         let g = result-shown _ _ _ _ check-answers (omega (arith, h)) in
         let (enough, none, (pair, taken)) = g .passes in
@@ -149,13 +155,13 @@ module _ (limits : Limits) (bounded : Bounded limits) where
       abbrev rows : ℕ
       rows = (pictureTable (normalFile limits second)) .rows
 
-      map-taken : MapOf limits first second evidence → check limits first second evidence work ≡ valueWord outcomeYes 0
+      pub map-taken : MapOf limits first second evidence → check limits first second evidence work ≡ valueWord outcomeYes 0
       map-taken m =
           let g = result-when _ _ _ _ check-answers (enough, omega arith, (pair, inl m)) in
           ⊎-elim (λ (o, n). omega (arith, o, g .value-is, g .word-is))
           (λ (o, r). absurd (forms-apart limits rows evidence (m .form) (r .form))) (g .outcome-is)
 
-      refutation-taken : RefutationOf limits first second evidence → check limits first second evidence work ≡ valueWord outcomeNo 0
+      pub refutation-taken : RefutationOf limits first second evidence → check limits first second evidence work ≡ valueWord outcomeNo 0
       refutation-taken r =
           let g = result-when _ _ _ _ check-answers (enough, omega arith, (pair, inr r)) in
           ⊎-elim (λ (o, m). absurd (forms-apart limits rows evidence (m .form) (r .form)))
@@ -217,6 +223,18 @@ module _ (limits : Limits) (bounded : Bounded limits) where
                 (λ h. rw h (yes-taken (by-verdict .0 (c .verdict-yes work result long .0 h)) space enough))
                 (λ h. rw h (no-taken (by-no .1 (c .verdict-no work result long .0 h)) space enough)) one);
           }
+
+    -- the word has the verdict and the evidence's length; the result buffer holds the evidence
+    pub writes-evidence : (e : List ℕ) → evidenceOf limits first second ≡ e → (v : Bool) → verdictOf limits first second ≡ v →
+        WritesEvidence limits first second (pick v outcomeYes outcomeNo) e
+    writes-evidence e is v decided work result enough long =
+        let (told, space, left) = shape-given _ _ _ _ _
+        (subsumes-shape limits bounded first second work result _ _ _ (record { word-is = refl; work-is = refl; result-is = refl }))
+        (enough, long, pair) in (
+          told ∙ ap (λ b. valueWord (pick b outcomeYes outcomeNo) (length evidence)) decided
+              ∙ ap (λ (l : List ℕ). valueWord (pick v outcomeYes outcomeNo) (length l)) is,
+          left ∙ ap (λ (l : List ℕ). put result 0 l) is,
+        )
 
     pub condition-3-words : Condition3Words limits first second
     condition-3-words = record {

@@ -1,5 +1,8 @@
--- The laws of the words, of all calls and of each, the customer's conditions, and the starred cases.
+-- The laws of the words, what every call answers, the customer's conditions, and the starred cases.
 pub mod Words
 pub mod Shapes
 pub mod Answers
+pub mod Values
 pub mod Conditions
+pub mod EmptySubsumes
+pub mod StarredHold

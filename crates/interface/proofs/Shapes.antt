@@ -77,7 +77,8 @@ filled-put lent bytes left fits is = record {
 
 -- ---- a call
 
-pub record Shape (c : Call) (lent left : Buffers) (word : ℕ) : Type 0 where
+-- o is the outcome of its result
+pub record Shape (c : Call) (lent left : Buffers) (word o : ℕ) : Type 0 where
   -- its questions
   pub before : Asked
   pub after : Asked
@@ -87,25 +88,24 @@ pub record Shape (c : Call) (lent left : Buffers) (word : ℕ) : Type 0 where
   pub late : Refuses (Late c) after
   pub passes : (all ≡ Yes) ↔ Passes c lent
   -- its result
-  pub outcome-of : ℕ
-  pub outcome-is : Passes c lent → c .Outcome outcome-of
+  pub outcome-is : Passes c lent → c .Outcome o
   pub in-range : Passes c lent → c .given ≤ c .most
   pub small : Passes c lent → c .given < valueRange
-  pub word-by : word ≡ onAsked refusalWord all (valueWord outcome-of (c .given))
+  pub word-by : word ≡ onAsked refusalWord all (valueWord o (c .given))
   -- its buffers
   pub work-fits : before ≡ Yes → length (c .bytes .work) ≤ length (lent .work)
   pub work-by : left .work ≡ kept before (put (lent .work) 0 (c .bytes .work)) (lent .work)
   pub result-fits : Passes c lent → length (c .bytes .result) ≤ length (lent .result)
   pub result-by : left .result ≡ kept all (put (lent .result) 0 (c .bytes .result)) (lent .result)
 
-module _ (c : Call) (lent left : Buffers) (word : ℕ) (s : Shape c lent left word) where
+module _ (c : Call) (lent left : Buffers) (word o : ℕ) (s : Shape c lent left word o) where
   -- all is answered yes
   pub shape-given : Passes c lent →
-      (word ≡ valueWord (s .outcome-of) (c .given)) × (left .work ≡ put (lent .work) 0 (c .bytes .work))
+      (word ≡ valueWord o (c .given)) × (left .work ≡ put (lent .work) 0 (c .bytes .work))
       × (left .result ≡ put (lent .result) 0 (c .bytes .result))
   shape-given p =
       let e = s .passes .1 p in (
-        s .word-by ∙ ap (λ a. onAsked refusalWord a (valueWord (s .outcome-of) (c .given))) e,
+        s .word-by ∙ ap (λ a. onAsked refusalWord a (valueWord o (c .given))) e,
         s .work-by ∙ ap (λ a. kept a (put (lent .work) 0 (c .bytes .work)) (lent .work)) (first (s .before) (s .after) (sym (s .all-is) ∙ e)),
         s .result-by ∙ ap (λ a. kept a (put (lent .result) 0 (c .bytes .result)) (lent .result)) e,
       )
@@ -117,7 +117,7 @@ module _ (c : Call) (lent left : Buffers) (word : ℕ) (s : Shape c lent left wo
   -- the first no, which is `all`'s
   refuses : (r : Refusal) → s .all ≡ No r → OnList c r → Leaves lent (refusalBytes (r .number) (c .bytes)) left → Answers c lent left word
   refuses r e on leaves =
-      let told : word ≡ refusalWord r = s .word-by ∙ ap (λ a. onAsked refusalWord a (valueWord (s .outcome-of) (c .given))) e in
+      let told : word ≡ refusalWord r = s .word-by ∙ ap (λ a. onAsked refusalWord a (valueWord o (c .given))) e in
       let (number, few) = on .fits in
       inr (record {
         number = r .number;
@@ -154,8 +154,8 @@ module _ (c : Call) (lent left : Buffers) (word : ℕ) (s : Shape c lent left wo
   by-questions Yes Yes e f =
       let p = s .passes .0 (s .all-is ∙ ap (λ q. andThen q (s .after)) e ∙ f) in
       let (told, work, result) = shape-given p in
-      let shown = value-outcome (s .outcome-of) (c .given) (s .small p) in
-      let value-is = value-value (s .outcome-of) (c .given) (s .small p) in
+      let shown = value-outcome o (c .given) (s .small p) in
+      let value-is = value-value o (c .given) (s .small p) in
       inl (record {
         passes = p;
         outcome-is = subst (c .Outcome) (sym (ap outcome told ∙ shown)) (s .outcome-is p);
@@ -176,7 +176,7 @@ module _ (c : Call) (lent left : Buffers) (word : ℕ) (s : Shape c lent left wo
       (word ≡ refusalWord r) × (left .work ≡ lent .work) × (left .result ≡ lent .result)
   shape-refused r e =
       let is : s .all ≡ No r = s .all-is ∙ ap (λ q. andThen q (s .after)) e in (
-        s .word-by ∙ ap (λ a. onAsked refusalWord a (valueWord (s .outcome-of) (c .given))) is,
+        s .word-by ∙ ap (λ a. onAsked refusalWord a (valueWord o (c .given))) is,
         s .work-by ∙ ap (λ a. kept a (put (lent .work) 0 (c .bytes .work)) (lent .work)) e,
         unwritten r is,
       )
