@@ -2,8 +2,8 @@
 --   with-each                                             a word with two cards, one after the other
 --   lower-fits, lower-checked, lower-length, lower-half   card m's table in the lower half
 --   upper-long                                            the upper half has room for a table
---   both-halves                                           with card n's table in it both are there, the lower one as it was
---   parts-comparable, parts-compared                      the parts that are the tables can be compared; the search says which covers which
+--   both-halves                                           with card n's table in it both are there
+--   parts-comparable, parts-compared                      of their parts the search says which covers which
 use Prim.Native.Nat.{_+_, _-_, _<_, _≤_, ℕ}
 use borrow.Rule.Slice.PartMut.{midOf, putMid}
 use lib.Dec.{eqb}
@@ -132,16 +132,19 @@ module _ (limits : Limits) (book places : List ℕ) (count : ℕ) (taken : Cards
               first-fits = lower .fits;
               second-fits = tabled-fits limits (card book n) table b end bounded tabled few;
               first-checked = kept .linked .checked;
-              second-checked = subst (λ t. Checked t b) (sym high-part) (tabled-checked limits (card book n) table b end bounded tabled few (place b endSize) refl);
+              second-checked = subst (λ t. Checked t b) (sym high-part)
+                  (tabled-checked limits (card book n) table b end bounded tabled few (place b endSize) refl);
             };
-            upper-is = high-part ∙ tabled-file limits (card book n) table b end bounded tabled few (place b endSize) refl;
+            upper-is =
+                high-part ∙ tabled-file limits (card book n) table b end bounded tabled few (place b endSize) refl;
           }
 
 -- ---- the parts that are the two tables
 
-module _ {limits : Limits} {book places : List ℕ} {count : ℕ} (taken : CardsTaken limits book places count) (bounded : Bounded limits)
-    {m n : ℕ} (l : m < count) (l₂ : n < count) {pair : Pair} {links work : List ℕ} (both : BothHalves limits book m n pair links work)
-    {s t : List ℕ} (e : s ≡ firstIn pair work) (f : t ≡ secondIn limits pair work) where
+module _ {limits : Limits} {book places : List ℕ} {count : ℕ} (taken : CardsTaken limits book places count)
+    (bounded : Bounded limits) {m n : ℕ} (l : m < count) (l₂ : n < count) {pair : Pair} {links work : List ℕ}
+    (both : BothHalves limits book m n pair links work) {s t : List ℕ} (e : s ≡ firstIn pair work)
+    (f : t ≡ secondIn limits pair work) where
   pub parts-comparable : Comparable s t pair links m n
   parts-comparable =
       record {
@@ -151,14 +154,15 @@ module _ {limits : Limits} {book places : List ℕ} {count : ℕ} (taken : Cards
         high-card = omega (arith, l₂, taken .cards-read .places-are .most);
       }
 
-  covers-is : (u v : List ℕ) (i j : ℕ) → u ≡ normalFile limits (card book i) → v ≡ normalFile limits (card book j) → i < count → j < count →
-      rowMaps u v (limits .depth) 0 0 ≡ cardCovers limits book j i
+  covers-is : (u v : List ℕ) (i j : ℕ) → u ≡ normalFile limits (card book i) → v ≡ normalFile limits (card book j) →
+      i < count → j < count → rowMaps u v (limits .depth) 0 0 ≡ cardCovers limits book j i
   covers-is u v i j d h b₁ b₂ =
       ap (λ (x : List ℕ). rowMaps x v (limits .depth) 0 0) d
       ∙ ap (λ (x : List ℕ). rowMaps (normalFile limits (card book i)) x (limits .depth) 0 0) h
       ∙ normal-maps limits (card book i) (card book j) bounded (taken .few i b₁) (taken .few j b₂)
 
-  pub parts-compared : (word r : ℕ) → WithEach word m (rowMaps t s (limits .depth) 0 0) n (rowMaps s t (limits .depth) 0 0) r →
+  pub parts-compared : (word r : ℕ) →
+      WithEach word m (rowMaps t s (limits .depth) 0 0) n (rowMaps s t (limits .depth) 0 0) r →
       Paired limits book m n word r
   parts-compared word r each i =
       each i

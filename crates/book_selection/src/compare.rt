@@ -69,7 +69,8 @@ fn compare_tables(
     redundant: u32,
 ) -> u32
     requires { ⌜ Comparable (now low) (now high) pair (now links) m n ⌝ }
-    ensures { λ r. ⌜ WithEach redundant m (rowMaps (now (high .entry)) (now (low .entry)) depth 0 0) n (rowMaps (now (low .entry)) (now (high .entry)) depth 0 0) r ⌝ }
+    ensures { λ r. ⌜ WithEach redundant m (rowMaps (now (high .entry)) (now (low .entry)) depth 0 0)
+        n (rowMaps (now (low .entry)) (now (high .entry)) depth 0 0) r ⌝ }
 {
     let a = pair.first;
     let b = pair.second;

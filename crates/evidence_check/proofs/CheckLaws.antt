@@ -93,8 +93,9 @@ module _ (first second e : List ℕ) where
 
 -- ---- the normal tables of a pair
 
-pub tables-check : {limits : Limits} {first second s t : List ℕ} {pair : Pair} → Bounded limits → NormalTables limits first second pair s t →
-    (e : List ℕ) → checkIn limits s t e ≡ evidenceAnswer limits first second e
+pub tables-check : {limits : Limits} {first second s t : List ℕ} {pair : Pair} → Bounded limits →
+    NormalTables limits first second pair s t → (e : List ℕ) →
+    checkIn limits s t e ≡ evidenceAnswer limits first second e
 tables-check {limits} {first} {second} bounded tables e =
     on-tables tables (λ s t. checkIn limits s t e ≡ evidenceAnswer limits first second e)
     (check-evidence limits first second e bounded (tables .accepted))

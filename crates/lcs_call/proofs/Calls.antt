@@ -119,11 +119,14 @@ module _ (limits : Limits) (first second work result : List ℕ) where
 
 -- ---- the parts of the work space that are the normal tables
 
-module _ {limits : Limits} {first second s t : List ℕ} {pair : Pair} (bounded : Bounded limits) (tables : NormalTables limits first second pair s t) where
+module _ {limits : Limits} {first second s t : List ℕ} {pair : Pair} (bounded : Bounded limits)
+    (tables : NormalTables limits first second pair s t) where
   pub tables-trims : Trims s t (limits .depth)
-  tables-trims = on-tables tables (λ s t. Trims s t (limits .depth)) (trims limits first second bounded (tables .accepted))
+  tables-trims =
+      on-tables tables (λ s t. Trims s t (limits .depth)) (trims limits first second bounded (tables .accepted))
 
-  pub tables-common : (r : Common) (out end : List ℕ) → r ≡ commonIn limits s t → end ≡ onCommon r (commonFileIn limits s t) out →
+  pub tables-common : (r : Common) (out end : List ℕ) → r ≡ commonIn limits s t →
+      end ≡ onCommon r (commonFileIn limits s t) out →
       (r ≡ commonAnswer limits first second) × (end ≡ onCommon (commonAnswer limits first second) (lcsFile limits first second) out)
   tables-common r out end answers writes =
       let same = answers ∙ on-tables tables (λ s t. commonIn limits s t ≡ commonAnswer limits first second)

@@ -26,8 +26,9 @@ pub first-lies : {limits : Limits} {work : List ℕ} {pair : Pair} → TablesIn 
     (pair .first ≤ maxRows) × (place (pair .first) endSize ≤ length work)
 first-lies there = (there .first-checked .most, omega (arith, there .room, there .first-fits))
 
-pub on-tables : {limits : Limits} {first second s t : List ℕ} {pair : Pair} → NormalTables limits first second pair s t →
-    (P : List ℕ → List ℕ → Type 0) → P (normalFile limits first) (normalFile limits second) → P s t
+pub on-tables : {limits : Limits} {first second s t : List ℕ} {pair : Pair} →
+    NormalTables limits first second pair s t → (P : List ℕ → List ℕ → Type 0) →
+    P (normalFile limits first) (normalFile limits second) → P s t
 on-tables {limits} {first} {second} {s} {t} tables P h =
     subst (λ x. P x t) (sym (tables .first-is)) (subst (λ y. P (normalFile limits first) y) (sym (tables .second-is)) h)
 

@@ -7,7 +7,7 @@ use table::layout::Limits;
 use table::layout::place;
 use workspace::prepare::Pair;
 ghost use mathlib.Core.Path.{_≡_};
-ghost use Prim.Native.Nat.{ℕ, _≤_};
+ghost use Prim.Native.Nat.{_≤_};
 ghost use lib.ListN.{length};
 ghost use Rattle.table.specs.Bounds.{Bounded, maxRows};
 ghost use Rattle.table.specs.Layout.{«place», endSize};

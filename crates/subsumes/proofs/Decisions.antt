@@ -150,10 +150,12 @@ module _ (limits : Limits) (first second work result : List ℕ) where
 
 -- ---- the parts of the work space that are the normal tables
 
-module _ {limits : Limits} {first second s t : List ℕ} {pair : Pair} (bounded : Bounded limits) (tables : NormalTables limits first second pair s t) where
+module _ {limits : Limits} {first second s t : List ℕ} {pair : Pair} (bounded : Bounded limits)
+    (tables : NormalTables limits first second pair s t) where
   pub tables-settled : (room : ℕ) → evidenceSize limits ≤ room → Settled s t (limits .depth) room
   tables-settled room long =
-      on-tables tables (λ s t. Settled s t (limits .depth) room) (settled limits first second bounded (tables .accepted) room long)
+      on-tables tables (λ s t. Settled s t (limits .depth) room)
+      (settled limits first second bounded (tables .accepted) room long)
 
   pub tables-decided : (r : Verdict) (out end : List ℕ) → r ≡ verdictIn s t (limits .depth) →
       end ≡ put out 0 (evidenceIn s t (limits .depth)) →

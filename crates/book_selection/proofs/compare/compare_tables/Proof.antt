@@ -2,9 +2,8 @@
 use denote.Ref.{now}
 use mathlib.Core.Path.{refl}
 use Rattle.table.proofs.Stores.{blank}
-use Rattle.homomorphism_search.specs.Search.{LinkedTable, rowMaps}
+use Rattle.homomorphism_search.specs.Search.{rowMaps}
 use Rattle.book_selection.proofs.HalfTables.{with-each}
-use borrow.Author.Needs.{needs}
 use Rattle.book_selection.proofs.compare.compare_tables.Statement.{statement}
 use Rattle.book_selection.proofs.compare.compare_tables.Tie as tie
 
@@ -19,7 +18,8 @@ mark-redundant-requires c κs =
 mark-redundant-requires-2 : tie.Need-mark-redundant-requires-2
 mark-redundant-requires-2 c κs =
     let pre = c .before .before .before .before .before .before .before .pre in
-    (pre .linked, (record { checked = pre .checked; linked = c .before .before .before .fill-links .ensures }, pre .high-card))
+    let links = c .before .before .before .fill-links .ensures in
+    (pre .linked, (record { checked = pre .checked; linked = links }, pre .high-card))
 
 returns : tie.Need-returns
 returns c =
@@ -27,7 +27,8 @@ returns c =
     let low = now (args .low) in
     let high = now (args .high) in
     let more = c .before .before .mark-redundant in
-    with-each (args .redundant) (args .m) (rowMaps high low (args .depth) 0 0) (more .result) (args .n) (rowMaps low high (args .depth) 0 0) (c .mark-redundant2 .result)
+    with-each (args .redundant) (args .m) (rowMaps high low (args .depth) 0 0) (more .result)
+    (args .n) (rowMaps low high (args .depth) 0 0) (c .mark-redundant2 .result)
     (more .ensures) (c .mark-redundant2 .ensures)
 
 pub compare-tables-spec : {M : Type 1} → statement M

@@ -10,14 +10,24 @@ use borrow.Author.Needs.{needs}
 use Rattle.book_selection.proofs.compare.compare_with.Statement.{statement}
 use Rattle.book_selection.proofs.compare.compare_with.Tie as tie
 
-both : (c : tie.After-load) → let args = c .before .before .before .before .before .before .args in let half = c .before .before .half-size .result in
-    BothHalves (args .limits) (now (args .book)) (args .m) (args .n) (record { first = args .a; second = c .load .result }) (now (args .links))
+-- the way back from the loaded table to the entry
+abbrev entry : (c : tie.After-load) → tie.Start
+entry c = c .before .before .before .before .before .before
+
+both : (c : tie.After-load) →
+    let args = entry c .args in
+    let half = c .before .before .half-size .result in
+    BothHalves (args .limits) (now (args .book)) (args .m) (args .n)
+    (record { first = args .a; second = c .load .result }) (now (args .links))
     (putMid half (length (now (args .work)) - half) (now (args .work)) (c .load .last .1 .1 .1 .1 .1 .1 .1 .0))
 both c =
-    let args = c .before .before .before .before .before .before .args in
-    let pre = c .before .before .before .before .before .before .pre in
+    let args = entry c .args in
+    let pre = entry c .pre in
     let half = c .before .before .half-size in
-    both-halves (args .limits) (now (args .book)) (now (args .places)) (args .count) (pre .1 .0 .taken) (pre .0) (half .result) (half .ensures) (args .m) (args .a) (pre .1 .1 .0 .0) (now (args .links)) (now (args .work)) (pre .1 .1 .1) (args .n) (pre .1 .1 .0 .1) (c .load .result) (c .load .last .1 .1 .1 .1 .1 .1 .1 .0) (c .load .ensures)
+    both-halves (args .limits) (now (args .book)) (now (args .places)) (args .count) (pre .1 .0 .taken) (pre .0)
+    (half .result) (half .ensures) (args .m) (args .a) (pre .1 .1 .0 .0) (now (args .links)) (now (args .work))
+    (pre .1 .1 .1) (args .n) (pre .1 .1 .0 .1) (c .load .result) (c .load .last .1 .1 .1 .1 .1 .1 .1 .0)
+    (c .load .ensures)
 
 half-size-requires : tie.Need-half-size-requires
 half-size-requires c κs = search needs
@@ -41,12 +51,15 @@ first-table-requires : tie.Need-first-table-requires
 first-table-requires c κs = first-lies (both (c .before .before .before) .there)
 
 second-table-requires : tie.Need-second-table-requires
-second-table-requires c κs = (c .before .before .before .before .before .before .before .before .before .before .pre .0, both (c .before .before .before .before) .there)
+second-table-requires c κs =
+    let d = c .before .before .before .before in
+    (entry d .pre .0, both d .there)
 
 compare-tables-requires : tie.Need-compare-tables-requires
 compare-tables-requires c κs =
-    let pre = c .before .before .before .before .before .before .before .before .before .before .before .pre in
-    parts-comparable (pre .1 .0 .taken) (pre .0) (pre .1 .1 .0 .0) (pre .1 .1 .0 .1) (both (c .before .before .before .before .before))
+    let d = c .before .before .before .before .before in
+    let pre = entry d .pre in
+    parts-comparable (pre .1 .0 .taken) (pre .0) (pre .1 .1 .0 .0) (pre .1 .1 .0 .1) (both d)
     (c .before .first-table .ensures) (c .second-table .ensures)
 
 same-length : tie.Need-same-length
@@ -54,12 +67,12 @@ same-length c = search needs
 
 returns : tie.Need-returns
 returns c =
-    let args = c .before .before .before .before .before .before .before .before .before .before .before .before .args in
-    let pre = c .before .before .before .before .before .before .before .before .before .before .before .before .pre in
-    let halves = both (c .before .before .before .before .before .before) in (
-      parts-compared (pre .1 .0 .taken) (pre .0) (pre .1 .1 .0 .0) (pre .1 .1 .0 .1) halves (c .before .before .first-table .ensures) (c .before .second-table .ensures)
-          (args .redundant) (c .compare-tables .result) (c .compare-tables .ensures),
-      halves .lower,
+    let d = c .before .before .before .before .before .before in
+    let pre = entry d .pre in (
+      parts-compared (pre .1 .0 .taken) (pre .0) (pre .1 .1 .0 .0) (pre .1 .1 .0 .1) (both d)
+          (c .before .before .first-table .ensures) (c .before .second-table .ensures)
+          (entry d .args .redundant) (c .compare-tables .result) (c .compare-tables .ensures),
+      both d .lower,
     )
 
 pub compare-with-spec : {M : Type 1} → statement M

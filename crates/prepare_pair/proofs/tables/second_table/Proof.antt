@@ -32,7 +32,8 @@ returns c =
     let a = c .before .before .before .before .args in
     let half = c .before .before .half-size in
     let size = c .before .place in
-    let long : half .result + size .result - half .result ≡ place (a .pair .second) endSize = omega (arith, size .ensures) in
+    let long : half .result + size .result - half .result ≡ place (a .pair .second) endSize =
+    omega (arith, size .ensures) in
     ap (λ n. take n (drop (half .result) (now (a .work)))) long
     ∙ ap (λ n. take (place (a .pair .second) endSize) (drop n (now (a .work)))) (half .ensures)
 
