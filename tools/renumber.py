@@ -265,7 +265,7 @@ class Names:
     def member(self, part):
         """The member and the need or the place that a part's type is about; the member by its file."""
         need = re.match(r'\S+ :\s+(?:\(t : ℕ\) →\s+)?(?:tie|(\S+)-lts)\.Need-(\S+)', part)
-        place = re.match(r'\S+ :\s+(?:\(t : ℕ\)\s+)?\(c : (?:tie|(\S+)-lts)\.([^\s)]+)', part)
+        place = re.match(r'(?:abbrev )?\S+ :\s+(?:\(t : ℕ\)\s+)?\(c : (?:tie|(\S+)-lts)\.([^\s)]+)', part)
         found = need or place
         return found and ('need' if need else 'place', self.lts.get(found[1], ''), found[2])
 
@@ -285,7 +285,7 @@ def answers(text):
 
 def halves(part):
     """What stands before the paths of a part, and the rest."""
-    found = re.match(r'\S+ :\s+(?:\(t : ℕ\)\s+)?\(c : [^)]*\)|\S+ (?:t )?c\b[^=]*=', part)
+    found = re.match(r'(?:abbrev )?\S+ :\s+(?:\(t : ℕ\)\s+)?\(c : [^)]*\)|\S+ (?:t )?c\b[^=]*=', part)
     return (found[0], part[found.end():]) if found else (part, '')
 
 
@@ -587,7 +587,7 @@ def repaired(text, old, new, lines, say):
         if gone and re.match(r'\S+-spec\b', part):
             part = re.sub(listed(gone), '', part)
         if of:
-            part = with_place(part, of, moves[of[1]], lambda t, n=part.split()[0]: say(f'{n}: {t}'))
+            part = with_place(part, of, moves[of[1]], lambda t, n=declared(part) or part.split()[0]: say(f'{n}: {t}'))
         if renamed and not part.startswith(('use ', '--')):
             part = word(renamed).sub(lambda m: renamed[m[1]], part)
         result.append(part)

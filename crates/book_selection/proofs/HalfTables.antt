@@ -2,7 +2,8 @@
 --   with-each                                             a word with two cards, one after the other
 --   lower-fits, lower-checked, lower-length, lower-half   card m's table in the lower half
 --   upper-long                                            the upper half has room for a table
---   upper-in, upper-kept, upper-compared                  with card n's table in it both tables are there, the lower one as it was, and the search says which covers which
+--   both-halves                                           with card n's table in it both are there
+--   parts-comparable, parts-compared                      of their parts the search says which covers which
 use Prim.Native.Nat.{_+_, _-_, _<_, _≤_, ℕ}
 use borrow.Rule.Slice.PartMut.{midOf, putMid}
 use lib.Dec.{eqb}
@@ -24,12 +25,12 @@ use Rattle.table.specs.NameSet.{has}
 use Rattle.table.specs.declared.layout.Limits.{Limits}
 use Rattle.workspace.proofs.Halves.{put-upper, upper-part}
 use Rattle.workspace.specs.Prepare.{workSize}
-use Rattle.prepare_pair.specs.Tables.{TablesIn, firstIn, secondIn}
+use Rattle.prepare_pair.specs.Tables.{firstIn, secondIn}
 use Rattle.workspace.specs.declared.prepare.Pair.{Pair}
 use Rattle.book.specs.Form.{card}
 use Rattle.book.specs.Selection.{cardCovers}
 use Rattle.book_tables.specs.Tables.{CardsTaken, Tabled}
-use Rattle.book_selection.specs.Comparing.{LowerHalf, Paired}
+use Rattle.book_selection.specs.Comparing.{BothHalves, Comparable, LowerHalf, Paired}
 use Rattle.book_form.specs.Places.{With, WithEach}
 use Rattle.book_tables.proofs.Tablings.{tabled-checked, tabled-file, tabled-fits}
 
@@ -112,8 +113,8 @@ module _ (limits : Limits) (book places : List ℕ) (count : ℕ) (taken : Cards
           ∙ ap (λ (w : List ℕ). take (place b endSize) (drop half w)) new-is
           ∙ ap (take (place b endSize)) (drop-at (take half work) end half low-long)
 
-      pub upper-kept : LowerHalf limits book m a links new
-      upper-kept =
+      kept : LowerHalf limits book m a links new
+      kept =
           record {
             long = new-long;
             fits = lower .fits;
@@ -121,34 +122,51 @@ module _ (limits : Limits) (book places : List ℕ) (count : ℕ) (taken : Cards
             linked = subst (λ t. LinkedTable t a links) (sym low-part) (lower .linked);
           }
 
-      pub upper-in : TablesIn limits new pair
-      upper-in =
+      pub both-halves : BothHalves limits book m n pair links new
+      both-halves =
+          let table = midOf half (length work - half) work in
           record {
-            room = omega (arith, new-long);
-            first-fits = lower .fits;
-            second-fits = tabled-fits limits (card book n) (midOf half (length work - half) work) b end bounded tabled few;
-            first-checked = upper-kept .linked .checked;
-            second-checked =
-                subst (λ t. Checked t b) (sym high-part)
-                (tabled-checked limits (card book n) (midOf half (length work - half) work) b end bounded tabled few (place b endSize) refl);
+            lower = kept;
+            there = record {
+              room = omega (arith, new-long);
+              first-fits = lower .fits;
+              second-fits = tabled-fits limits (card book n) table b end bounded tabled few;
+              first-checked = kept .linked .checked;
+              second-checked = subst (λ t. Checked t b) (sym high-part)
+                  (tabled-checked limits (card book n) table b end bounded tabled few (place b endSize) refl);
+            };
+            upper-is =
+                high-part ∙ tabled-file limits (card book n) table b end bounded tabled few (place b endSize) refl;
           }
 
-      second-is : secondIn limits pair new ≡ normalFile limits (card book n)
-      second-is = high-part ∙ tabled-file limits (card book n) (midOf half (length work - half) work) b end bounded tabled few (place b endSize) refl
+-- ---- the parts that are the two tables
 
-      covers-is : (s t : List ℕ) (i j : ℕ) → s ≡ normalFile limits (card book i) → t ≡ normalFile limits (card book j) → i < count → j < count →
-          rowMaps s t (limits .depth) 0 0 ≡ cardCovers limits book j i
-      covers-is s t i j e f b₁ b₂ =
-          ap (λ (u : List ℕ). rowMaps u t (limits .depth) 0 0) e
-          ∙ ap (λ (u : List ℕ). rowMaps (normalFile limits (card book i)) u (limits .depth) 0 0) f
-          ∙ normal-maps limits (card book i) (card book j) bounded (taken .few i b₁) (taken .few j b₂)
+module _ {limits : Limits} {book places : List ℕ} {count : ℕ} (taken : CardsTaken limits book places count)
+    (bounded : Bounded limits) {m n : ℕ} (l : m < count) (l₂ : n < count) {pair : Pair} {links work : List ℕ}
+    (both : BothHalves limits book m n pair links work) {s t : List ℕ} (e : s ≡ firstIn pair work)
+    (f : t ≡ secondIn limits pair work) where
+  pub parts-comparable : Comparable s t pair links m n
+  parts-comparable =
+      record {
+        linked = subst (λ x. LinkedTable x (pair .first) links) (sym e) (both .lower .linked);
+        checked = subst (λ x. Checked x (pair .second)) (sym f) (both .there .second-checked);
+        low-card = omega (arith, l, taken .cards-read .places-are .most);
+        high-card = omega (arith, l₂, taken .cards-read .places-are .most);
+      }
 
-      pub upper-compared : (word r : ℕ) →
-          WithEach word m (rowMaps (secondIn limits pair new) (firstIn pair new) (limits .depth) 0 0) n (rowMaps (firstIn pair new) (secondIn limits pair new) (limits .depth) 0 0) r →
-          Paired limits book m n word r
-      upper-compared word r each i =
-          each i
-          ∙ ap (λ (t : Bool). (has word i || (eqb i m && t)) || (eqb i n && rowMaps (firstIn pair new) (secondIn limits pair new) (limits .depth) 0 0))
-          (covers-is (secondIn limits pair new) (firstIn pair new) n m second-is (upper-kept .is) l₂ l)
-          ∙ ap (λ (t : Bool). (has word i || (eqb i m && cardCovers limits book m n)) || (eqb i n && t))
-          (covers-is (firstIn pair new) (secondIn limits pair new) m n (upper-kept .is) second-is l l₂)
+  covers-is : (u v : List ℕ) (i j : ℕ) → u ≡ normalFile limits (card book i) → v ≡ normalFile limits (card book j) →
+      i < count → j < count → rowMaps u v (limits .depth) 0 0 ≡ cardCovers limits book j i
+  covers-is u v i j d h b₁ b₂ =
+      ap (λ (x : List ℕ). rowMaps x v (limits .depth) 0 0) d
+      ∙ ap (λ (x : List ℕ). rowMaps (normalFile limits (card book i)) x (limits .depth) 0 0) h
+      ∙ normal-maps limits (card book i) (card book j) bounded (taken .few i b₁) (taken .few j b₂)
+
+  pub parts-compared : (word r : ℕ) →
+      WithEach word m (rowMaps t s (limits .depth) 0 0) n (rowMaps s t (limits .depth) 0 0) r →
+      Paired limits book m n word r
+  parts-compared word r each i =
+      each i
+      ∙ ap (λ (x : Bool). (has word i || (eqb i m && x)) || (eqb i n && rowMaps s t (limits .depth) 0 0))
+      (covers-is t s n m (f ∙ both .upper-is) (e ∙ both .lower .is) l₂ l)
+      ∙ ap (λ (x : Bool). (has word i || (eqb i m && cardCovers limits book m n)) || (eqb i n && x))
+      (covers-is s t m n (e ∙ both .lower .is) (f ∙ both .upper-is) l l₂)

@@ -1,5 +1,7 @@
 -- What the comparison of the cards that cover the case has found. Nobody has to believe these.
 --   LowerHalf              card m's table, with its links, in the lower half of the work space
+--   BothHalves             and card n's table in the upper half
+--   Comparable             card m's table, with its links, and card n's
 --   Paired                 a word with each of two cards that covers the other
 --   undecided              card n covers the case, and not both m and n are redundant already
 --   Earlier                a pair that comes before card m with card n
@@ -15,9 +17,12 @@ use Rattle.table.specs.Layout.{endSize, «place»}
 use Rattle.table.specs.NameSet.{has}
 use Rattle.table.specs.declared.layout.Limits.{Limits}
 use Rattle.meaning.specs.NormalTable.{normalFile}
+use Rattle.row_sets.specs.Rows.{Checked}
 use Rattle.homomorphism_search.specs.Search.{LinkedTable}
 use Rattle.workspace.specs.Prepare.{workSize}
-use Rattle.book.specs.Form.{card}
+use Rattle.workspace.specs.declared.prepare.Pair.{Pair}
+use Rattle.prepare_pair.specs.Tables.{TablesIn, secondIn}
+use Rattle.book.specs.Form.{card, mostCards}
 use Rattle.book.specs.Selection.{cardCovers, subsumesAnother}
 use Rattle.book_form.specs.Places.{WithEach}
 
@@ -26,6 +31,17 @@ pub record LowerHalf (limits : Limits) (book : List ℕ) (m a : ℕ) (links work
   pub fits : place a endSize ≤ pictureSize limits
   pub is : take (place a endSize) work ≡ normalFile limits (card book m)
   pub linked : LinkedTable (take (place a endSize) work) a links
+
+pub record BothHalves (limits : Limits) (book : List ℕ) (m n : ℕ) (pair : Pair) (links work : List ℕ) : Type 0 where
+  pub lower : LowerHalf limits book m (pair .first) links work
+  pub there : TablesIn limits work pair
+  pub upper-is : secondIn limits pair work ≡ normalFile limits (card book n)
+
+pub record Comparable (low high : List ℕ) (pair : Pair) (links : List ℕ) (m n : ℕ) : Type 0 where
+  pub linked : LinkedTable low (pair .first) links
+  pub checked : Checked high (pair .second)
+  pub low-card : m < mostCards
+  pub high-card : n < mostCards
 
 abbrev pub Paired : Limits → List ℕ → ℕ → ℕ → ℕ → ℕ → Type 0
 Paired limits book m n word r = WithEach word m (cardCovers limits book m n) n (cardCovers limits book n m) r

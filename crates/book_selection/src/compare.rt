@@ -9,6 +9,8 @@ use book_tables::cache::SPANS;
 use book_tables::cache::load;
 use book_tables::covering::table_covers;
 use prepare_pair::prepare::half_size;
+use prepare_pair::tables::first_table;
+use prepare_pair::tables::second_table;
 use row_sets::rows::LINKS;
 use row_sets::rows::fill_links;
 use table::layout::END_SIZE;
@@ -25,11 +27,10 @@ ghost use Rattle.table.specs.NameSet.{has};
 ghost use Rattle.table.specs.Put.{zeros};
 ghost use Rattle.homomorphism_search.specs.Search.{LinkedTable, rowMaps};
 ghost use Rattle.workspace.specs.Prepare.{workSize};
-ghost use Rattle.prepare_pair.specs.Tables.{TablesIn, firstIn, secondIn};
 ghost use Rattle.book.specs.Form.{mostCards};
 ghost use Rattle.book.specs.Selection.{subsumesAnother};
 ghost use Rattle.book_tables.specs.Cache.{CardsCached};
-ghost use Rattle.book_selection.specs.Comparing.{Compared, ComparedTo, LowerHalf, Paired, undecided};
+ghost use Rattle.book_selection.specs.Comparing.{Comparable, Compared, ComparedTo, LowerHalf, Paired, undecided};
 ghost use Rattle.book_form.specs.Places.{With, WithEach};
 
 // The word with card k if the second table, which is card k's, covers the first.
@@ -56,28 +57,27 @@ fn mark_redundant(
     redundant
 }
 
-// Card m, whose table stands in the lower half, and card n, whose table stands in the upper one, each with the other.
-fn compare_halves(
-    work: &[u8],
+// Card m, whose table is the low one, and card n, whose table is the high one, each with the other.
+fn compare_tables(
+    low: &[u8],
+    high: &[u8],
     pair: Pair,
     links: &[u8; LINKS],
-    limits: Limits,
+    depth: usize,
     m: usize,
     n: usize,
     redundant: u32,
 ) -> u32
-    requires { ⌜ (Bounded limits) × ((TablesIn limits (now work) pair) × ((LinkedTable (firstIn pair (now work)) (pair .first) (now links)) × ((m < mostCards) × (n < mostCards)))) ⌝ }
-    ensures { λ r. ⌜ WithEach redundant m (rowMaps (secondIn limits pair (now (work .entry))) (firstIn pair (now (work .entry))) (limits .depth) 0 0) n (rowMaps (firstIn pair (now (work .entry))) (secondIn limits pair (now (work .entry))) (limits .depth) 0 0) r ⌝ }
+    requires { ⌜ Comparable (now low) (now high) pair (now links) m n ⌝ }
+    ensures { λ r. ⌜ WithEach redundant m (rowMaps (now (high .entry)) (now (low .entry)) depth 0 0)
+        n (rowMaps (now (low .entry)) (now (high .entry)) depth 0 0) r ⌝ }
 {
-    let half = half_size(limits);
     let a = pair.first;
     let b = pair.second;
-    let low = &work[..place(a, END_SIZE)];
-    let high = &work[half..half + place(b, END_SIZE)];
     let mut others = [0u8; LINKS];
     fill_links(high, b, &mut others);
-    let more = mark_redundant(redundant, m, high, b, &others, low, a, links, limits.depth);
-    mark_redundant(more, n, low, a, links, high, b, &others, limits.depth)
+    let more = mark_redundant(redundant, m, high, b, &others, low, a, links, depth);
+    mark_redundant(more, n, low, a, links, high, b, &others, depth)
 }
 
 // Card m, whose table of a rows stands in the lower half, and card n, each with the other.
@@ -113,7 +113,9 @@ fn compare_with(
         first: a,
         second: b,
     };
-    compare_halves(work, pair, links, limits, m, n, redundant)
+    let low = first_table(work, pair);
+    let high = second_table(work, limits, pair);
+    compare_tables(low, high, pair, links, limits.depth, m, n, redundant)
 }
 
 // Whether card n is to be compared with card m: it covers the case, and not both are redundant already.

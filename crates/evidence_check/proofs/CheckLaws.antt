@@ -2,12 +2,10 @@
 --   form-map, form-refutation   what the form of a file says of it
 --   refutation-read             21 to 23 over what the code has read
 --   check-read                  the answer over the form that the code has read
---   check-parts                 the answer over them
---   prepared-check              after `prepare` has given the pair, the answer over the tables is what the definition says of the pictures
---   check-evidence              the tables decide what the definition asks of the pictures
-use Prim.Native.Nat.{_≤_, ℕ}
+--   check-evidence              the normal files decide what the definition asks of the pictures,
+--   tables-check                and so do the parts of the work space that are these files
+use Prim.Native.Nat.{ℕ}
 use native.Mathlib.Omega.{arith}
-use lib.ListN.{length}
 use mathlib.Core.Bool.{Bool, false, not, true}
 use mathlib.Core.List.{List}
 use mathlib.Core.Path.{_∙_, _≡_, ap, refl, sym}
@@ -22,12 +20,10 @@ use Rattle.countermodel.specs.Individual.{individualOk, refutationForm}
 use Rattle.countermodel.specs.Layout.{individualCount}
 use Rattle.countermodel.specs.Model.{modelTree, rowTree}
 use Rattle.model_check.specs.ModelRows.{fitsRow}
-use Rattle.prepare_pair.proofs.TablesIn.{prepared-first, prepared-pair, prepared-second}
-use Rattle.workspace.specs.Prepare.{Acceptable, halvesPut, onPrepared, prepareAnswer, workSize}
-use Rattle.prepare_pair.specs.Tables.{firstIn, secondIn}
+use Rattle.prepare_pair.proofs.TablesIn.{on-tables}
+use Rattle.workspace.specs.Prepare.{Acceptable}
+use Rattle.prepare_pair.specs.Tables.{NormalTables}
 use Rattle.workspace.specs.declared.prepare.Pair.{Pair}
-use Rattle.workspace.specs.declared.prepare.Prepared.{Prepared}
-use Rattle.workspace.specs.declared.prepare.Prepared.the-variants.{Tables}
 use Rattle.evidence.specs.Call.{evidenceAnswer}
 use Rattle.evidence.specs.Check.{checkAnswer, onAsked, onForm, refutationAsked}
 use Rattle.evidence.specs.Form.{formOf, mapForm}
@@ -95,16 +91,11 @@ module _ (first second e : List ℕ) where
       ap (onForm (pictureTable first) (pictureTable second) (rowTree (pictureTable first) 0) (rowTree (pictureTable second) 0) e)
       (ap (λ (n : ℕ). formOf limits n e) (sym k) ∙ sym h)
 
--- ---- the tables in the work space
+-- ---- the normal tables of a pair
 
-pub check-parts : (limits : Limits) (first second f s e : List ℕ) → first ≡ f → second ≡ s → checkIn limits first second e ≡ checkIn limits f s e
-check-parts limits first second f s e a b = rw (a, b)
-
--- after `prepare`
-module _ (limits : Limits) (first second old work : List ℕ) (answer : Prepared) (pair : Pair) (bounded : Bounded limits) (enough : workSize limits ≤ length old) (is : answer ≡ prepareAnswer limits first second) (written : work ≡ onPrepared answer (halvesPut limits first second old) old) (tables : answer ≡ Tables pair) where
-  pub prepared-check : (e : List ℕ) → checkIn limits (firstIn pair work) (secondIn limits pair work) e ≡ evidenceAnswer limits first second e
-  prepared-check e =
-      check-parts limits (firstIn pair work) (secondIn limits pair work) (normalFile limits first) (normalFile limits second) e
-      (prepared-first limits first second old work answer pair bounded enough is written tables)
-      (prepared-second limits first second old work answer pair bounded enough is written tables)
-      ∙ check-evidence limits first second e bounded (prepared-pair limits first second old work answer pair bounded enough is written tables)
+pub tables-check : {limits : Limits} {first second s t : List ℕ} {pair : Pair} → Bounded limits →
+    NormalTables limits first second pair s t → (e : List ℕ) →
+    checkIn limits s t e ≡ evidenceAnswer limits first second e
+tables-check {limits} {first} {second} bounded tables e =
+    on-tables tables (λ s t. checkIn limits s t e ≡ evidenceAnswer limits first second e)
+    (check-evidence limits first second e bounded (tables .accepted))

@@ -3,7 +3,7 @@
 --   common-file-in, common-in         and what is made of them is what the definition says of the pictures
 --   made-few, made-many               the answer and the result buffer over the rows that were built
 --   short-call, prepared-call         the answer and both buffers: 1 is answered no, or the reading and 14 decide
---   prepared-trims, prepared-common   after `prepare` has given the pair
+--   tables-trims, tables-common       the same of the parts of the work space that are the normal tables
 use Prim.Native.Nat.{_+_, _<_, _≤_, ℕ}
 use borrow.Author.Tests.{le-leb, lt-leb}
 use lib.ListN.{length}
@@ -30,13 +30,12 @@ use Rattle.table.specs.Layout.{endSize, «place»}
 use Rattle.table.specs.Put.{put}
 use Rattle.table_rows.specs.declared.builder.Builder.{Builder}
 use Rattle.table.specs.declared.layout.Limits.{Limits}
-use Rattle.prepare_pair.proofs.TablesIn.{prepared-pair, prepared-tables}
+use Rattle.prepare_pair.proofs.TablesIn.{on-tables}
 use Rattle.workspace.specs.Lent.{pairWork, roomy}
-use Rattle.workspace.specs.Prepare.{Acceptable, halvesPut, onPrepared, prepareAnswer, workSize}
-use Rattle.prepare_pair.specs.Tables.{firstIn, secondIn}
+use Rattle.workspace.specs.Prepare.{Acceptable, halvesPut, onPrepared, prepareAnswer}
+use Rattle.prepare_pair.specs.Tables.{NormalTables}
 use Rattle.workspace.specs.declared.prepare.Pair.{Pair}
 use Rattle.workspace.specs.declared.prepare.Prepared.{Prepared}
-use Rattle.workspace.specs.declared.prepare.Prepared.the-variants as prepared
 use Rattle.lcs.specs.Call.{commonAnswer, lcsAnswer, lcsResult, lcsWork, onCommon, onTables, tooLarge}
 use Rattle.product_rows.specs.Grown.{Built}
 use Rattle.lcs.specs.Product.{lcsCount, lcsFile, lcsTree}
@@ -118,28 +117,24 @@ module _ (limits : Limits) (first second work result : List ℕ) where
   unfolding lcsAnswer pairWork lcsResult
   prepared-call h answer a space is written e = let same = sym is ∙ e in (rw (h, same), (written ∙ rw (h, is), rw (h, same)))
 
--- ---- after `prepare`
+-- ---- the parts of the work space that are the normal tables
 
-module _ (limits : Limits) (first second old work : List ℕ) (answer : Prepared) (pair : Pair) (bounded : Bounded limits) (enough : workSize limits ≤ length old)
-    (is : answer ≡ prepareAnswer limits first second) (written : work ≡ onPrepared answer (halvesPut limits first second old) old)
-    (tables : answer ≡ prepared.Tables pair) where
-  of-tables : (P : List ℕ → List ℕ → Type 0) → P (normalFile limits first) (normalFile limits second) → P (firstIn pair work) (secondIn limits pair work)
-  of-tables = prepared-tables limits first second old work answer pair bounded enough is written tables
+module _ {limits : Limits} {first second s t : List ℕ} {pair : Pair} (bounded : Bounded limits)
+    (tables : NormalTables limits first second pair s t) where
+  pub tables-trims : Trims s t (limits .depth)
+  tables-trims =
+      on-tables tables (λ s t. Trims s t (limits .depth)) (trims limits first second bounded (tables .accepted))
 
-  accepted : Acceptable limits first second
-  accepted = prepared-pair limits first second old work answer pair bounded enough is written tables
-
-  pub prepared-trims : Trims (firstIn pair work) (secondIn limits pair work) (limits .depth)
-  prepared-trims = of-tables (λ s t. Trims s t (limits .depth)) (trims limits first second bounded accepted)
-
-  pub prepared-common : (r : Common) (out end : List ℕ) → r ≡ commonIn limits (firstIn pair work) (secondIn limits pair work) →
-      end ≡ onCommon r (commonFileIn limits (firstIn pair work) (secondIn limits pair work)) out →
+  pub tables-common : (r : Common) (out end : List ℕ) → r ≡ commonIn limits s t →
+      end ≡ onCommon r (commonFileIn limits s t) out →
       (r ≡ commonAnswer limits first second) × (end ≡ onCommon (commonAnswer limits first second) (lcsFile limits first second) out)
-  prepared-common r out end answers writes =
-      let same = answers ∙ of-tables (λ s t. commonIn limits s t ≡ commonAnswer limits first second) (common-in limits first second bounded accepted) in (
+  tables-common r out end answers writes =
+      let same = answers ∙ on-tables tables (λ s t. commonIn limits s t ≡ commonAnswer limits first second)
+      (common-in limits first second bounded (tables .accepted)) in (
         same,
         writes
-            ∙ ap (λ a. onCommon a (commonFileIn limits (firstIn pair work) (secondIn limits pair work)) out) same
+            ∙ ap (λ a. onCommon a (commonFileIn limits s t) out) same
             ∙ ap (λ e. onCommon (commonAnswer limits first second) e out)
-            (of-tables (λ s t. commonFileIn limits s t ≡ lcsFile limits first second) (common-file-in limits first second bounded accepted)),
+            (on-tables tables (λ s t. commonFileIn limits s t ≡ lcsFile limits first second)
+            (common-file-in limits first second bounded (tables .accepted))),
       )

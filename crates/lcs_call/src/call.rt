@@ -8,18 +8,16 @@ use picture::answer::short_buffer;
 use prepare_pair::prepare::half_size;
 use prepare_pair::prepare::has_room;
 use prepare_pair::prepare::prepare;
+use prepare_pair::tables::first_table;
+use prepare_pair::tables::second_table;
 use product_writer::graft::build;
-use table::layout::END_SIZE;
 use table::layout::Limits;
-use table::layout::place;
-use workspace::prepare::Pair;
 use workspace::prepare::Prepared;
 ghost use mathlib.Core.Path.{_≡_};
 ghost use Prim.Native.Nat.{ℕ, _≤_};
 ghost use lib.ListN.{length};
 ghost use Rattle.table.specs.Bounds.{Bounded, pictureSize};
 ghost use Rattle.row_sets.specs.Rows.{Checked};
-ghost use Rattle.prepare_pair.specs.Tables.{TablesIn, firstIn, secondIn};
 ghost use Rattle.lcs.specs.Call.{lcsAnswer, lcsResult, lcsWork, onCommon};
 ghost use Rattle.product_writer.specs.Tables.{Trims, commonFileIn, commonIn};
 
@@ -43,19 +41,6 @@ fn write_common(
     Common::Length(write_table(&scratch, table, result))
 }
 
-// The common picture of the tables in the work space.
-fn common_in(work: &[u8], pair: Pair, limits: Limits, result: &mut [u8]) -> Common
-    requires { ⌜ (Bounded limits) × ((TablesIn limits (now work) pair) × ((Trims (firstIn pair (now work)) (secondIn limits pair (now work)) (limits .depth)) × (pictureSize limits ≤ length (now result)))) ⌝ }
-    ensures { λ r. ⌜ (r ≡ commonIn limits (firstIn pair (now (work .entry))) (secondIn limits pair (now (work .entry)))) × (now (result .exit) ≡ onCommon r (commonFileIn limits (firstIn pair (now (work .entry))) (secondIn limits pair (now (work .entry)))) (now (result .entry))) ⌝ }
-{
-    let half = half_size(limits);
-    let n = pair.first;
-    let m = pair.second;
-    let first = &work[..place(n, END_SIZE)];
-    let second = &work[half..half + place(m, END_SIZE)];
-    write_common(first, n, second, m, limits, result)
-}
-
 // The call: 1; the pair; 15. Nothing is written before 14 is answered yes for both.
 pub fn lcs(
     first: &[u8],
@@ -71,7 +56,11 @@ pub fn lcs(
         return Common::Refused(short_buffer());
     }
     match prepare(first, second, limits, work) {
-        Prepared::Tables(pair) => common_in(work, pair, limits, result),
+        Prepared::Tables(pair) => {
+            let low = first_table(work, pair);
+            let high = second_table(work, limits, pair);
+            write_common(low, pair.first, high, pair.second, limits, result)
+        }
         Prepared::Refused(refusal) => Common::Refused(refusal),
     }
 }

@@ -1,17 +1,14 @@
 -- The two tables in the work space, as they are lent to what reads them.
---   of-parts                    what is true of two tables is true of the parts that are lent, which are the same lists
---   first-part, second-part     the tables as they are lent from the work space
---   tables-in                   once both tables are written they are there, each as the code needs it
---   prepared-pair               after `prepare` has given the pair, it is acceptable,
---   prepared-first,
---   prepared-second, prepared-in   and the tables are the normal files, each as the code needs it;
---   prepared-tables             so what is true of both normal files is true of them
-use Prim.Native.Nat.{ℕ, _+_, _-_, _≤_}
+--   first-lies        the first table lies within the work space
+--   on-tables         what is true of two normal files is true of the parts that are these files
+--   prepared-in       after `prepare` has given the pair both tables are there, each as the code needs it,
+--   prepared-tables   and the parts that are cut out are the normal tables
+use Prim.Native.Nat.{ℕ, _≤_}
 use native.Mathlib.Omega.{arith}
 use lib.ListN.{drop, length, take}
 use mathlib.Core.List.{List}
 use mathlib.Core.Path.{_∙_, _≡_, ap, subst, sym}
-use Rattle.table.specs.Bounds.{Bounded, pictureSize}
+use Rattle.table.specs.Bounds.{Bounded, maxRows, pictureSize}
 use Rattle.table.specs.Layout.{endSize, «place»}
 use Rattle.table.specs.declared.layout.Limits.{Limits}
 use Rattle.meaning.proofs.Normals.{normal-length, normal-reads, normal-size}
@@ -19,23 +16,21 @@ use Rattle.meaning.specs.NormalTable.{normalFile}
 use Rattle.row_sets.proofs.Checks.{readable-checked}
 use Rattle.row_sets.specs.Rows.{Checked}
 use Rattle.workspace.specs.Prepare.{Acceptable, halvesPut, onPrepared, prepareAnswer, tableRows, workSize}
-use Rattle.prepare_pair.specs.Tables.{TablesIn, firstIn, secondIn}
+use Rattle.prepare_pair.specs.Tables.{NormalTables, TablesIn, firstIn, secondIn}
 use Rattle.workspace.specs.declared.prepare.Pair.{Pair}
 use Rattle.workspace.specs.declared.prepare.Prepared.{Prepared}
 use Rattle.workspace.specs.declared.prepare.Prepared.the-variants.{Tables}
 use Rattle.workspace.proofs.Preparations.{halves-first, halves-second, length-halves, tables-acceptable, tablesOf}
 
-pub of-parts : (P : List ℕ → List ℕ → Type 0) (s f t g : List ℕ) → s ≡ f → t ≡ g → P f g → P s t
-of-parts P s f t g d e h = subst (λ x. P x t) (sym d) (subst (λ y. P f y) (sym e) h)
+pub first-lies : {limits : Limits} {work : List ℕ} {pair : Pair} → TablesIn limits work pair →
+    (pair .first ≤ maxRows) × (place (pair .first) endSize ≤ length work)
+first-lies there = (there .first-checked .most, omega (arith, there .room, there .first-fits))
 
-module _ (limits : Limits) (pair : Pair) (work : List ℕ) where
-  pub first-part : (n : ℕ) → n ≡ place (pair .first) endSize → take n work ≡ firstIn pair work
-  first-part n e = ap (λ (k : ℕ). take k work) e
-
-  pub second-part : (h n : ℕ) → h ≡ pictureSize limits → n ≡ place (pair .second) endSize → take (h + n - h) (drop h work) ≡ secondIn limits pair work
-  second-part h n e f =
-      let g : h + n - h ≡ place (pair .second) endSize = omega (arith, f) in
-      ap (λ (k : ℕ). take k (drop h work)) g ∙ ap (λ (k : ℕ). take (place (pair .second) endSize) (drop k work)) e
+pub on-tables : {limits : Limits} {first second s t : List ℕ} {pair : Pair} →
+    NormalTables limits first second pair s t → (P : List ℕ → List ℕ → Type 0) →
+    P (normalFile limits first) (normalFile limits second) → P s t
+on-tables {limits} {first} {second} {s} {t} tables P h =
+    subst (λ x. P x t) (sym (tables .first-is)) (subst (λ y. P (normalFile limits first) y) (sym (tables .second-is)) h)
 
 module _ (limits : Limits) (first second work : List ℕ) (bounded : Bounded limits) (pair : Acceptable limits first second) (enough : workSize limits ≤ length work) where
   abbrev p : Pair
@@ -51,7 +46,7 @@ module _ (limits : Limits) (first second work : List ℕ) (bounded : Bounded lim
       ap (λ (k : ℕ). take k (drop (pictureSize limits) (halvesPut limits first second work))) (sym (normal-length limits second))
       ∙ halves-second limits first second work (pair .first-few) (pair .second-few)
 
-  pub tables-in : TablesIn limits (halvesPut limits first second work) (tablesOf limits first second)
+  tables-in : TablesIn limits (halvesPut limits first second work) (tablesOf limits first second)
   tables-in =
       record {
         room = omega (arith, enough, length-halves limits first second work (pair .first-few) (pair .second-few) enough);
@@ -64,12 +59,11 @@ module _ (limits : Limits) (first second work : List ℕ) (bounded : Bounded lim
       }
 
 -- after `prepare`
-module _ (limits : Limits) (first second old work : List ℕ) (answer : Prepared) (pair : Pair) (bounded : Bounded limits) (enough : workSize limits ≤ length old) (is : answer ≡ prepareAnswer limits first second) (written : work ≡ onPrepared answer (halvesPut limits first second old) old) (tables : answer ≡ Tables pair) where
+module _ (limits : Limits) (first second old : List ℕ) {work : List ℕ} {answer : Prepared} {pair : Pair}
+    (bounded : Bounded limits) (enough : workSize limits ≤ length old) (is : answer ≡ prepareAnswer limits first second)
+    (written : work ≡ onPrepared answer (halvesPut limits first second old) old) (tables : answer ≡ Tables pair) where
   accepted : Acceptable limits first second × (pair ≡ tablesOf limits first second)
   accepted = tables-acceptable limits first second pair (sym is ∙ tables)
-
-  pub prepared-pair : Acceptable limits first second
-  prepared-pair = accepted .0
 
   -- what is true of both tables once they are written
   as-written : (P : Pair → List ℕ → Type 0) → P (tablesOf limits first second) (halvesPut limits first second old) → P pair work
@@ -77,15 +71,18 @@ module _ (limits : Limits) (first second old work : List ℕ) (answer : Prepared
       let halves : work ≡ halvesPut limits first second old = written ∙ ap (λ a. onPrepared a (halvesPut limits first second old) old) tables in
       subst (λ q. P q work) (sym (accepted .1)) (subst (λ w. P (tablesOf limits first second) w) (sym halves) h)
 
-  pub prepared-first : firstIn pair work ≡ normalFile limits first
-  prepared-first = as-written (λ q w. firstIn q w ≡ normalFile limits first) (first-is limits first second old bounded prepared-pair enough)
-
-  pub prepared-second : secondIn limits pair work ≡ normalFile limits second
-  prepared-second = as-written (λ q w. secondIn limits q w ≡ normalFile limits second) (second-is limits first second old bounded prepared-pair enough)
-
   pub prepared-in : TablesIn limits work pair
-  prepared-in = as-written (λ q w. TablesIn limits w q) (tables-in limits first second old bounded prepared-pair enough)
+  prepared-in = as-written (λ q w. TablesIn limits w q) (tables-in limits first second old bounded (accepted .0) enough)
 
-  pub prepared-tables : (P : List ℕ → List ℕ → Type 0) → P (normalFile limits first) (normalFile limits second) → P (firstIn pair work) (secondIn limits pair work)
-  prepared-tables P =
-      of-parts P (firstIn pair work) (normalFile limits first) (secondIn limits pair work) (normalFile limits second) prepared-first prepared-second
+  pub prepared-tables : {s t : List ℕ} → s ≡ firstIn pair work → t ≡ secondIn limits pair work →
+      NormalTables limits first second pair s t
+  prepared-tables e f =
+      record {
+        accepted = accepted .0;
+        first-is = e ∙ as-written (λ q w. firstIn q w ≡ normalFile limits first)
+            (first-is limits first second old bounded (accepted .0) enough);
+        second-is = f ∙ as-written (λ q w. secondIn limits q w ≡ normalFile limits second)
+            (second-is limits first second old bounded (accepted .0) enough);
+        first-checked = subst (λ x. Checked x (pair .first)) (sym e) (prepared-in .first-checked);
+        second-checked = subst (λ x. Checked x (pair .second)) (sym f) (prepared-in .second-checked);
+      }

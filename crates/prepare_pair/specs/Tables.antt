@@ -1,14 +1,17 @@
 -- Where the two tables stand in the work space. Nobody has to believe these.
 --   firstIn, secondIn   the tables of so many rows in the work space
 --   TablesIn            they are there, each as the code needs it
+--   NormalTables        two parts that are the normal tables of two pictures, each as the code needs it
 use Prim.Native.Nat.{ℕ, _≤_}
 use lib.ListN.{drop, length, take}
 use mathlib.Core.List.{List}
+use mathlib.Core.Path.{_≡_}
 use Rattle.table.specs.Bounds.{pictureSize}
 use Rattle.table.specs.Layout.{endSize, «place»}
 use Rattle.table.specs.declared.layout.Limits.{Limits}
+use Rattle.meaning.specs.NormalTable.{normalFile}
 use Rattle.row_sets.specs.Rows.{Checked}
-use Rattle.workspace.specs.Prepare.{workSize}
+use Rattle.workspace.specs.Prepare.{Acceptable, workSize}
 use Rattle.workspace.specs.declared.prepare.Pair.{Pair}
 
 abbrev pub firstIn : Pair → List ℕ → List ℕ
@@ -23,3 +26,10 @@ pub record TablesIn (limits : Limits) (work : List ℕ) (pair : Pair) : Type 0 w
   pub second-fits : place (pair .second) endSize ≤ pictureSize limits
   pub first-checked : Checked (firstIn pair work) (pair .first)
   pub second-checked : Checked (secondIn limits pair work) (pair .second)
+
+pub record NormalTables (limits : Limits) (first second : List ℕ) (pair : Pair) (s t : List ℕ) : Type 0 where
+  pub accepted : Acceptable limits first second
+  pub first-is : s ≡ normalFile limits first
+  pub second-is : t ≡ normalFile limits second
+  pub first-checked : Checked s (pair .first)
+  pub second-checked : Checked t (pair .second)

@@ -4,7 +4,7 @@
 --   map-fits, mapped                     a map has room; it is there where the search said yes
 --   decided-yes, decided-no              the answer and the evidence over what the search said
 --   Gives, short-call, prepared-call     the answer and both buffers: 1 is answered no, or the reading and 14 decide
---   prepared-settled, prepared-decided   after `prepare` has given the pair
+--   tables-settled, tables-decided       the same of the parts of the work space that are the normal tables
 use Prim.Native.Nat.{_+_, _≤_, ℕ}
 use lib.ListN.{length}
 use mathlib.Core.Bool.{Bool, false, true}
@@ -17,8 +17,8 @@ use Rattle.ale.specs.RowMap.{image}
 use Rattle.countermodel.proofs.Individuals.{within-most}
 use Rattle.refutation_writer.specs.Refuting.{againstTree}
 use Rattle.countermodel.specs.Writing.{RefutationRoom, refutationFile}
-use Rattle.prepare_pair.proofs.TablesIn.{prepared-pair, prepared-tables}
-use Rattle.prepare_pair.specs.Tables.{firstIn, secondIn}
+use Rattle.prepare_pair.proofs.TablesIn.{on-tables}
+use Rattle.prepare_pair.specs.Tables.{NormalTables}
 use Rattle.homomorphism.proofs.MapFiles.{length-mapFile}
 use Rattle.homomorphism_search.proofs.NormalMaps.{normal-maps}
 use Rattle.homomorphism.specs.Layout.{imagePlace}
@@ -39,10 +39,9 @@ use Rattle.table.specs.Pick.{pick}
 use Rattle.table.specs.Put.{put}
 use Rattle.table.specs.declared.layout.Limits.{Limits}
 use Rattle.workspace.specs.Lent.{pairWork, roomy}
-use Rattle.workspace.specs.Prepare.{Acceptable, halvesPut, onPrepared, prepareAnswer, workSize}
+use Rattle.workspace.specs.Prepare.{Acceptable, halvesPut, onPrepared, prepareAnswer}
 use Rattle.workspace.specs.declared.prepare.Pair.{Pair}
 use Rattle.workspace.specs.declared.prepare.Prepared.{Prepared}
-use Rattle.workspace.specs.declared.prepare.Prepared.the-variants.{Tables}
 use Rattle.subsumption.specs.Call.{onVerdict, subsumesAnswer, subsumesResult, subsumesWork, verdictAnswer}
 use Rattle.subsumes.specs.Tables.{Settled, evidenceIn, verdictIn}
 use Rattle.subsumption.specs.Verdict.{evidenceOf, evidenceSize, mapOf, refutationOf, verdictOf}
@@ -149,23 +148,22 @@ module _ (limits : Limits) (first second work result : List ℕ) where
   unfolding subsumesAnswer pairWork subsumesResult
   prepared-call h answer a space is written e = let same = sym is ∙ e in (rw (h, same), (written ∙ rw (h, is), rw (h, same)))
 
--- ---- after `prepare`
+-- ---- the parts of the work space that are the normal tables
 
-module _ (limits : Limits) (first second old work : List ℕ) (answer : Prepared) (pair : Pair) (bounded : Bounded limits) (enough : workSize limits ≤ length old) (is : answer ≡ prepareAnswer limits first second) (written : work ≡ onPrepared answer (halvesPut limits first second old) old) (tables : answer ≡ Tables pair) where
-  of-tables : (P : List ℕ → List ℕ → Type 0) → P (normalFile limits first) (normalFile limits second) → P (firstIn pair work) (secondIn limits pair work)
-  of-tables = prepared-tables limits first second old work answer pair bounded enough is written tables
+module _ {limits : Limits} {first second s t : List ℕ} {pair : Pair} (bounded : Bounded limits)
+    (tables : NormalTables limits first second pair s t) where
+  pub tables-settled : (room : ℕ) → evidenceSize limits ≤ room → Settled s t (limits .depth) room
+  tables-settled room long =
+      on-tables tables (λ s t. Settled s t (limits .depth) room)
+      (settled limits first second bounded (tables .accepted) room long)
 
-  accepted : Acceptable limits first second
-  accepted = prepared-pair limits first second old work answer pair bounded enough is written tables
-
-  pub prepared-settled : (room : ℕ) → evidenceSize limits ≤ room → Settled (firstIn pair work) (secondIn limits pair work) (limits .depth) room
-  prepared-settled room long = of-tables (λ s t. Settled s t (limits .depth) room) (settled limits first second bounded accepted room long)
-
-  pub prepared-decided : (r : Verdict) (out end : List ℕ) → r ≡ verdictIn (firstIn pair work) (secondIn limits pair work) (limits .depth) →
-      end ≡ put out 0 (evidenceIn (firstIn pair work) (secondIn limits pair work) (limits .depth)) →
+  pub tables-decided : (r : Verdict) (out end : List ℕ) → r ≡ verdictIn s t (limits .depth) →
+      end ≡ put out 0 (evidenceIn s t (limits .depth)) →
       (r ≡ verdictAnswer limits first second) × (end ≡ put out 0 (evidenceOf limits first second))
-  prepared-decided r out end decides writes = (
-    decides ∙ of-tables (λ s t. verdictIn s t (limits .depth) ≡ verdictAnswer limits first second) (verdict-in limits first second bounded accepted),
+  tables-decided r out end decides writes = (
+    decides ∙ on-tables tables (λ s t. verdictIn s t (limits .depth) ≡ verdictAnswer limits first second)
+        (verdict-in limits first second bounded (tables .accepted)),
     writes ∙ ap (λ e. put out 0 e)
-        (of-tables (λ s t. evidenceIn s t (limits .depth) ≡ evidenceOf limits first second) (evidence-in limits first second bounded accepted)),
+        (on-tables tables (λ s t. evidenceIn s t (limits .depth) ≡ evidenceOf limits first second)
+        (evidence-in limits first second bounded (tables .accepted))),
   )

@@ -1,38 +1,21 @@
 // The third call: question 1, both pictures into the work space, the verdict, and the evidence into the result buffer.
 use crate::verdict::decide;
 use picture::answer::short_buffer;
-use prepare_pair::prepare::half_size;
 use prepare_pair::prepare::has_room;
 use prepare_pair::prepare::prepare;
+use prepare_pair::tables::first_table;
+use prepare_pair::tables::second_table;
 use refutation_reader::layout::individual_place;
 use refutation_reader::layout::individuals_within;
 use subsumption::verdict::Verdict;
 use table::layout::END_SIZE;
 use table::layout::Limits;
-use table::layout::place;
-use workspace::prepare::Pair;
 use workspace::prepare::Prepared;
 ghost use mathlib.Core.Path.{_≡_};
 ghost use Prim.Native.Nat.{ℕ};
 ghost use lib.ListN.{length};
 ghost use Rattle.table.specs.Bounds.{Bounded};
-ghost use Rattle.table.specs.Put.{put};
-ghost use Rattle.prepare_pair.specs.Tables.{TablesIn, firstIn, secondIn};
 ghost use Rattle.subsumption.specs.Call.{subsumesAnswer, subsumesResult, subsumesWork};
-ghost use Rattle.subsumes.specs.Tables.{Settled, evidenceIn, verdictIn};
-
-// The verdict on the tables in the work space.
-fn decide_in(work: &[u8], pair: Pair, limits: Limits, result: &mut [u8]) -> Verdict
-    requires { ⌜ (Bounded limits) × ((TablesIn limits (now work) pair) × (Settled (firstIn pair (now work)) (secondIn limits pair (now work)) (limits .depth) (length (now result)))) ⌝ }
-    ensures { λ r. ⌜ (r ≡ verdictIn (firstIn pair (now (work .entry))) (secondIn limits pair (now (work .entry))) (limits .depth)) × (now (result .exit) ≡ put (now (result .entry)) 0 (evidenceIn (firstIn pair (now (work .entry))) (secondIn limits pair (now (work .entry))) (limits .depth))) ⌝ }
-{
-    let half = half_size(limits);
-    let n = pair.first;
-    let m = pair.second;
-    let first = &work[..place(n, END_SIZE)];
-    let second = &work[half..half + place(m, END_SIZE)];
-    decide(first, n, second, m, limits.depth, result)
-}
 
 // The call: 1; the pair; the verdict. Nothing is written before 14 is answered yes for both.
 pub fn subsumes(
@@ -50,7 +33,11 @@ pub fn subsumes(
         return Verdict::Refused(short_buffer());
     }
     match prepare(first, second, limits, work) {
-        Prepared::Tables(pair) => decide_in(work, pair, limits, result),
+        Prepared::Tables(pair) => {
+            let low = first_table(work, pair);
+            let high = second_table(work, limits, pair);
+            decide(low, pair.first, high, pair.second, limits.depth, result)
+        }
         Prepared::Refused(refusal) => Verdict::Refused(refusal),
     }
 }

@@ -1,10 +1,33 @@
 -- Card n's table comes into the upper half; the lower one stays.
-use native.Mathlib.Omega.{arith}
 use denote.Ref.{now}
-use Rattle.book_selection.proofs.HalfTables.{upper-compared, upper-in, upper-kept, upper-long}
+use lib.ListN.{length}
+use Prim.Native.Nat.{_-_}
+use borrow.Rule.Slice.PartMut.{putMid}
+use Rattle.prepare_pair.proofs.TablesIn.{first-lies}
+use Rattle.book_selection.specs.Comparing.{BothHalves}
+use Rattle.book_selection.proofs.HalfTables.{both-halves, parts-comparable, parts-compared, upper-long}
 use borrow.Author.Needs.{needs}
 use Rattle.book_selection.proofs.compare.compare_with.Statement.{statement}
 use Rattle.book_selection.proofs.compare.compare_with.Tie as tie
+
+-- the way back from the loaded table to the entry
+abbrev entry : (c : tie.After-load) → tie.Start
+entry c = c .before .before .before .before .before .before
+
+both : (c : tie.After-load) →
+    let args = entry c .args in
+    let half = c .before .before .half-size .result in
+    BothHalves (args .limits) (now (args .book)) (args .m) (args .n)
+    (record { first = args .a; second = c .load .result }) (now (args .links))
+    (putMid half (length (now (args .work)) - half) (now (args .work)) (c .load .last .1 .1 .1 .1 .1 .1 .1 .0))
+both c =
+    let args = entry c .args in
+    let pre = entry c .pre in
+    let half = c .before .before .half-size in
+    both-halves (args .limits) (now (args .book)) (now (args .places)) (args .count) (pre .1 .0 .taken) (pre .0)
+    (half .result) (half .ensures) (args .m) (args .a) (pre .1 .1 .0 .0) (now (args .links)) (now (args .work))
+    (pre .1 .1 .1) (args .n) (pre .1 .1 .0 .1) (c .load .result) (c .load .last .1 .1 .1 .1 .1 .1 .1 .0)
+    (c .load .ensures)
 
 half-size-requires : tie.Need-half-size-requires
 half-size-requires c κs = search needs
@@ -24,24 +47,33 @@ load-requires c κs =
     let args = c .before .before .before .before .before .args in
     (pre .0, (pre .1 .0, (pre .1 .1 .0 .1, upper-long (args .limits) (now (args .book)) (now (args .places)) (args .count) (pre .1 .0 .taken) (pre .0) (c .before .half-size .result) (c .before .half-size .ensures) (args .m) (args .a) (pre .1 .1 .0 .0) (now (args .links)) (now (args .work)) (pre .1 .1 .1) (args .n) (pre .1 .1 .0 .1))))
 
-compare-halves-requires : tie.Need-compare-halves-requires
-compare-halves-requires c κs =
-    let pre = c .before .before .before .before .before .before .before .before .before .pre in
-    let args = c .before .before .before .before .before .before .before .before .before .args in
-    let half-size = c .before .before .before .before .before .half-size in
-    let load = c .before .before .before .load in
-    (pre .0, (upper-in (args .limits) (now (args .book)) (now (args .places)) (args .count) (pre .1 .0 .taken) (pre .0) (half-size .result) (half-size .ensures) (args .m) (args .a) (pre .1 .1 .0 .0) (now (args .links)) (now (args .work)) (pre .1 .1 .1) (args .n) (pre .1 .1 .0 .1) (load .result) (load .last .1 .1 .1 .1 .1 .1 .1 .0) (load .ensures), (upper-kept (args .limits) (now (args .book)) (now (args .places)) (args .count) (pre .1 .0 .taken) (pre .0) (half-size .result) (half-size .ensures) (args .m) (args .a) (pre .1 .1 .0 .0) (now (args .links)) (now (args .work)) (pre .1 .1 .1) (args .n) (pre .1 .1 .0 .1) (load .result) (load .last .1 .1 .1 .1 .1 .1 .1 .0) (load .ensures) .linked, (omega (arith, pre .1 .0 .taken .cards-read .places-are .most, pre .1 .1 .0), omega (arith, pre .1 .0 .taken .cards-read .places-are .most, pre .1 .1 .0)))))
+first-table-requires : tie.Need-first-table-requires
+first-table-requires c κs = first-lies (both (c .before .before .before) .there)
+
+second-table-requires : tie.Need-second-table-requires
+second-table-requires c κs =
+    let d = c .before .before .before .before in
+    (entry d .pre .0, both d .there)
+
+compare-tables-requires : tie.Need-compare-tables-requires
+compare-tables-requires c κs =
+    let d = c .before .before .before .before .before in
+    let pre = entry d .pre in
+    parts-comparable (pre .1 .0 .taken) (pre .0) (pre .1 .1 .0 .0) (pre .1 .1 .0 .1) (both d)
+    (c .before .first-table .ensures) (c .second-table .ensures)
 
 same-length : tie.Need-same-length
 same-length c = search needs
 
 returns : tie.Need-returns
 returns c =
-    let args = c .before .before .before .before .before .before .before .before .before .before .args in
-    let pre = c .before .before .before .before .before .before .before .before .before .before .pre in
-    let half-size = c .before .before .before .before .before .before .half-size in
-    let load = c .before .before .before .before .load in
-    (upper-compared (args .limits) (now (args .book)) (now (args .places)) (args .count) (pre .1 .0 .taken) (pre .0) (half-size .result) (half-size .ensures) (args .m) (args .a) (pre .1 .1 .0 .0) (now (args .links)) (now (args .work)) (pre .1 .1 .1) (args .n) (pre .1 .1 .0 .1) (load .result) (load .last .1 .1 .1 .1 .1 .1 .1 .0) (load .ensures) (args .redundant) (c .compare-halves .result) (c .compare-halves .ensures), upper-kept (args .limits) (now (args .book)) (now (args .places)) (args .count) (pre .1 .0 .taken) (pre .0) (half-size .result) (half-size .ensures) (args .m) (args .a) (pre .1 .1 .0 .0) (now (args .links)) (now (args .work)) (pre .1 .1 .1) (args .n) (pre .1 .1 .0 .1) (load .result) (load .last .1 .1 .1 .1 .1 .1 .1 .0) (load .ensures))
+    let d = c .before .before .before .before .before .before in
+    let pre = entry d .pre in (
+      parts-compared (pre .1 .0 .taken) (pre .0) (pre .1 .1 .0 .0) (pre .1 .1 .0 .1) (both d)
+          (c .before .before .first-table .ensures) (c .before .second-table .ensures)
+          (entry d .args .redundant) (c .compare-tables .result) (c .compare-tables .ensures),
+      both d .lower,
+    )
 
 pub compare-with-spec : {M : Type 1} → statement M
 compare-with-spec =
@@ -52,6 +84,8 @@ compare-with-spec =
     part-load-start
     part-load-end
     load-requires
-    compare-halves-requires
+    first-table-requires
+    second-table-requires
+    compare-tables-requires
     same-length
     returns)

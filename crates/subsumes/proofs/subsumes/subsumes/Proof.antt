@@ -4,17 +4,76 @@ use borrow.Author.Needs.{needs}
 use borrow.Author.Tests.{not-false, not-true}
 use denote.Ref.{now}
 use lib.ListN.{length}
+use mathlib.Core.Bool.{true}
 use mathlib.Core.Path.{_∙_, _≡_, ap, sym}
 use native.Mathlib.Omega.{arith}
 use Rattle.countermodel.proofs.Individuals.{within-most}
 use Rattle.workspace.proofs.Lendings.{room-both}
-use Rattle.prepare_pair.proofs.TablesIn.{prepared-in}
+use Rattle.prepare_pair.proofs.TablesIn.{first-lies, prepared-in, prepared-tables}
+use Rattle.prepare_pair.specs.Tables.{NormalTables, TablesIn}
 use Rattle.workspace.specs.Lent.{roomy}
+use Rattle.workspace.specs.Prepare.{workSize}
 use Rattle.workspace.specs.declared.prepare.Prepared.the-variants.{Refused, Tables}
 use Rattle.subsumption.specs.Verdict.{evidenceSize}
-use Rattle.subsumes.proofs.Decisions.{prepared-call, prepared-decided, prepared-settled, short-call}
+use Rattle.subsumes.proofs.Decisions.{prepared-call, short-call, tables-decided, tables-settled}
 use Rattle.subsumes.proofs.subsumes.subsumes.Statement.{statement}
 use Rattle.subsumes.proofs.subsumes.subsumes.Tie as tie
+
+-- the ways back: from the answer to 1 to the entry, from the pair to that answer, from the parts to the pair
+abbrev entry : (c : tie.Else1) → tie.Start
+entry c = c .before .before .before .before .before .before .before .before
+
+abbrev tested : (c : tie.After-pair) → tie.Else1
+tested c = c .before .before .before .before .before .before
+
+abbrev paired : (c : tie.After-second-table) → tie.After-pair
+paired c = c .before .before .before .before
+
+-- 1, as it was asked
+asked : (c : tie.After-has-room) → let a = c .before .before .before .before .before .before .before .args in
+    roomy (a .limits) (evidenceSize (a .limits)) (length (now (a .work))) (length (now (a .result)))
+    ≡ c .has-room .result
+asked c =
+    let a = c .before .before .before .before .before .before .before .args in
+    let place = c .before .individual-place in
+    let size : place .result ≡ evidenceSize (a .limits) =
+    omega (arith, place .ensures, c .before .before .individuals-within .ensures) in
+    ap (λ n. roomy (a .limits) n (length (now (a .work))) (length (now (a .result)))) (sym size)
+    ∙ sym (c .has-room .ensures)
+
+has-room : (c : tie.Else1) → let a = entry c .args in
+    roomy (a .limits) (evidenceSize (a .limits)) (length (now (a .work))) (length (now (a .result))) ≡ true
+has-room c = asked (c .before) ∙ not-false (c .before .has-room .result) (c .if1 .left)
+
+enough : (c : tie.Else1) → let a = entry c .args in
+    (workSize (a .limits) ≤ length (now (a .work))) × (evidenceSize (a .limits) ≤ length (now (a .result)))
+enough c =
+    let a = entry c .args in
+    room-both (a .limits) (evidenceSize (a .limits)) (length (now (a .work))) (length (now (a .result))) (has-room c)
+
+-- both tables are there
+there : (c : tie.After-pair) →
+    TablesIn (entry (tested c) .args .limits)
+    (c .before .before .before .before .prepare .last .1 .1 .1 .0) (c .pair .given .0 .0)
+there c =
+    let start = entry (tested c) in
+    let a = start .args in
+    let prepare = c .before .before .before .before .prepare in
+    prepared-in (a .limits) (now (a .first)) (now (a .second)) (now (a .work))
+    (start .pre) (enough (tested c) .0) (prepare .ensures .0) (prepare .ensures .1) (c .pair .given .1)
+
+-- and the parts are the normal tables
+normal : (c : tie.After-second-table) →
+    let a = entry (tested (paired c)) .args in
+    NormalTables (a .limits) (now (a .first)) (now (a .second)) (paired c .pair .given .0 .0)
+    (now (c .before .first-table .result)) (now (c .second-table .result))
+normal c =
+    let start = entry (tested (paired c)) in
+    let a = start .args in
+    let prepare = c .before .before .before .before .before .before .before .before .prepare in
+    prepared-tables (a .limits) (now (a .first)) (now (a .second)) (now (a .work))
+    (start .pre) (enough (tested (paired c)) .0) (prepare .ensures .0) (prepare .ensures .1)
+    (paired c .pair .given .1) (c .before .first-table .ensures) (c .second-table .ensures)
 
 individuals-within-requires : tie.Need-individuals-within-requires
 individuals-within-requires c κs = search needs
@@ -29,42 +88,32 @@ has-room-requires c κs = search needs
 
 returns : tie.Need-returns
 returns c =
-    let st = c .before .before .before .before .before .before .before .before .before in
-    let a = st .args in
-    let place = c .before .before .before .individual-place in
-    let size : place .result ≡ evidenceSize (a .limits) = omega (arith, place .ensures, c .before .before .before .before .individuals-within .ensures) in
-    let room = c .before .before .has-room in
-    let same = ap (λ n. roomy (a .limits) n (length (now (a .work))) (length (now (a .result)))) (sym size) ∙ sym (room .ensures) in
-    rw (c .short-buffer .ensures) (short-call (a .limits) (now (a .first)) (now (a .second)) (now (a .work)) (now (a .result)) (same ∙ not-true (room .result) (c .before .if1 .taken)))
+    let a = c .before .before .before .before .before .before .before .before .before .args in
+    let no = asked (c .before .before) ∙ not-true (c .before .before .has-room .result) (c .before .if1 .taken) in
+    rw (c .short-buffer .ensures)
+    (short-call (a .limits) (now (a .first)) (now (a .second)) (now (a .work)) (now (a .result)) no)
 
 prepare-requires : tie.Need-prepare-requires
-prepare-requires c κs =
-    let st = c .before .before .before .before .before .before .before .before .before in
-    let a = st .args in
-    let place = c .before .before .before .individual-place in
-    let size : place .result ≡ evidenceSize (a .limits) = omega (arith, place .ensures, c .before .before .before .before .individuals-within .ensures) in
-    let room = c .before .before .has-room in
-    let same = ap (λ n. roomy (a .limits) n (length (now (a .work))) (length (now (a .result)))) (sym size) ∙ sym (room .ensures) in
-    let is-roomy = same ∙ not-false (room .result) (c .before .if1 .left) in
-    let (enough, long) = room-both (a .limits) (evidenceSize (a .limits)) (length (now (a .work))) (length (now (a .result))) is-roomy in
-    (st .pre, enough)
+prepare-requires c κs = (entry (c .before) .pre, enough (c .before) .0)
 
 enum-known-pair : tie.Need-enum-known-pair
 enum-known-pair c = search needs
 
-decide-in-requires : tie.Need-decide-in-requires
-decide-in-requires c κs =
-    let st = c .before .before .before .before .before .before .before .before .before .before .before .before .before .before .before .before .before in
-    let a = st .args in
-    let place = c .before .before .before .before .before .before .before .before .before .before .before .individual-place in
-    let size : place .result ≡ evidenceSize (a .limits) = omega (arith, place .ensures, c .before .before .before .before .before .before .before .before .before .before .before .before .individuals-within .ensures) in
-    let room = c .before .before .before .before .before .before .before .before .before .before .has-room in
-    let same = ap (λ n. roomy (a .limits) n (length (now (a .work))) (length (now (a .result)))) (sym size) ∙ sym (room .ensures) in
-    let is-roomy = same ∙ not-false (room .result) (c .before .before .before .before .before .before .before .before .before .if1 .left) in
-    let (enough, long) = room-both (a .limits) (evidenceSize (a .limits)) (length (now (a .work))) (length (now (a .result))) is-roomy in
-    let prepare = c .before .before .before .before .before .before .before .prepare in
-    let pair = c .before .before .before .pair .given in
-    (st .pre, (prepared-in (a .limits) (now (a .first)) (now (a .second)) (now (a .work)) (prepare .last .1 .1 .1 .0) (prepare .result) (pair .0 .0) (st .pre) enough (prepare .ensures .0) (prepare .ensures .1) (pair .1), prepared-settled (a .limits) (now (a .first)) (now (a .second)) (now (a .work)) (prepare .last .1 .1 .1 .0) (prepare .result) (pair .0 .0) (st .pre) enough (prepare .ensures .0) (prepare .ensures .1) (pair .1) (length (now (a .result))) long))
+first-table-requires : tie.Need-first-table-requires
+first-table-requires c κs = first-lies (there (c .before .before))
+
+second-table-requires : tie.Need-second-table-requires
+second-table-requires c κs =
+    let d = c .before .before .before in
+    (entry (tested d) .pre, there d)
+
+decide-requires : tie.Need-decide-requires
+decide-requires c κs =
+    let d = tested (paired (c .before)) in
+    let start = entry d in
+    let tables = normal (c .before) in
+    let settled = tables-settled (start .pre) tables (length (now (start .args .result))) (enough d .1) in
+    (tables .first-checked, (tables .second-checked, settled))
 
 enum-known-refusal : tie.Need-enum-known-refusal
 enum-known-refusal c = search needs
@@ -77,20 +126,18 @@ same-length-2 c = search needs
 
 returns-2 : tie.Need-returns-2
 returns-2 c =
-    let st = c .before .before .before .before .before .before .before .before .before .before .before .before .before .before .before .before .before .before .before .before in
-    let a = st .args in
-    let place = c .before .before .before .before .before .before .before .before .before .before .before .before .before .before .individual-place in
-    let size : place .result ≡ evidenceSize (a .limits) = omega (arith, place .ensures, c .before .before .before .before .before .before .before .before .before .before .before .before .before .before .before .individuals-within .ensures) in
-    let room = c .before .before .before .before .before .before .before .before .before .before .before .before .before .has-room in
-    let same = ap (λ n. roomy (a .limits) n (length (now (a .work))) (length (now (a .result)))) (sym size) ∙ sym (room .ensures) in
-    let is-roomy = same ∙ not-false (room .result) (c .before .before .before .before .before .before .before .before .before .before .before .before .if1 .left) in
-    let (enough, long) = room-both (a .limits) (evidenceSize (a .limits)) (length (now (a .work))) (length (now (a .result))) is-roomy in
-    let prepare = c .before .before .before .before .before .before .before .before .before .before .prepare in
-    let pair = c .before .before .before .before .before .before .pair .given in
-    let decide = c .before .before .decide-in in
-    let (answered, put) = prepared-decided (a .limits) (now (a .first)) (now (a .second)) (now (a .work)) (prepare .last .1 .1 .1 .0) (prepare .result) (pair .0 .0) (st .pre) enough (prepare .ensures .0) (prepare .ensures .1) (pair .1)
-    (decide .result) (now (a .result)) (decide .last .1 .1 .1 .0) (decide .ensures .0) (decide .ensures .1) in
-    let (answer, (space, buffer)) = prepared-call (a .limits) (now (a .first)) (now (a .second)) (now (a .work)) (now (a .result)) is-roomy (prepare .result) (Tables (pair .0 .0)) (prepare .last .1 .1 .1 .0) (prepare .ensures .0) (prepare .ensures .1) (pair .1) in
+    let d = paired (c .before .before .before .before) in
+    let start = entry (tested d) in
+    let a = start .args in
+    let prepare = d .before .before .before .before .prepare in
+    let pair = d .pair .given in
+    let decide = c .before .before .decide in
+    let (answered, put) = tables-decided (start .pre) (normal (c .before .before .before .before))
+    (decide .result) (now (a .result)) (decide .last .1 .1 .1 .1 .1 .0) (decide .ensures .0) (decide .ensures .1) in
+    let (answer, (space, buffer)) =
+    prepared-call (a .limits) (now (a .first)) (now (a .second)) (now (a .work)) (now (a .result)) (has-room (tested d))
+    (prepare .result) (Tables (pair .0 .0)) (prepare .last .1 .1 .1 .0) (prepare .ensures .0) (prepare .ensures .1)
+    (pair .1) in
     (answered ∙ answer, (space, put ∙ buffer))
 
 same-length-3 : tie.Need-same-length-3
@@ -98,18 +145,13 @@ same-length-3 c = search needs
 
 returns-3 : tie.Need-returns-3
 returns-3 c =
-    let st = c .before .before .before .before .before .before .before .before .before .before .before .before .before .before .before in
-    let a = st .args in
-    let place = c .before .before .before .before .before .before .before .before .before .individual-place in
-    let size : place .result ≡ evidenceSize (a .limits) = omega (arith, place .ensures, c .before .before .before .before .before .before .before .before .before .before .individuals-within .ensures) in
-    let room = c .before .before .before .before .before .before .before .before .has-room in
-    let same = ap (λ n. roomy (a .limits) n (length (now (a .work))) (length (now (a .result)))) (sym size) ∙ sym (room .ensures) in
-    let is-roomy = same ∙ not-false (room .result) (c .before .before .before .before .before .before .before .if1 .left) in
-    let (enough, long) = room-both (a .limits) (evidenceSize (a .limits)) (length (now (a .work))) (length (now (a .result))) is-roomy in
+    let tests = c .before .before .before .before .before .before .before in
+    let a = entry tests .args in
     let prepare = c .before .before .before .before .before .prepare in
     let refusal = c .before .refusal .given in
-    prepared-call (a .limits) (now (a .first)) (now (a .second)) (now (a .work)) (now (a .result)) is-roomy
-    (prepare .result) (Refused (refusal .0 .0)) (prepare .last .1 .1 .1 .0) (prepare .ensures .0) (prepare .ensures .1) (refusal .1)
+    prepared-call (a .limits) (now (a .first)) (now (a .second)) (now (a .work)) (now (a .result)) (has-room tests)
+    (prepare .result) (Refused (refusal .0 .0)) (prepare .last .1 .1 .1 .0) (prepare .ensures .0) (prepare .ensures .1)
+    (refusal .1)
 
 short-buffer-requires : tie.Need-short-buffer-requires
 short-buffer-requires c κs = search needs
@@ -125,7 +167,9 @@ subsumes-spec =
     returns
     prepare-requires
     enum-known-pair
-    decide-in-requires
+    first-table-requires
+    second-table-requires
+    decide-requires
     enum-known-refusal
     same-length
     same-length-2
