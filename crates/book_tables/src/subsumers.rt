@@ -9,14 +9,13 @@ use book_form::form::card;
 use book_form::word::bit;
 use normal_writer::write::TABLE;
 use normal_writer::write::normal_table;
+use normal_writer::write::table_of;
 use picture::answer::Input;
 use picture::answer::Refusal;
 use picture::answer::too_many;
 use row_sets::rows::LINKS;
 use row_sets::rows::fill_links;
-use table::layout::END_SIZE;
 use table::layout::Limits;
-use table::layout::place;
 ghost use mathlib.Core.Path.{_≡_};
 ghost use Prim.Native.Nat.{ℕ, _+_, _≤_, _<_};
 ghost use lib.ListN.{length, take};
@@ -55,7 +54,7 @@ fn covers_case(
     requires { ⌜ (Bounded limits) × ((m ≤ limits .rows) × ((«place» m endSize ≤ length (now scratch)) × ((Checked (take («place» m endSize) (now scratch)) m) × (LinkedTable (now table) n (now links))))) ⌝ }
     ensures { λ r. ⌜ r ≡ rowMaps (now (table .entry)) (take («place» m endSize) (now (scratch .entry))) (limits .depth) 0 0 ⌝ }
 {
-    let other = &scratch[..place(m, END_SIZE)];
+    let other = table_of(scratch, m);
     let mut others = [0u8; LINKS];
     fill_links(other, m, &mut others);
     table_covers(table, n, links, other, m, &others, limits.depth)
@@ -157,7 +156,7 @@ pub fn find_subsumers(
     if n == 0 {
         return Selected::Refused(too_many(Input::First));
     }
-    let table = &scratch[..place(n, END_SIZE)];
+    let table = table_of(&scratch, n);
     let mut links = [0u8; LINKS];
     fill_links(table, n, &mut links);
     test_cards(book, places, count, limits, table, n, &links, cache, spans)

@@ -4,7 +4,7 @@
 --   tabled-none, tabled-rows           14 is answered no; the table is finished
 --   none-many, some-few                no row says that 14 is answered no, any other number that it is answered yes
 --   rows-few                           then the rows are those of the normal table
---   tabled-fits, tabled-length         the table fits a half; its length
+--   tabled-fits, tabled-there          the table fits a half, and so the part
 --   tabled-file, tabled-checked        it is the normal file, and has all that a search needs
 use Prim.Native.Nat.{_+_, _/_, _<_, _≤_, ℕ}
 use borrow.Author.Tests.{le-leb, leb-true, lt-leb}
@@ -25,7 +25,7 @@ use Rattle.row_sets.specs.Rows.{Checked}
 use Rattle.table.proofs.Bools.{by-test}
 use Rattle.table.proofs.Puts.{length-put, put-put}
 use Rattle.table.proofs.Rows.{length-endBytes}
-use Rattle.table.specs.Bounds.{Bounded, pictureSize}
+use Rattle.table.specs.Bounds.{Bounded, maxRows, pictureSize}
 use Rattle.table.specs.Fields.{endBytes}
 use Rattle.table.specs.Layout.{endSize, rowSize, «place»}
 use Rattle.table.specs.Pick.{pick}
@@ -111,8 +111,8 @@ module _ (limits : Limits) (s out : List ℕ) where
       pub tabled-fits : place r endSize ≤ pictureSize limits
       tabled-fits = omega (arith, rows-few few, normal-length limits s, normal-size limits s few)
 
-      pub tabled-length : place r endSize ≡ length (normalFile limits s)
-      tabled-length = omega (arith, rows-few few, normal-length limits s)
+      pub tabled-there : pictureSize limits ≤ length out → (r ≤ maxRows) × (place r endSize ≤ length end)
+      tabled-there room = (omega (arith, tabled-fits, bounded .0), omega (arith, tabled-fits, tabled .same, room))
 
       -- the part that is the table, however its length was found
       module _ (n : ℕ) (is : n ≡ place r endSize) where

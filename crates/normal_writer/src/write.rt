@@ -10,7 +10,9 @@ use table::number::copy_in;
 use table_rows::builder::Builder;
 ghost use mathlib.Core.Path.{_≡_};
 ghost use mathlib.Core.List.{_++_};
-ghost use lib.ListN.{length};
+ghost use Prim.Native.Nat.{ℕ, _≤_};
+ghost use lib.ListN.{length, take};
+ghost use Rattle.table.specs.Bounds.{maxRows};
 ghost use Rattle.table.specs.Fields.{endBytes};
 ghost use Rattle.table.specs.Layout.{«place», endSize};
 ghost use Rattle.table.specs.Put.{put};
@@ -36,6 +38,14 @@ pub fn normal_table(picture: &[u8], limits: Limits, out: &mut [u8]) -> usize
     let table = built.table;
     table.finish(out);
     table.rows
+}
+
+// The table of so many rows at the start of a part.
+pub fn table_of(part: &[u8], rows: usize) -> &[u8]
+    requires { ⌜ (rows ≤ maxRows) × («place» rows endSize ≤ length (now part)) ⌝ }
+    ensures { λ r. ⌜ now r ≡ take («place» rows endSize) (now (part .entry)) ⌝ }
+{
+    &part[..place(rows, END_SIZE)]
 }
 
 // Copies the rows of a table under construction and ends the table there; its length in bytes.

@@ -2,6 +2,7 @@
 use normal::normalize::Normalized;
 use normal_writer::write::TABLE;
 use normal_writer::write::normal_table;
+use normal_writer::write::table_of;
 use picture::answer::Answer;
 use picture::answer::Input;
 use picture::answer::short_buffer;
@@ -24,14 +25,14 @@ fn write_normal(picture: &[u8], limits: Limits, result: &mut [u8]) -> Normalized
     requires { ⌜ TableRoom limits (now picture) (now result) ⌝ }
     ensures { λ r. ⌜ (r ≡ onReading limits (now (picture .entry)) (Answer.Rows (rowCount (now (picture .entry))))) × (now (result .exit) ≡ onAnswer r (normalFile limits (now (picture .entry))) (now (result .entry))) ⌝ }
 {
-    let mut table = [0u8; TABLE];
-    let n = normal_table(picture, limits, &mut table);
+    let mut made = [0u8; TABLE];
+    let n = normal_table(picture, limits, &mut made);
     if n == 0 {
         return Normalized::Refused(too_many(Input::First));
     }
-    let size = place(n, END_SIZE);
-    copy_in(result, 0, &table[..size]);
-    Normalized::Length(size)
+    let table = table_of(&made, n);
+    copy_in(result, 0, table);
+    Normalized::Length(table.len())
 }
 
 pub fn normalize(picture: &[u8], limits: Limits, result: &mut [u8]) -> Normalized

@@ -1,6 +1,7 @@
 // Two pictures, in the order of every call on two: 2 to 13 of the first, of the second, then 14 of each. Nothing is written before all are answered yes.
 use normal_writer::write::TABLE;
 use normal_writer::write::normal_table;
+use normal_writer::write::table_of;
 use normal_writer::write::write_half;
 use picture::answer::Answer;
 use picture::answer::Input;
@@ -64,9 +65,7 @@ fn write_pair(first: &[u8], second: &[u8], limits: Limits, work: &mut [u8]) -> P
     if m == 0 {
         return Prepared::Refused(too_many(Input::Second));
     }
-    let size = place(n, END_SIZE);
-    let other_size = place(m, END_SIZE);
-    write_halves(&table[..size], &other[..other_size], limits, work);
+    write_halves(table_of(&table, n), table_of(&other, m), limits, work);
     Prepared::Tables(Pair {
         first: n,
         second: m,

@@ -3,13 +3,11 @@ use Prim.Native.Nat.{_≤_}
 use native.Mathlib.Omega.{arith}
 use borrow.Author.Needs.{needs}
 use denote.Ref.{now}
-use lib.Seq.{length-take-le}
-use mathlib.Core.Path.{refl, sym}
+use mathlib.Core.Path.{_∙_, refl, subst, sym}
 use Rattle.table.proofs.Stores.{blank}
-use Rattle.table.specs.Bounds.{pictureSize}
-use Rattle.table.specs.Layout.{endSize, «place»}
 use Rattle.meaning.specs.NormalTable.{mergedCount}
-use Rattle.normal_writer.proofs.Tablings.{none-many, some-few, tabled-checked, tabled-file, tabled-fits}
+use Rattle.row_sets.specs.Rows.{Checked}
+use Rattle.normal_writer.proofs.Tablings.{none-many, some-few, tabled-checked, tabled-there}
 use Rattle.book_tables.proofs.CardTests.{case-many, case-tested}
 use Rattle.book_tables.proofs.subsumers.find_subsumers.Statement.{statement}
 use Rattle.book_tables.proofs.subsumers.find_subsumers.Tie as tie
@@ -31,36 +29,29 @@ returns c =
     let many = none-many _ _ _ _ _ (start .pre .0) (c .before .before .before .normal-table .ensures) (c .before .if1 .taken) in
     rw (c .too-many .ensures) (case-many (a .limits) (now (a .case)) (now (a .book)) (a .count) many, tt)
 
--- where a row was given, 14 is answered yes, and the table fits
+-- where a row was given, 14 is answered yes, and the table has all that a search needs
 few : (c : tie.Else1) → let a = c .before .before .before .before .before .before .before .args in mergedCount (a .limits) (now (a .case)) ≤ a .limits .rows
 few c = some-few _ _ _ _ _ (c .before .before .before .before .before .before .before .pre .0) (c .before .before .normal-table .ensures) (c .if1 .left)
 
-fits : (c : tie.Else1) → «place» (c .before .before .normal-table .result) endSize ≤ pictureSize (c .before .before .before .before .before .before .before .args .limits)
-fits c = tabled-fits _ _ _ _ _ (c .before .before .before .before .before .before .before .pre .0) (c .before .before .normal-table .ensures) (few c)
+slice-aggregate-table-of : tie.Need-slice-aggregate-table-of
+slice-aggregate-table-of c = search needs
 
-place-requires : tie.Need-place-requires
-place-requires c κs = (omega (arith, fits c, c .before .before .before .before .before .before .before .pre .0 .0), omega arith)
+table-of-requires : tie.Need-table-of-requires
+table-of-requires c κs =
+    let bounded = c .before .before .before .before .before .before .before .before .pre .0 in tabled-there _ _ _ _ _ bounded (c .before .before .before .normal-table .ensures) (few (c .before)) (omega (arith, bounded .0))
 
-array-share-prefix-scratch : tie.Need-array-share-prefix-scratch
-array-share-prefix-scratch c = omega (arith, fits (c .before), c .place .ensures, c .before .before .before .normal-table .ensures .same, c .before .before .before .before .before .before .before .before .pre .0 .0)
-
-slice-aggregate-table : tie.Need-slice-aggregate-table
-slice-aggregate-table c =
+checked : (c : tie.After-table-of) → Checked (now (c .table-of .result)) (c .before .before .before .before .normal-table .result)
+checked c =
     let made = c .before .before .before .before .normal-table in
-    let size = c .before .place in
-    sym (length-take-le (size .result) (made .last .1 .1 .0) (omega (arith, fits (c .before .before), size .ensures, made .ensures .same, c .before .before .before .before .before .before .before .before .before .pre .0 .0)))
+    subst (λ t. Checked t (made .result)) (sym (c .table-of .ensures)) (tabled-checked _ _ _ _ _ (c .before .before .before .before .before .before .before .before .before .pre .0) (made .ensures) (few (c .before .before)) _ refl)
 
 fill-links-requires : tie.Need-fill-links-requires
-fill-links-requires c κs =
-    let size = c .before .before .place in
-    (tabled-checked _ _ _ _ _ (c .before .before .before .before .before .before .before .before .before .before .pre .0) (c .before .before .before .before .before .normal-table .ensures) (few (c .before .before .before)) (size .result) (size .ensures), blank 512 512 refl)
+fill-links-requires c κs = (checked (c .before), blank 512 512 refl)
 
 test-cards-requires : tie.Need-test-cards-requires
 test-cards-requires c κs =
     let pre = c .before .before .before .before .before .before .before .before .before .before .before .before .before .before .pre in
-    let size = c .before .before .before .before .before .before .place in
-    let checked = tabled-checked _ _ _ _ _ (pre .0) (c .before .before .before .before .before .before .before .before .before .normal-table .ensures) (few (c .before .before .before .before .before .before .before)) (size .result) (size .ensures) in
-    (pre .0, (pre .1 .1 .0, (record { checked = checked; linked = c .before .before .before .fill-links .ensures }, pre .1 .1 .1)))
+    (pre .0, (pre .1 .1 .0, (record { checked = checked (c .before .before .before .before .before); linked = c .before .before .before .fill-links .ensures }, pre .1 .1 .1)))
 
 same-length : tie.Need-same-length
 same-length c = search needs
@@ -69,9 +60,8 @@ returns-2 : tie.Need-returns-2
 returns-2 c =
     let start = c .before .before .before .before .before .before .before .before .before .before .before .before .before .before .before .before .before in
     let a = start .args in
-    let size = c .before .before .before .before .before .before .before .before .before .place in
     let less = few (c .before .before .before .before .before .before .before .before .before .before) in
-    let file = tabled-file _ _ _ _ _ (start .pre .0) (c .before .before .before .before .before .before .before .before .before .before .before .before .normal-table .ensures) less (size .result) (size .ensures) in
+    let file = c .before .before .before .before .before .before .before .before .table-of .ensures ∙ c .before .before .before .before .before .before .before .before .before .before .before .before .normal-table .ensures .file less in
     let tested = c .before .before .test-cards in
     (case-tested (a .limits) (now (a .case)) (now (a .book)) (a .count) (start .pre .0) less _ file (tested .result) (tested .ensures .0), tested .ensures .1)
 
@@ -83,9 +73,8 @@ find-subsumers-spec =
     normal-table-requires
     too-many-requires
     returns
-    place-requires
-    array-share-prefix-scratch
-    slice-aggregate-table
+    slice-aggregate-table-of
+    table-of-requires
     fill-links-requires
     test-cards-requires
     same-length
