@@ -5,13 +5,12 @@ use normal_writer::write::table_of;
 use normal_writer::write::write_half;
 use picture::answer::Answer;
 use picture::answer::Input;
+use picture::answer::Refusal;
 use picture::answer::too_many;
 use picture_reader::read::read;
 use table::layout::END_SIZE;
 use table::layout::Limits;
 use table::layout::place;
-use workspace::prepare::Pair;
-use workspace::prepare::Prepared;
 ghost use mathlib.Core.Path.{_≡_};
 ghost use mathlib.Core.List.{_++_};
 ghost use Prim.Native.Nat.{ℕ, _≤_};
@@ -20,8 +19,21 @@ ghost use Rattle.table.specs.Bounds.{Bounded, pictureSize};
 ghost use Rattle.table.specs.Put.{put};
 ghost use Rattle.normal.specs.Half.{halfOf};
 ghost use Rattle.workspace.specs.Lent.{roomy};
-ghost use Rattle.workspace.specs.Prepare.{mergedAsked, halvesPut, onPrepared, prepareAnswer, workSize};
-ghost use Rattle.prepare_pair.specs.Tables.{HalvesRoom, PairRoom};
+ghost use Rattle.picture.specs.Asked.{kept, onAsked};
+ghost use Rattle.workspace.specs.Prepare.{halvesPut, pairAsked, workSize};
+ghost use Rattle.prepare_pair.specs.Tables.{HalvesRoom, PairRoom, bothMerged, tablesOf};
+
+// The rows of the two normal tables.
+pub struct Pair {
+    pub first: usize,
+    pub second: usize,
+}
+
+// Both tables, or the first refusal.
+pub enum Prepared {
+    Tables(Pair),
+    Refused(Refusal),
+}
 
 // The second half begins where the longest picture ends.
 pub fn half_size(limits: Limits) -> usize
@@ -53,7 +65,10 @@ fn write_halves(first: &[u8], second: &[u8], limits: Limits, work: &mut [u8])
 // 14 of both, and the tables: they are made in arrays of the call's own.
 fn write_pair(first: &[u8], second: &[u8], limits: Limits, work: &mut [u8]) -> Prepared
     requires { ⌜ PairRoom limits (now first) (now second) (now work) ⌝ }
-    ensures { λ r. ⌜ (r ≡ mergedAsked limits (now (first .entry)) (now (second .entry))) × (now (work .exit) ≡ onPrepared r (halvesPut limits (now (first .entry)) (now (second .entry)) (now (work .entry))) (now (work .entry))) ⌝ }
+    ensures { λ r. ⌜ (r ≡ onAsked Prepared.Refused (bothMerged limits (now (first .entry)) (now (second .entry)))
+        (Prepared.Tables (tablesOf limits (now (first .entry)) (now (second .entry)))))
+        × (now (work .exit) ≡ kept (bothMerged limits (now (first .entry)) (now (second .entry)))
+        (halvesPut limits (now (first .entry)) (now (second .entry)) (now (work .entry))) (now (work .entry))) ⌝ }
 {
     let mut table = [0u8; TABLE];
     let n = normal_table(first, limits, &mut table);
@@ -75,7 +90,10 @@ fn write_pair(first: &[u8], second: &[u8], limits: Limits, work: &mut [u8]) -> P
 // 2 to 13 of the first, then of the second, then 14 of both, and the tables.
 pub fn prepare(first: &[u8], second: &[u8], limits: Limits, work: &mut [u8]) -> Prepared
     requires { ⌜ (Bounded limits) × (workSize limits ≤ length (now work)) ⌝ }
-    ensures { λ r. ⌜ (r ≡ prepareAnswer limits (now (first .entry)) (now (second .entry))) × (now (work .exit) ≡ onPrepared r (halvesPut limits (now (first .entry)) (now (second .entry)) (now (work .entry))) (now (work .entry))) ⌝ }
+    ensures { λ r. ⌜ (r ≡ onAsked Prepared.Refused (pairAsked limits (now (first .entry)) (now (second .entry)))
+        (Prepared.Tables (tablesOf limits (now (first .entry)) (now (second .entry)))))
+        × (now (work .exit) ≡ kept (pairAsked limits (now (first .entry)) (now (second .entry)))
+        (halvesPut limits (now (first .entry)) (now (second .entry)) (now (work .entry))) (now (work .entry))) ⌝ }
 {
     match read(first, limits, Input::First) {
         Answer::Rows(_) => match read(second, limits, Input::Second) {

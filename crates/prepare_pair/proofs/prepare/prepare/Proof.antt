@@ -1,12 +1,13 @@
 -- The first reading that refuses is the answer; of two readable pictures the tables are made.
-use mathlib.Core.Path.{_∙_, refl, sym}
+use mathlib.Core.Path.{_∙_, sym}
 use borrow.Author.Needs.{needs}
 use denote.Ref.{now}
 use Rattle.picture.proofs.Readables.{answer-reading}
-use Rattle.picture.specs.Read.{answerOf}
-use Rattle.picture.specs.declared.answer.Answer.the-variants as answer
 use Rattle.picture.specs.declared.answer.Input.the-variants.{First, Second}
-use Rattle.workspace.proofs.Preparations.{prepare-answers}
+use Rattle.picture.proofs.Asking.{on-no}
+use Rattle.picture.proofs.Keeping.{kept-no}
+use Rattle.prepare_pair.specs.declared.prepare.Prepared.the-variants.{Refused}
+use Rattle.prepare_pair.proofs.TabledPairs.{pair-answers, refused-first, refused-second}
 use Rattle.prepare_pair.proofs.prepare.prepare.Statement.{statement}
 use Rattle.prepare_pair.proofs.prepare.prepare.Tie as tie
 
@@ -54,9 +55,8 @@ returns c =
     let read = c .before .before .before .before .before .before .before .before .before .read .ensures in
     let read-second = c .before .before .before .before .before .before .read2 .ensures in
     let done = c .before .before .write-pair .ensures in
-    let answers = prepare-answers (a .limits) (now (a .first)) (now (a .second)) (answer.Rows (told .0 .0)) (answer.Rows (told-second .0 .0)) (sym read ∙ told .1)
-    (sym read-second ∙ told-second .1) in
-    (done .0 ∙ sym answers, done .1)
+    let both = pair-answers (a .limits) (now (a .first)) (now (a .second)) (told .0 .0) (sym read ∙ told .1) (told-second .0 .0) (sym read-second ∙ told-second .1) in
+    rw both done
 
 returns-2 : tie.Need-returns-2
 returns-2 c =
@@ -65,18 +65,16 @@ returns-2 c =
     let refusal = c .before .refusal .given in
     let read = c .before .before .before .before .before .before .read .ensures in
     let read-second = c .before .before .before .read2 .ensures in
-    let answers = prepare-answers (a .limits) (now (a .first)) (now (a .second)) (answer.Rows (told .0 .0)) (answer.Refused (refusal .0 .0)) (sym read ∙ told .1)
-    (sym read-second ∙ refusal .1) in
-    (sym answers, refl)
+    let no-is = refused-second (a .limits) (now (a .first)) (now (a .second)) (told .0 .0) (sym read ∙ told .1) (refusal .0 .0) (sym read-second ∙ refusal .1) in
+    (sym (on-no Refused _ _ _ no-is), sym (kept-no _ _ _ _ no-is))
 
 returns-3 : tie.Need-returns-3
 returns-3 c =
     let a = c .before .before .before .before .before .before .before .args in
     let refusal = c .before .refusal2 .given in
     let read = c .before .before .before .read .ensures in
-    let answers = prepare-answers (a .limits) (now (a .first)) (now (a .second)) (answer.Refused (refusal .0 .0)) (answerOf (a .limits) Second (now (a .second)))
-    (sym read ∙ refusal .1) refl in
-    (sym answers, refl)
+    let no-is = refused-first (a .limits) (now (a .first)) (now (a .second)) (refusal .0 .0) (sym read ∙ refusal .1) in
+    (sym (on-no Refused _ _ _ no-is), sym (kept-no _ _ _ _ no-is))
 
 pub prepare-spec : {M : Type 1} → statement M
 prepare-spec =

@@ -2,15 +2,16 @@
 use Prim.Native.Nat.{_≤_}
 use native.Mathlib.Omega.{arith}
 use borrow.Author.Needs.{needs}
-use borrow.Author.Tests.{le-leb}
 use denote.Ref.{now}
 use lib.ListN.{length}
 use mathlib.Core.Path.{_∙_, _≡_, ap, refl, sym}
 use Rattle.meaning.proofs.Normals.{normal-size}
 use Rattle.meaning.specs.NormalTable.{mergedCount, normalFile}
 use Rattle.normal_writer.proofs.Tablings.{none-many, some-few, tabled-there}
-use Rattle.workspace.proofs.Preparations.{many-first, many-second}
-use Rattle.prepare_pair.proofs.TabledPairs.{halves-files, tabled-pair}
+use Rattle.picture.proofs.Asking.{on-no, on-yes}
+use Rattle.picture.proofs.Keeping.{kept-no, kept-yes}
+use Rattle.prepare_pair.specs.declared.prepare.Prepared.the-variants.{Refused, Tables}
+use Rattle.prepare_pair.proofs.TabledPairs.{both-few, halves-files, many-first, many-second, tabled-pair}
 use Rattle.prepare_pair.proofs.prepare.write_pair.Statement.{statement}
 use Rattle.prepare_pair.proofs.prepare.write_pair.Tie as tie
 
@@ -28,7 +29,8 @@ returns c =
     let start = c .before .before .before .before .before .before .before .before in
     let a = start .args in
     let many = none-many _ _ _ _ _ (start .pre .bounded) (c .before .before .before .normal-table .ensures) (c .before .if1 .taken) in
-    rw (c .too-many .ensures) (sym (many-first (a .limits) (now (a .first)) (now (a .second)) many), refl)
+    let no-is = many-first (a .limits) (now (a .first)) (now (a .second)) many in
+    rw (c .too-many .ensures) (sym (on-no Refused _ _ _ no-is), sym (kept-no _ _ _ _ no-is))
 
 -- where a row was given of the first, 14 is answered yes for it
 first-few : (c : tie.Else1) → let a = c .before .before .before .before .before .before .before .args in mergedCount (a .limits) (now (a .first)) ≤ a .limits .rows
@@ -47,9 +49,10 @@ returns-2 : tie.Need-returns-2
 returns-2 c =
     let start = c .before .before .before .before .before .before .before .before .before .before .before .before in
     let a = start .args in
-    let few = le-leb (mergedCount (a .limits) (now (a .first))) (a .limits .rows) (first-few (c .before .before .before .before .before)) in
+    let few = first-few (c .before .before .before .before .before) in
     let many = none-many _ _ _ _ _ (start .pre .bounded) (c .before .before .before .normal-table2 .ensures) (omega (arith, c .before .before .before .before .before .if1 .left, c .before .if2 .taken)) in
-    rw (c .too-many2 .ensures) (sym (many-second (a .limits) (now (a .first)) (now (a .second)) few many), refl)
+    let no-is = many-second (a .limits) (now (a .first)) (now (a .second)) few many in
+    rw (c .too-many2 .ensures) (sym (on-no Refused _ _ _ no-is), sym (kept-no _ _ _ _ no-is))
 
 -- the same of the second
 second-few : (c : tie.Else2) → let a = c .before .before .before .before .before .before .before .before .before .before .before .args in mergedCount (a .limits) (now (a .second)) ≤ a .limits .rows
@@ -94,10 +97,15 @@ returns-3 : tie.Need-returns-3
 returns-3 c =
     let start = c .before .before .before .before .before .before .before .before .before .before .before .before .before .before .before .before .before .before .before in
     let a = start .args in
-    let written = c .before .before .write-halves in (
-      sym (tabled-pair (start .pre .bounded) (c .before .before .before .before .before .before .before .before .before .before .before .before .before .before .normal-table .ensures) (c .before .before .before .before .before .before .before .before .before .before .normal-table2 .ensures) (first-few (c .before .before .before .before .before .before .before .before .before .before .before .before)) (second-few (c .before .before .before .before .before .before .before .before))),
+    let written = c .before .before .write-halves in
+    let few = first-few (c .before .before .before .before .before .before .before .before .before .before .before .before) in
+    let few-second = second-few (c .before .before .before .before .before .before .before .before) in
+    let all = both-few (a .limits) (now (a .first)) (now (a .second)) few few-second in (
+      ap Tables (tabled-pair (start .pre .bounded) (c .before .before .before .before .before .before .before .before .before .before .before .before .before .before .normal-table .ensures) (c .before .before .before .before .before .before .before .before .before .before .normal-table2 .ensures) few few-second)
+          ∙ sym (on-yes Refused _ _ all),
       halves-files (a .limits) (now (a .first)) (now (a .second)) _ _ (now (a .work)) (written .last .1 .1 .1 .0) (first-file (c .before .before .before .before .before .before)) (second-file (c .before .before .before .before))
-          (written .ensures),
+          (written .ensures)
+          ∙ sym (kept-yes _ _ _ all),
     )
 
 pub write-pair-spec : {M : Type 1} → statement M
