@@ -1,31 +1,37 @@
 -- Laws of the second call at any limits: which answer is given for which picture and result buffer.
---   merged-decides, merged-refuses   14 of a picture
+--   merged-decides, merged-many,
+--   merged-refuses                   14 of a picture
 --   Accepted                         the buffer is long enough, the picture readable, and its merged rows are few enough
 --   OneNo                            the first no: the buffer is short; else a question from 2 to 13; else 14
 --   one-decides, one-refuses         the questions of the call: all yes exactly if accepted, the first no exactly that
---   one-long                         a long buffer leaves 2 to 13, and 14
+--   one-long, one-read               a long buffer leaves 2 to 13, and 14; and the reading, 14
+--   normal-by                        the answer and the result buffer, by what the questions answer
 --   length-accepted                  a length is given only if accepted, and is that of the normal table,
 --   answer-size                      so at most that of the longest picture
 use Prim.Native.Nat.{_<_, _≤_, ℕ}
 use borrow.Author.Tests.{le-leb}
 use lib.Dec.{leb}
 use lib.ListN.{length}
+use mathlib.Core.Bool.{false}
 use mathlib.Core.List.{List}
 use mathlib.Core.Logic.{_⊎_, inl, inr, ⊎-elim}
-use mathlib.Core.Path.{_≡_, refl}
+use mathlib.Core.Path.{_∙_, _≡_, ap, refl}
 use native.Mathlib.Omega.{arith}
 use Rattle.table.specs.Bounds.{pictureSize}
+use Rattle.table.specs.Put.{put}
 use Rattle.table.specs.declared.layout.Limits.{Limits}
 use Rattle.picture.proofs.Asking.{Decides, Refuses, Unreadable, and-decides, and-refuses, asked-refuses, given, read-decides, read-refuses, said-so, test-decides}
-use Rattle.picture.specs.Asked.{andThen, readAsked, roomAsked}
+use Rattle.picture.specs.Asked.{andThen, kept, onAsked, readAsked, roomAsked}
 use Rattle.picture.specs.Readable.{Readable}
 use Rattle.picture.specs.Refusal.{refusal, shortBuffer, tooMany}
+use Rattle.picture.specs.declared.answer.Asked.{Asked}
+use Rattle.picture.specs.declared.answer.Asked.the-variants.{No}
 use Rattle.picture.specs.declared.answer.Input.{Input}
 use Rattle.picture.specs.declared.answer.Input.the-variants.{First}
 use Rattle.picture.specs.declared.answer.Refusal.{Refusal}
 use Rattle.meaning.proofs.Normals.{normal-size}
 use Rattle.meaning.specs.NormalTable.{mergedCount, normalFile}
-use Rattle.normal.specs.Call.{mergedAsked, normalizeAnswer, oneAsked}
+use Rattle.normal.specs.Call.{mergedAsked, normalizeAnswer, normalizeResult, oneAsked}
 use Rattle.normal.specs.declared.normalize.Normalized.the-variants.{Length, Refused}
 
 module _ (limits : Limits) (input : Input) (s : List ℕ) where
@@ -35,6 +41,11 @@ module _ (limits : Limits) (input : Input) (s : List ℕ) where
   pub merged-decides : Decides (mergedAsked limits input s) (mergedCount limits s ≤ limits .rows) TooMany
   unfolding mergedAsked
   merged-decides = test-decides (mergedCount limits s) (limits .rows) (tooMany input)
+
+  -- by the test that is made
+  pub merged-many : leb (mergedCount limits s) (limits .rows) ≡ false → mergedAsked limits input s ≡ No (tooMany input)
+  unfolding mergedAsked
+  merged-many e = rw e
 
   pub merged-refuses : (P : Refusal → Type 0) → P (tooMany input) → Refuses P (mergedAsked limits input s)
   unfolding mergedAsked
@@ -81,6 +92,10 @@ module _ (limits : Limits) (s : List ℕ) (room : ℕ) where
   unfolding oneAsked
   one-long long = rw (le-leb (pictureSize limits) room long)
 
+  -- after the reading
+  pub one-read : pictureSize limits ≤ room → (a : Asked) → readAsked limits First s ≡ a → oneAsked limits s room ≡ andThen a (mergedAsked limits First s)
+  one-read long a e = one-long long ∙ ap (λ q. andThen q (mergedAsked limits First s)) e
+
   pub length-accepted : (n : ℕ) → normalizeAnswer limits s room ≡ Length n → Accepted × (n ≡ length (normalFile limits s))
   unfolding normalizeAnswer
   length-accepted n h =
@@ -90,3 +105,9 @@ module _ (limits : Limits) (s : List ℕ) (room : ℕ) where
 
   pub answer-size : (n : ℕ) → normalizeAnswer limits s room ≡ Length n → n ≤ pictureSize limits
   answer-size n h = let (a, is) = length-accepted n h in rw is (normal-size limits s (a .few))
+
+pub normal-by : (limits : Limits) (s out : List ℕ) (a : Asked) → oneAsked limits s (length out) ≡ a →
+    (onAsked Refused a (Length (length (normalFile limits s))) ≡ normalizeAnswer limits s (length out))
+    × (kept a (put out 0 (normalFile limits s)) out ≡ normalizeResult limits s out)
+unfolding normalizeAnswer normalizeResult
+normal-by limits s out a e = (rw e, rw e)

@@ -15,15 +15,19 @@ use table::number::copy_in;
 ghost use mathlib.Core.Path.{_≡_};
 ghost use lib.ListN.{length};
 ghost use Rattle.table.specs.Bounds.{Bounded};
-ghost use Rattle.picture.specs.Readable.{rowCount};
+ghost use Rattle.table.specs.Put.{put};
+ghost use Rattle.picture.specs.Asked.{kept, onAsked};
 ghost use Rattle.meaning.specs.NormalTable.{normalFile};
 ghost use Rattle.normal_writer.specs.Tables.{TableRoom};
-ghost use Rattle.normal.specs.Call.{normalizeAnswer, normalizeResult, onAnswer, onReading};
+ghost use Rattle.normal.specs.Call.{mergedAsked, normalizeAnswer, normalizeResult};
 
 // 14, and the table: it is made in an array of the call's own, for nothing is written before 14 is answered yes.
 fn write_normal(picture: &[u8], limits: Limits, result: &mut [u8]) -> Normalized
     requires { ⌜ TableRoom limits (now picture) (now result) ⌝ }
-    ensures { λ r. ⌜ (r ≡ onReading limits (now (picture .entry)) (Answer.Rows (rowCount (now (picture .entry))))) × (now (result .exit) ≡ onAnswer r (normalFile limits (now (picture .entry))) (now (result .entry))) ⌝ }
+    ensures { λ r. ⌜ (r ≡ onAsked Normalized.Refused (mergedAsked limits Input.First (now (picture .entry)))
+        (Normalized.Length (length (normalFile limits (now (picture .entry))))))
+        × (now (result .exit) ≡ kept (mergedAsked limits Input.First (now (picture .entry)))
+        (put (now (result .entry)) 0 (normalFile limits (now (picture .entry)))) (now (result .entry))) ⌝ }
 {
     let mut made = [0u8; TABLE];
     let n = normal_table(picture, limits, &mut made);

@@ -1,13 +1,16 @@
 -- A result buffer that is too short is 1; otherwise the reading decides, and a readable picture is tabulated.
-use mathlib.Core.Path.{_∙_, sym}
+use mathlib.Core.Logic.{inl}
+use mathlib.Core.Path.{_∙_, refl, sym}
 use native.Mathlib.Omega.{arith}
 use lib.ListN.{length}
 use borrow.Author.Needs.{needs}
 use denote.Ref.{now}
-use Rattle.picture.specs.declared.answer.Answer.the-variants as answer
+use Rattle.picture.proofs.Asking.{refused-no, rows-yes}
+use Rattle.picture.specs.Refusal.{shortBuffer}
+use Rattle.picture.specs.declared.answer.Asked.the-variants.{No, Yes}
 use Rattle.picture.specs.declared.answer.Input.the-variants.{First}
 use Rattle.picture.proofs.Readables.{answer-reading}
-use Rattle.normal.proofs.Answers.{long-answer, result-of, short-answer}
+use Rattle.normal.proofs.Answers.{normal-by, one-decides, one-read}
 use Rattle.normalize_call.proofs.normalize.normalize.Statement.{statement}
 use Rattle.normalize_call.proofs.normalize.normalize.Tie as tie
 
@@ -17,8 +20,10 @@ place-requires c κs = search needs
 returns : tie.Need-returns
 returns c =
     let a = c .before .before .before .before .before .args in
-    let e = short-answer (a .limits) (now (a .picture)) (length (now (a .result))) (omega (arith, c .before .if1 .taken, c .before .before .place .ensures)) in
-    rw (c .short-buffer .ensures) (sym e, sym (result-of (a .limits) (now (a .picture)) (now (a .result)) _ e))
+    let no-is = one-decides (a .limits) (now (a .picture)) (length (now (a .result))) .no shortBuffer .1
+    (inl (omega (arith, c .before .if1 .taken, c .before .before .place .ensures), refl)) in
+    let (answer, left) = normal-by (a .limits) (now (a .picture)) (now (a .result)) (No shortBuffer) no-is in
+    rw (c .short-buffer .ensures) (answer, left)
 
 read-requires : tie.Need-read-requires
 read-requires c κs = search needs
@@ -52,9 +57,10 @@ returns-2 c =
     let room = c .before .before .before .before .before .before .before .if1 .left in
     let at = c .before .before .before .before .before .before .before .before .place .ensures in
     let done = c .before .before .write-normal in
-    let e = done .ensures .0
-    ∙ sym (long-answer (a .limits) (now (a .picture)) (length (now (a .result))) (answer.Rows (told .0 .0)) (omega (arith, room, at)) (sym (read .ensures) ∙ told .1)) in
-    (e, done .ensures .1 ∙ sym (result-of (a .limits) (now (a .picture)) (now (a .result)) (done .result) (sym e)))
+    let asks = one-read (a .limits) (now (a .picture)) (length (now (a .result))) (omega (arith, room, at)) Yes
+    (rows-yes (a .limits) First (now (a .picture)) (told .0 .0) (sym (read .ensures) ∙ told .1)) in
+    let (answer, left) = normal-by (a .limits) (now (a .picture)) (now (a .result)) _ asks in
+    (done .ensures .0 ∙ answer, done .ensures .1 ∙ left)
 
 returns-3 : tie.Need-returns-3
 returns-3 c =
@@ -63,8 +69,9 @@ returns-3 c =
     let read = c .before .before .before .read in
     let room = c .before .before .before .before .if1 .left in
     let at = c .before .before .before .before .before .place .ensures in
-    let e = long-answer (a .limits) (now (a .picture)) (length (now (a .result))) (answer.Refused (refusal .0 .0)) (omega (arith, room, at)) (sym (read .ensures) ∙ refusal .1) in
-    (sym e, sym (result-of (a .limits) (now (a .picture)) (now (a .result)) _ e))
+    let asks = one-read (a .limits) (now (a .picture)) (length (now (a .result))) (omega (arith, room, at)) (No (refusal .0 .0))
+    (refused-no (a .limits) First (now (a .picture)) (refusal .0 .0) (sym (read .ensures) ∙ refusal .1)) in
+    normal-by (a .limits) (now (a .picture)) (now (a .result)) (No (refusal .0 .0)) asks
 
 short-buffer-requires : tie.Need-short-buffer-requires
 short-buffer-requires c κs = search needs

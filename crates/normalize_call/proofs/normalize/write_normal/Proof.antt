@@ -2,15 +2,18 @@
 use Prim.Native.Nat.{_≤_, ℕ}
 use native.Mathlib.Omega.{arith}
 use borrow.Author.Needs.{needs}
-use borrow.Author.Tests.{le-leb}
 use denote.Ref.{now}
 use lib.ListN.{length}
 use mathlib.Core.List.{List}
-use mathlib.Core.Path.{_∙_, _≡_, ap, refl}
+use mathlib.Core.Path.{_∙_, _≡_, ap, sym}
 use Rattle.table.specs.Put.{put}
 use Rattle.meaning.proofs.Normals.{normal-size}
 use Rattle.meaning.specs.NormalTable.{mergedCount, normalFile}
-use Rattle.normal.specs.declared.normalize.Normalized.the-variants.{Length}
+use Rattle.picture.proofs.Asking.{on-no, on-yes}
+use Rattle.picture.proofs.Keeping.{kept-no, kept-yes}
+use Rattle.picture.specs.declared.answer.Input.the-variants.{First}
+use Rattle.normal.proofs.Answers.{merged-decides, merged-many}
+use Rattle.normal.specs.declared.normalize.Normalized.the-variants.{Length, Refused}
 use Rattle.normal_writer.proofs.Tablings.{none-many, some-few, tabled-there}
 use Rattle.normalize_call.proofs.normalize.write_normal.Statement.{statement}
 use Rattle.normalize_call.proofs.normalize.write_normal.Tie as tie
@@ -27,7 +30,8 @@ too-many-requires c κs = search needs
 returns : tie.Need-returns
 returns c =
     let many = none-many _ _ _ _ _ (c .before .before .before .before .before .before .before .pre .bounded) (c .before .before .before .normal-table .ensures) (c .before .if1 .taken) in
-    rw (c .too-many .ensures) (rw many, refl)
+    let no-is = merged-many (c .before .before .before .before .before .before .before .args .limits) First (now (c .before .before .before .before .before .before .before .args .picture)) many in
+    rw (c .too-many .ensures) (sym (on-no Refused _ _ _ no-is), sym (kept-no _ _ _ _ no-is))
 
 -- where a row was given, 14 is answered yes, and the table is the normal file
 few : (c : tie.Else1) → let a = c .before .before .before .before .before .before .args in mergedCount (a .limits) (now (a .picture)) ≤ a .limits .rows
@@ -56,9 +60,10 @@ same-length c = search needs
 returns-2 : tie.Need-returns-2
 returns-2 c =
     let a = c .before .before .before .before .before .before .before .before .before .before .before .before .args in
-    let is = file (c .before .before .before .before) in (
-      rw (le-leb (mergedCount (a .limits) (now (a .picture))) (a .limits .rows) (few (c .before .before .before .before .before .before))) (ap (λ (l : List ℕ). Length (length l)) is),
-      c .before .before .copy-in .ensures ∙ ap (λ (l : List ℕ). put (now (a .result)) 0 l) is,
+    let is = file (c .before .before .before .before) in
+    let all = merged-decides (a .limits) First (now (a .picture)) .yes .1 (few (c .before .before .before .before .before .before)) in (
+      ap (λ (l : List ℕ). Length (length l)) is ∙ sym (on-yes Refused _ _ all),
+      c .before .before .copy-in .ensures ∙ ap (λ (l : List ℕ). put (now (a .result)) 0 l) is ∙ sym (kept-yes _ _ _ all),
     )
 
 pub write-normal-spec : {M : Type 1} → statement M
