@@ -101,8 +101,7 @@ module _ (limits : Limits) (case book : List ℕ) where
       (λ k a b. read-decides limits (Card k) (card book k)))
       (λ all. and-decides merged rest (merged-decides limits First case)
       (λ few. from-decides (cardMerged limits book) Few (λ k. TooMany limits (Card k) (card book k)) (cardCount book) 0
-      (λ k a b. merged-decides limits (Card k) (card book k)))))))
-      (
+      (λ k a b. merged-decides limits (Card k) (card book k))))))) (
         λ (c, (f, (all, (few, each)))). record {
           case-readable = c;
           form = f;

@@ -26,7 +26,7 @@ use Rattle.table.specs.declared.layout.Limits.{Limits}
 use Rattle.workspace.proofs.Halves.{put-upper, upper-part}
 use Rattle.workspace.specs.Prepare.{workSize}
 use Rattle.prepare_pair.specs.Tables.{firstIn, secondIn}
-use Rattle.workspace.specs.declared.prepare.Pair.{Pair}
+use Rattle.prepare_pair.specs.declared.prepare.Pair.{Pair}
 use Rattle.book.specs.Form.{card}
 use Rattle.book.specs.Selection.{cardCovers}
 use Rattle.book_tables.specs.Tables.{CardsTaken}

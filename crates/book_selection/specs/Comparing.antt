@@ -20,7 +20,7 @@ use Rattle.meaning.specs.NormalTable.{normalFile}
 use Rattle.row_sets.specs.Rows.{Checked}
 use Rattle.homomorphism_search.specs.Search.{LinkedTable}
 use Rattle.workspace.specs.Prepare.{workSize}
-use Rattle.workspace.specs.declared.prepare.Pair.{Pair}
+use Rattle.prepare_pair.specs.declared.prepare.Pair.{Pair}
 use Rattle.prepare_pair.specs.Tables.{TablesIn, secondIn}
 use Rattle.book.specs.Form.{card, mostCards}
 use Rattle.book.specs.Selection.{cardCovers, subsumesAnother}

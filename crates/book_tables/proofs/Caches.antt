@@ -16,7 +16,7 @@ use native.Mathlib.Omega.{arith}
 use Rattle.meaning.proofs.Normals.{normal-length, normal-size}
 use Rattle.meaning.specs.NormalTable.{mergedCount, normalFile}
 use Rattle.normal_writer.proofs.Prefixes.{take-put}
-use Rattle.normal_writer.specs.Tables.{Tabled}
+use Rattle.normal_writer.specs.Tables.{Tabled, tableRows}
 use Rattle.table.proofs.Puts.{length-put}
 use Rattle.table.specs.Bounds.{pictureSize}
 use Rattle.table.specs.Layout.{endSize, «place»}
@@ -24,7 +24,6 @@ use Rattle.table.specs.Links.{Zeros}
 use Rattle.table.specs.Pick.{pick}
 use Rattle.table.specs.Put.{put}
 use Rattle.table.specs.declared.layout.Limits.{Limits}
-use Rattle.workspace.specs.Prepare.{tableRows}
 use Rattle.book.specs.Form.{card, mostCards}
 use Rattle.book_tables.specs.Cache.{Cached, CachedAt, TableAt}
 

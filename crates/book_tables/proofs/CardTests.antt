@@ -22,25 +22,28 @@ use Rattle.table.specs.Bounds.{Bounded}
 use Rattle.table.specs.Links.{Zeros}
 use Rattle.table.specs.Pick.{pick}
 use Rattle.table.specs.declared.layout.Limits.{Limits}
-use Rattle.book.specs.Call.{andThen, askedFrom, cardMerged, caseMerged, mergedAsked, onAsked}
+use Rattle.picture.proofs.Asking.{all-from, from-all, no-from}
+use Rattle.picture.specs.Asked.{andThen, askedFrom}
+use Rattle.normal.proofs.Answers.{merged-decides, merged-many}
+use Rattle.normal.specs.Call.{mergedAsked}
+use Rattle.book.specs.Call.{cardMerged}
 use Rattle.book.specs.Form.{card, mostCards}
 use Rattle.book.specs.Selection.{cardWord, caseCovered}
 use Rattle.book_tables.specs.Cache.{Cached, SubsumersBelow}
-use Rattle.book_tables.specs.Tables.{coversTable}
-use Rattle.book.specs.declared.answer.Asked.{Asked}
-use Rattle.book.specs.declared.answer.Asked.the-variants.{No, Yes}
+use Rattle.book_tables.specs.Tables.{coversTable, selectedOn}
+use Rattle.picture.specs.declared.answer.Asked.{Asked}
+use Rattle.picture.specs.declared.answer.Asked.the-variants.{No, Yes}
 use Rattle.book.specs.declared.answer.Selected.{Selected}
 use Rattle.book.specs.declared.answer.Selected.the-variants.{Cards, Refused}
 use Rattle.book_tables.specs.declared.subsumers.Subsumers.{Subsumers}
 use Rattle.book.proofs.CardWords.{cardWord-below, cardWord-same, cardWord-suc, cardWord-zero}
 use Rattle.book_tables.proofs.Caches.{none-cached}
-use Rattle.book.proofs.Questions.{from-yes, merged-yes, no-from, yes-from}
 
 -- ---- the cards in turn
 
 module _ (limits : Limits) (t book : List ℕ) (count : ℕ) where
   abbrev Answer : Selected
-  Answer = onAsked (askedFrom (cardMerged limits book) count 0) (cardWord (coversTable limits t book) count)
+  Answer = selectedOn (askedFrom (cardMerged limits book) count 0) (cardWord (coversTable limits t book) count)
 
   pub test-start : (cache spans : List ℕ) → Zeros (mostCards + mostCards) spans → SubsumersBelow limits t book count cache spans (record { word = 0; at = 0 }) 0
   test-start cache spans blank =
@@ -52,8 +55,7 @@ module _ (limits : Limits) (t book : List ℕ) (count : ℕ) where
       }
 
   pub test-many : (k : ℕ) → leb (mergedCount limits (card book k)) (limits .rows) ≡ false → cardMerged limits book k ≡ No (tooMany (Card k))
-  unfolding mergedAsked
-  test-many k many = rw many
+  test-many k many = merged-many limits (Card k) (card book k) many
 
   module _ (cache spans : List ℕ) (subsumers : Subsumers) (k : ℕ) (so : SubsumersBelow limits t book count cache spans subsumers k) (l : k < count) where
     module _ (few : mergedCount limits (card book k) ≤ limits .rows) (says : Bool) (u : List ℕ) (is : says ≡ rowMaps t u (limits .depth) 0 0) (table : u ≡ normalFile limits (card book k)) where
@@ -62,7 +64,7 @@ module _ (limits : Limits) (t book : List ℕ) (count : ℕ) where
 
       all-few : (j : ℕ) → j < k + 1 → cardMerged limits book j ≡ Yes
       all-few j b = elim (ℕ-discrete j k) [
-        | yes e ↦ ap (cardMerged limits book) e ∙ merged-yes limits (Card k) (card book k) .1 few
+        | yes e ↦ ap (cardMerged limits book) e ∙ merged-decides limits (Card k) (card book k) .yes .1 few
         | no u ↦ so .few j (omega (arith, u))
       ]
 
@@ -94,37 +96,37 @@ module _ (limits : Limits) (t book : List ℕ) (count : ℕ) where
         test-covers cache₂ spans₂ at there = record { most = omega arith; few = all-few; word-is = more; cache-is = there }
 
     pub test-no : (r : Refusal) → cardMerged limits book k ≡ No r → Refused r ≡ Answer
-    test-no r stopped = sym (rw (no-from (cardMerged limits book) count 0 r k (omega arith) (omega arith) stopped (λ i a b. so .few i b)))
+    test-no r stopped = sym (rw (no-from (cardMerged limits book) count 0 r (k, omega arith, omega arith, stopped, λ i a b. so .few i b)))
 
   pub test-all : (cache spans : List ℕ) (subsumers : Subsumers) (k : ℕ) → SubsumersBelow limits t book count cache spans subsumers k → count ≤ k → Cards (subsumers .word) ≡ Answer
   test-all cache spans subsumers k so done =
       let end : k ≡ count = omega (arith, so .most) in
-      let all = yes-from (cardMerged limits book) count 0 (λ j a b. so .few j (omega arith)) in
+      let all = all-from (cardMerged limits book) count 0 (λ j a b. so .few j (omega arith)) in
       ap Cards (so .word-is ∙ ap (cardWord (coversTable limits t book)) end) ∙ sym (rw all)
 
 -- ---- the case
 
 module _ (limits : Limits) (case book : List ℕ) (count : ℕ) where
   abbrev Both : Selected
-  Both = onAsked (andThen (caseMerged limits case) (askedFrom (cardMerged limits book) count 0)) (cardWord (caseCovered limits case book) count)
+  Both = selectedOn (andThen (mergedAsked limits First case) (askedFrom (cardMerged limits book) count 0)) (cardWord (caseCovered limits case book) count)
 
   pub case-many : leb (mergedCount limits case) (limits .rows) ≡ false → Refused (tooMany First) ≡ Both
   unfolding mergedAsked
   case-many many = sym (rw many)
 
   by-cards : Bounded limits → mergedCount limits case ≤ limits .rows → (a : Asked) → askedFrom (cardMerged limits book) count 0 ≡ a →
-      onAsked a (cardWord (coversTable limits (normalFile limits case) book) count) ≡ onAsked a (cardWord (caseCovered limits case book) count)
+      selectedOn a (cardWord (coversTable limits (normalFile limits case) book) count) ≡ selectedOn a (cardWord (caseCovered limits case book) count)
   by-cards bounded few Yes e =
       ap Cards
       (cardWord-same (coversTable limits (normalFile limits case) book) (caseCovered limits case book) count
       (λ k l. normal-maps limits case (card book k) bounded few
-      (merged-yes limits (Card k) (card book k) .0 (from-yes (cardMerged limits book) count 0 e k (omega arith) (omega arith)))))
+      (merged-decides limits (Card k) (card book k) .yes .0 (from-all (cardMerged limits book) count 0 e k (omega arith) (omega arith)))))
   by-cards bounded few (No r) e = refl
 
   pub case-tested : Bounded limits → mergedCount limits case ≤ limits .rows → (t : List ℕ) → t ≡ normalFile limits case → (r : Selected) →
-      r ≡ onAsked (askedFrom (cardMerged limits book) count 0) (cardWord (coversTable limits t book) count) → r ≡ Both
+      r ≡ selectedOn (askedFrom (cardMerged limits book) count 0) (cardWord (coversTable limits t book) count) → r ≡ Both
   case-tested bounded few t table r is =
       is
-      ∙ ap (λ (u : List ℕ). onAsked (askedFrom (cardMerged limits book) count 0) (cardWord (coversTable limits u book) count)) table
+      ∙ ap (λ (u : List ℕ). selectedOn (askedFrom (cardMerged limits book) count 0) (cardWord (coversTable limits u book) count)) table
       ∙ by-cards bounded few (askedFrom (cardMerged limits book) count 0) refl
-      ∙ sym (ap (λ a. onAsked (andThen a (askedFrom (cardMerged limits book) count 0)) (cardWord (caseCovered limits case book) count)) (merged-yes limits First case .1 few))
+      ∙ sym (ap (λ a. selectedOn (andThen a (askedFrom (cardMerged limits book) count 0)) (cardWord (caseCovered limits case book) count)) (merged-decides limits First case .yes .1 few))

@@ -13,12 +13,12 @@ use mathlib.Core.Path.{_≡_}
 use Rattle.table.specs.Layout.{endSize, «place»}
 use Rattle.table.specs.declared.layout.Limits.{Limits}
 use Rattle.meaning.specs.NormalTable.{mergedCount, normalFile}
-use Rattle.workspace.specs.Prepare.{tableRows}
+use Rattle.normal_writer.specs.Tables.{tableRows}
 use Rattle.book.specs.Call.{cardMerged}
 use Rattle.book.specs.Form.{card, mostCards}
 use Rattle.book.specs.Selection.{cardWord}
 use Rattle.book_tables.specs.Tables.{CardsTaken, coversTable}
-use Rattle.book.specs.declared.answer.Asked.the-variants.{No, Yes}
+use Rattle.picture.specs.declared.answer.Asked.the-variants.{No, Yes}
 use Rattle.book.specs.declared.answer.Selected.{Selected}
 use Rattle.book.specs.declared.answer.Selected.the-variants as selected
 use Rattle.book_tables.specs.declared.subsumers.Subsumers.{Subsumers}

@@ -25,10 +25,12 @@ ghost use Rattle.table.specs.Links.{Zeros};
 ghost use Rattle.picture.specs.Readable.{Readable};
 ghost use Rattle.row_sets.specs.Rows.{Checked};
 ghost use Rattle.homomorphism_search.specs.Search.{LinkedTable, rowMaps};
-ghost use Rattle.book.specs.Call.{andThen, askedFrom, cardMerged, caseMerged, onAsked};
+ghost use Rattle.picture.specs.Asked.{andThen, askedFrom};
+ghost use Rattle.normal.specs.Call.{mergedAsked};
+ghost use Rattle.book.specs.Call.{cardMerged};
 ghost use Rattle.book.specs.Form.{mostCards};
 ghost use Rattle.book.specs.Selection.{cardWord, caseCovered};
-ghost use Rattle.book_tables.specs.Tables.{CardsRead, coversTable};
+ghost use Rattle.book_tables.specs.Tables.{CardsRead, coversTable, selectedOn};
 ghost use Rattle.book_tables.specs.Cache.{CachedAfter, SubsumersBelow, TestedTo};
 
 // Of the cards tested so far those that subsume the case, and where the tables cached of them end.
@@ -106,7 +108,7 @@ fn test_cards(
     spans: &mut [usize; SPANS],
 ) -> Selected
     requires { ⌜ (Bounded limits) × ((CardsRead limits (now book) (now places) count) × ((LinkedTable (now table) n (now links)) × (Zeros (mostCards + mostCards) (now spans)))) ⌝ }
-    ensures { λ r. ⌜ (r ≡ onAsked (askedFrom (cardMerged limits (now (book .entry))) count 0) (cardWord (coversTable limits (now (table .entry)) (now (book .entry))) count)) × (CachedAfter r limits (now (book .entry)) (now (cache .exit)) (now (spans .exit))) ⌝ }
+    ensures { λ r. ⌜ (r ≡ selectedOn (askedFrom (cardMerged limits (now (book .entry))) count 0) (cardWord (coversTable limits (now (table .entry)) (now (book .entry))) count)) × (CachedAfter r limits (now (book .entry)) (now (cache .exit)) (now (spans .exit))) ⌝ }
 {
     let mut scratch = [0u8; TABLE];
     let mut subsumers = Subsumers { word: 0, at: 0 };
@@ -149,7 +151,7 @@ pub fn find_subsumers(
     spans: &mut [usize; SPANS],
 ) -> Selected
     requires { ⌜ (Bounded limits) × ((Readable limits (now case)) × ((CardsRead limits (now book) (now places) count) × (Zeros (mostCards + mostCards) (now spans)))) ⌝ }
-    ensures { λ r. ⌜ (r ≡ onAsked (andThen (caseMerged limits (now (case .entry))) (askedFrom (cardMerged limits (now (book .entry))) count 0)) (cardWord (caseCovered limits (now (case .entry)) (now (book .entry))) count)) × (CachedAfter r limits (now (book .entry)) (now (cache .exit)) (now (spans .exit))) ⌝ }
+    ensures { λ r. ⌜ (r ≡ selectedOn (andThen (mergedAsked limits Input.First (now (case .entry))) (askedFrom (cardMerged limits (now (book .entry))) count 0)) (cardWord (caseCovered limits (now (case .entry)) (now (book .entry))) count)) × (CachedAfter r limits (now (book .entry)) (now (cache .exit)) (now (spans .exit))) ⌝ }
 {
     let mut scratch = [0u8; TABLE];
     let n = normal_table(case, limits, &mut scratch);

@@ -49,8 +49,7 @@ module _ (p q : Table pictureSignature) (im : ℕ → ℕ) where
         yes-so (andThen a (andThen b (andThen c d)))
         (and-decides a (andThen b (andThen c d)) (asked-decides within (refusalBy 17))
         (λ e. and-decides b (andThen c d) (asked-decides rooted (refusalBy 18))
-        (λ e. and-decides c d (asked-decides labelled (refusalBy 19)) (λ e. asked-decides joined (refusalBy 20)))))
-        (
+        (λ e. and-decides c d (asked-decides labelled (refusalBy 19)) (λ e. asked-decides joined (refusalBy 20))))) (
           λ (in-range, (at-root, (same, edge))). record {
             inside = ltb-true (im i) (p .rows) in-range;
             root = λ z. eqb-true (im i) 0 (rw (eq-eqb i 0 z) at at-root);

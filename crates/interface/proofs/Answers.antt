@@ -198,7 +198,7 @@ module _ (limits : Limits) (bounded : Bounded limits) (first second work result 
           λ e. let l = decides .yes .0 e in (l .work-long, l .result-long, l .pair),
           λ (enough, long, pair). decides .yes .1 (record { work-long = enough; result-long = long; pair = pair }),
         );
-          outcome-is = λ (enough, long, pair). by-test (verdictOf limits first second)
+        outcome-is = λ (enough, long, pair). by-test (verdictOf limits first second)
             (λ e. inl (ap (λ v. pick v outcomeYes outcomeNo) e, verdict-covers limits first second bounded pair .1 e))
             (λ e. inr (ap (λ v. pick v outcomeYes outcomeNo) e, verdict-fails limits first second bounded pair .0 e));
         in-range = λ (enough, long, pair). size pair;
@@ -231,7 +231,7 @@ module _ (limits : Limits) (bounded : Bounded limits) (first second work result 
           λ e. let (l, few) = decides .yes .0 e in (l .work-long, l .result-long, (l .pair, few)),
           λ (enough, long, (pair, few)). decides .yes .1 (record { work-long = enough; result-long = long; pair = pair }, few),
         );
-          outcome-is = λ p. refl;
+        outcome-is = λ p. refl;
         in-range = λ (enough, long, (pair, few)). lcs-size limits first second few;
         small = λ (enough, long, (pair, few)). omega (arith, lcs-size limits first second few, bounded .0);
         word-by = gives .word-is ∙ word-on commonWord common.Refused (λ r. refl) asks (common.Length (length (lcsFile limits first second))) _ refl;
@@ -266,7 +266,7 @@ module _ (limits : Limits) (bounded : Bounded limits) (first second evidence wor
           λ e. let (enough, pair, taken) = decides .0 e in (enough, omega arith, (pair, taken)),
           λ (enough, none, (pair, taken)). decides .1 (enough, pair, taken),
         );
-          outcome-is = λ (enough, none, (pair, taken)). ⊎-elim
+        outcome-is = λ (enough, none, (pair, taken)). ⊎-elim
             (λ m. inl (ap (λ b. pick b outcomeYes outcomeNo) (m .form), m))
             (λ r. inr (ap (λ b. pick b outcomeYes outcomeNo) (no-map rows (r .form)), r)) taken;
         in-range = λ p. omega arith;
@@ -312,7 +312,7 @@ module _ (limits : Limits) (case book work : List ℕ) (word : ℕ) (left : List
           λ e. let (enough, acceptable) = decides .yes .0 e in (enough, omega arith, acceptable),
           λ (enough, none, acceptable). decides .yes .1 (enough, acceptable),
         );
-          outcome-is = λ p. refl;
+        outcome-is = λ p. refl;
         in-range = λ p. omega (arith, below);
         small = λ p. omega (arith, below);
         word-by = gives .word-is ∙ word-on selectedWord selected.Refused (λ r. refl) asks (selected.Cards (mostSpecificCards limits case book)) _ refl;

@@ -3,7 +3,8 @@
 --   selected-word                                           the covering cards without those that subsume another are the most specific
 --   covering-inside                                         a covering card is a card of the book
 --   cleared-part                                            the work space, cleared
---   found-refused, found-taken, found-is, found-answer           14 of the case and of the cards
+--   Left, stopped, done, left-as                            what is answered and left by what the questions answer
+--   found-refused, found-taken, found-is, found-all         14 of the case and of the cards
 --   form-refused, cards-refused, cards-readable, cards-passed    24, and 2 to 13 of the cards
 --   short-call, case-refused, case-readable, case-passed         1, and 2 to 13 of the case
 use Prim.Native.Nat.{_+_, _-_, _<_, _≤_, ℕ}
@@ -12,10 +13,13 @@ use lib.Dec.{eqb, ltb}
 use lib.ListN.{drop, length}
 use mathlib.Core.Bool.{Bool, _&&_, and-assoc, false, not, true}
 use mathlib.Core.List.{List, _++_}
-use mathlib.Core.Path.{_∙_, _≡_, ap, refl, sym}
+use mathlib.Core.Path.{_∙_, _≡_, ap, refl, subst, sym}
 use native.Mathlib.Decide.{ℕ-discrete}
 use native.Mathlib.Omega.{arith}
 use Rattle.picture.specs.Refusal.{shortBuffer}
+use Rattle.picture.proofs.Asking.{all-from, and-yes, from-all, given, no-from, read-decides, refused-by, refused-no, rows-yes}
+use Rattle.picture.proofs.Keeping.{put-start}
+use Rattle.picture.specs.Asked.{andThen, askedFrom, kept}
 use Rattle.picture.specs.Read.{answerOf}
 use Rattle.picture.specs.Readable.{Readable}
 use Rattle.picture.specs.declared.answer.Answer.{Answer}
@@ -28,20 +32,20 @@ use Rattle.table.proofs.Ranges.{some-same}
 use Rattle.table.specs.NameSet.{has}
 use Rattle.table.specs.Put.{put, zeros}
 use Rattle.table.specs.declared.layout.Limits.{Limits}
-use Rattle.workspace.proofs.Halves.{put-start}
 use Rattle.workspace.specs.Prepare.{workSize}
-use Rattle.book.specs.Call.{andThen, askedFrom, bookAsked, cardMerged, cardRead, caseMerged, mostSpecificAnswer, mostSpecificWork, noBook, onAsked, onSelected, readAsked, readingAsked}
+use Rattle.normal.proofs.Answers.{merged-decides}
+use Rattle.normal.specs.Call.{mergedAsked}
+use Rattle.book.specs.Call.{bookAsked, cardMerged, cardRead, mostSpecificAnswer, mostSpecificAsked, mostSpecificWork, noBook}
 use Rattle.book.specs.Form.{bookForm, card, cardCount}
 use Rattle.book.specs.Selection.{cardCovers, cardWord, caseCovered, mostSpecific, mostSpecificCards, subsumesAnother}
-use Rattle.book_tables.specs.Tables.{CardsRead, CardsTaken}
+use Rattle.book_tables.specs.Tables.{CardsRead, CardsTaken, selectedOn}
 use Rattle.most_specific.specs.Asking.{afterCards, afterCase}
 use Rattle.book_form.specs.Places.{Placed}
-use Rattle.book.specs.declared.answer.Asked.{Asked}
-use Rattle.book.specs.declared.answer.Asked.the-variants.{No, Yes}
+use Rattle.picture.specs.declared.answer.Asked.{Asked}
+use Rattle.picture.specs.declared.answer.Asked.the-variants.{No, Yes}
 use Rattle.book.specs.declared.answer.Selected.{Selected}
 use Rattle.book.specs.declared.answer.Selected.the-variants.{Cards, Refused}
 use Rattle.book.proofs.CardWords.{has-cardWord, word-is}
-use Rattle.book.proofs.Questions.{and-yes, by-asked, by-refused, from-yes, merged-yes, no-from, read-yes, yes-from}
 
 -- ---- the cards, read in turn
 
@@ -55,22 +59,22 @@ module _ (limits : Limits) (book : List ℕ) (count : ℕ) where
 
   module _ (k : ℕ) (so : ReadTo k) (l : k < count) (a : Answer) (is : a ≡ answerOf limits (Card k) (card book k)) where
     pub read-next : (n : ℕ) → a ≡ answer.Rows n → ReadTo (k + 1)
-    unfolding readAsked
     read-next n rows =
         record {
           most = omega arith;
           passed = λ j b. elim (ℕ-discrete j k) [
-            | yes e ↦ ap (cardRead limits book) e ∙ ap readingAsked (sym is ∙ rows)
+            | yes e ↦ ap (cardRead limits book) e ∙ rows-yes limits (Card k) (card book k) n (sym is ∙ rows)
             | no u ↦ so .passed j (omega (arith, u))
           ];
         }
 
     pub read-refused : (r : Refusal) → a ≡ answer.Refused r → No r ≡ askedFrom (cardRead limits book) count 0
-    unfolding readAsked
-    read-refused r refused = sym (no-from (cardRead limits book) count 0 r k (omega arith) (omega arith) (ap readingAsked (sym is ∙ refused)) (λ i b e. so .passed i e))
+    read-refused r refused =
+        sym (no-from (cardRead limits book) count 0 r
+        (k, omega arith, omega arith, refused-no limits (Card k) (card book k) r (sym is ∙ refused), λ i b e. so .passed i e))
 
   pub read-all : (k : ℕ) → ReadTo k → count ≤ k → Yes ≡ askedFrom (cardRead limits book) count 0
-  read-all k so done = sym (yes-from (cardRead limits book) count 0 (λ j b e. so .passed j (omega arith)))
+  read-all k so done = sym (all-from (cardRead limits book) count 0 (λ j b e. so .passed j (omega arith)))
 
 -- ---- what is selected
 
@@ -101,88 +105,109 @@ module _ (limits : Limits) (case book : List ℕ) (count covering : ℕ) (counte
       ∙ and-assoc (ltb k count) (caseCovered limits case book k) (not (subsumesAnother limits book (caseCovered limits case book) k))
       ∙ ap (λ (n : ℕ). ltb k n && mostSpecific limits case book k) counted)
 
+-- ---- what is answered, and what is left in the work space, by what the questions answer
+
+module _ (limits : Limits) (word : ℕ) (work : List ℕ) where
+  abbrev pub Left : Asked → Selected → List ℕ → Type 0
+  Left a r end = (r ≡ selectedOn a word) × (end ≡ kept a (put work 0 (zeros (workSize limits))) work)
+
+  pub stopped : (a : Asked) (r : Refusal) → a ≡ No r → Left a (Refused r) work
+  stopped a r e = (rw e, rw e)
+
+  pub done : (a : Asked) → a ≡ Yes → (n : ℕ) (end : List ℕ) → n ≡ word → end ≡ put work 0 (zeros (workSize limits)) → Left a (Cards n) end
+  done a e n end is cleared = (rw e (ap Cards is), rw e cleared)
+
+  pub left-as : (a b : Asked) → a ≡ b → (r : Selected) (end : List ℕ) → Left b r end → Left a r end
+  left-as a b e r end = subst (λ q. Left q r end) (sym e)
+
 -- ---- after 2 to 13 of the cards
 
 module _ (limits : Limits) (case book : List ℕ) (count : ℕ) (counted : count ≡ cardCount book) where
-  abbrev asked : Asked
-  asked = andThen (caseMerged limits case) (askedFrom (cardMerged limits book) count 0)
+  abbrev merged : Asked
+  merged = andThen (mergedAsked limits First case) (askedFrom (cardMerged limits book) count 0)
 
-  asked-is : asked ≡ afterCards limits case book
-  asked-is = ap (λ (n : ℕ). andThen (caseMerged limits case) (askedFrom (cardMerged limits book) n 0)) counted
+  merged-is : afterCards limits case book ≡ merged
+  merged-is = sym (ap (λ (n : ℕ). andThen (mergedAsked limits First case) (askedFrom (cardMerged limits book) n 0)) counted)
 
-  module _ (answer : Selected) (is : answer ≡ onAsked asked (cardWord (caseCovered limits case book) count)) where
-    pub found-refused : (r : Refusal) → answer ≡ Refused r → Refused r ≡ onAsked (afterCards limits case book) (mostSpecificCards limits case book)
+  module _ (found : Selected) (is : found ≡ selectedOn merged (cardWord (caseCovered limits case book) count)) where
+    pub found-refused : (r : Refusal) → found ≡ Refused r → afterCards limits case book ≡ No r
     found-refused r e =
-        let stopped = by-refused asked (cardWord (caseCovered limits case book) count) r (sym e ∙ is) in
-        sym (ap (λ a. onAsked a (mostSpecificCards limits case book)) (sym asked-is ∙ stopped))
+        merged-is
+        ∙ refused-by Refused (Cards (cardWord (caseCovered limits case book) count)) (λ q s h. cc) r
+        (λ h. let z : _≡_ {A = ℕ} 0 1 = cc in omega arith) merged (sym is ∙ e)
 
-    module _ (covering : ℕ) (e : answer ≡ Cards covering) where
-      parts : (asked ≡ Yes) × (covering ≡ cardWord (caseCovered limits case book) count)
-      parts = by-asked asked (cardWord (caseCovered limits case book) count) covering (sym e ∙ is)
+    module _ (covering : ℕ) (e : found ≡ Cards covering) where
+      parts : (merged ≡ Yes) × (Cards (cardWord (caseCovered limits case book) count) ≡ Cards covering)
+      parts = given Refused (Cards (cardWord (caseCovered limits case book) count)) (Cards covering)
+          (λ r h. let z : _≡_ {A = ℕ} 0 1 = cc in omega arith) merged (sym is ∙ e)
 
       pub found-is : covering ≡ cardWord (caseCovered limits case book) count
-      found-is = parts .1
+      found-is = let same = parts .1 in cc
+
+      pub found-all : afterCards limits case book ≡ Yes
+      found-all = merged-is ∙ parts .0
 
       pub found-taken : (places : List ℕ) → CardsRead limits book places count → CardsTaken limits book places count
       found-taken places cards =
           record {
             cards-read = cards;
             few = λ k l.
-                let cards-asked = and-yes (caseMerged limits case) (askedFrom (cardMerged limits book) count 0) (parts .0) .1 in
-                merged-yes limits (Card k) (card book k) .0 (from-yes (cardMerged limits book) count 0 cards-asked k (omega arith) (omega arith));
+                let cards-merged = and-yes (mergedAsked limits First case) (askedFrom (cardMerged limits book) count 0) .0 (parts .0) .1 in
+                merged-decides limits (Card k) (card book k) .yes .0 (from-all (cardMerged limits book) count 0 cards-merged k (omega arith) (omega arith));
           }
 
-      pub found-answer : (r : ℕ) → r ≡ mostSpecificCards limits case book → Cards r ≡ onAsked (afterCards limits case book) (mostSpecificCards limits case book)
-      found-answer r w = ap Cards w ∙ sym (ap (λ a. onAsked a (mostSpecificCards limits case book)) (sym asked-is ∙ parts .0))
+-- ---- 24, and 2 to 13 of the cards
 
--- ---- the call by its tests; `word` is what is answered where all is answered yes
-
-module _ (limits : Limits) (case book : List ℕ) (word : ℕ) where
-  pub form-refused : bookForm book ≡ false → Refused noBook ≡ onAsked (afterCase limits case book) word
-  form-refused bad = sym (rw bad)
+module _ (limits : Limits) (case book : List ℕ) where
+  pub form-refused : bookForm book ≡ false → afterCase limits case book ≡ No noBook
+  form-refused bad = rw bad
 
   module _ (good : bookForm book ≡ true) (count : ℕ) (counted : count ≡ cardCount book) (a : Asked) (is : a ≡ askedFrom (cardRead limits book) count 0) where
-    cards-asked : askedFrom (cardRead limits book) (cardCount book) 0 ≡ a
-    cards-asked = ap (λ (n : ℕ). askedFrom (cardRead limits book) n 0) (sym counted) ∙ sym is
+    cards-are : askedFrom (cardRead limits book) (cardCount book) 0 ≡ a
+    cards-are = ap (λ (n : ℕ). askedFrom (cardRead limits book) n 0) (sym counted) ∙ sym is
 
-    pub cards-refused : (r : Refusal) → a ≡ No r → Refused r ≡ onAsked (afterCase limits case book) word
-    cards-refused r e = let stopped = cards-asked ∙ e in sym (rw (good, stopped))
+    pub cards-refused : (r : Refusal) → a ≡ No r → afterCase limits case book ≡ No r
+    cards-refused r e = rw (good, cards-are, e)
+
+    pub cards-passed : a ≡ Yes → afterCase limits case book ≡ afterCards limits case book
+    cards-passed e = rw (good, cards-are, e)
 
     pub cards-readable : (places : List ℕ) → Placed book places count → a ≡ Yes → CardsRead limits book places count
     cards-readable places placed e =
         record {
           places-are = placed;
           counted = counted;
-          readable = λ k l. read-yes limits (Card k) (card book k) .0 (from-yes (cardRead limits book) count 0 (sym is ∙ e) k (omega arith) (omega arith));
+          readable = λ k l. read-decides limits (Card k) (card book k) .yes .0 (from-all (cardRead limits book) count 0 (sym is ∙ e) k (omega arith) (omega arith));
         }
 
-    pub cards-passed : a ≡ Yes → (r : Selected) → r ≡ onAsked (afterCards limits case book) word → r ≡ onAsked (afterCase limits case book) word
-    cards-passed e r w = let passed = cards-asked ∙ e in w ∙ sym (rw (good, passed))
+-- ---- the call by its tests
 
 module _ (limits : Limits) (case book work : List ℕ) where
+  abbrev asks : Asked
+  asks = mostSpecificAsked limits case book (length work)
+
   abbrev Gives : Selected → List ℕ → Type 0
   Gives r end = (r ≡ mostSpecificAnswer limits case book (length work)) × (end ≡ mostSpecificWork limits case book work)
 
-  -- the work space is as the answer says
-  gives : (r : Selected) (end : List ℕ) → r ≡ mostSpecificAnswer limits case book (length work) → end ≡ onSelected r (put work 0 (zeros (workSize limits))) work → Gives r end
-  unfolding mostSpecificWork
-  gives r end is written = (is, written ∙ ap (λ a. onSelected a (put work 0 (zeros (workSize limits))) work) is)
+  gives : (a : Asked) → asks ≡ a → (r : Selected) (end : List ℕ) → Left limits (mostSpecificCards limits case book) work a r end → Gives r end
+  unfolding mostSpecificAnswer
+  gives a e r end left = left-as limits (mostSpecificCards limits case book) work asks a e r end left
+
+  refused : (r : Refusal) → asks ≡ No r → Gives (Refused r) work
+  refused r e = gives asks refl (Refused r) work (stopped limits (mostSpecificCards limits case book) work asks r e)
 
   pub short-call : length work < workSize limits → Gives (Refused shortBuffer) work
-  unfolding mostSpecificAnswer
-  short-call short = gives (Refused shortBuffer) work (sym (rw (lt-leb (workSize limits) (length work) short))) refl
+  short-call short = refused shortBuffer (rw (lt-leb (workSize limits) (length work) short))
 
   module _ (long : workSize limits ≤ length work) (a : Answer) (is : a ≡ answerOf limits First case) where
     pub case-refused : (r : Refusal) → a ≡ answer.Refused r → Gives (Refused r) work
-    unfolding mostSpecificAnswer bookAsked readAsked
-    case-refused r e = let stopped = sym is ∙ e in gives (Refused r) work (sym (rw (le-leb (workSize limits) (length work) long, stopped))) refl
+    unfolding bookAsked
+    case-refused r e = refused r (rw (le-leb (workSize limits) (length work) long, refused-no limits First case r (sym is ∙ e)))
 
     pub case-readable : (n : ℕ) → a ≡ answer.Rows n → Readable limits case
-    unfolding readAsked
-    case-readable n e = read-yes limits First case .0 (ap readingAsked (sym is ∙ e))
+    case-readable n e = read-decides limits First case .yes .0 (rows-yes limits First case n (sym is ∙ e))
 
     pub case-passed : (n : ℕ) → a ≡ answer.Rows n → (r : Selected) (end : List ℕ) →
-        (r ≡ onAsked (afterCase limits case book) (mostSpecificCards limits case book)) × (end ≡ onSelected r (put work 0 (zeros (workSize limits))) work) → Gives r end
-    unfolding mostSpecificAnswer bookAsked readAsked
-    case-passed n e r end (says, written) =
-        let passed = sym is ∙ e in gives r end (says ∙ sym (rw (le-leb (workSize limits) (length work) long, passed))) written
+        Left limits (mostSpecificCards limits case book) work (afterCase limits case book) r end → Gives r end
+    unfolding bookAsked
+    case-passed n e = gives (afterCase limits case book) (rw (le-leb (workSize limits) (length work) long, rows-yes limits First case n (sym is ∙ e)))

@@ -1,5 +1,4 @@
 // The sixth call: question 1, the case, the book's form, its cards, 14 of each, and the word of the most specific cards.
-use book::answer::Asked;
 use book::answer::Selected;
 use book_form::form::PLACES;
 use book_form::form::card;
@@ -10,6 +9,7 @@ use book_tables::cache::CACHE;
 use book_tables::cache::SPANS;
 use book_tables::subsumers::find_subsumers;
 use picture::answer::Answer;
+use picture::answer::Asked;
 use picture::answer::Input;
 use picture::answer::refuse;
 use picture::answer::short_buffer;
@@ -23,9 +23,10 @@ ghost use Rattle.table.specs.Bounds.{Bounded};
 ghost use Rattle.table.specs.Put.{put, zeros};
 ghost use Rattle.picture.specs.Readable.{Readable};
 ghost use Rattle.workspace.specs.Prepare.{workSize};
-ghost use Rattle.book.specs.Call.{askedFrom, cardRead, mostSpecificAnswer, mostSpecificWork, onAsked, onSelected};
+ghost use Rattle.picture.specs.Asked.{askedFrom, kept};
+ghost use Rattle.book.specs.Call.{cardRead, mostSpecificAnswer, mostSpecificWork};
 ghost use Rattle.book.specs.Selection.{mostSpecificCards};
-ghost use Rattle.book_tables.specs.Tables.{CardsRead};
+ghost use Rattle.book_tables.specs.Tables.{CardsRead, selectedOn};
 ghost use Rattle.most_specific.specs.Asking.{afterCase, afterCards};
 ghost use Rattle.book_form.specs.Places.{Placed};
 
@@ -58,7 +59,10 @@ fn select(
     work: &mut [u8],
 ) -> Selected
     requires { ⌜ (Bounded limits) × ((Readable limits (now case)) × ((CardsRead limits (now book) (now places) count) × (workSize limits ≤ length (now work)))) ⌝ }
-    ensures { λ r. ⌜ (r ≡ onAsked (afterCards limits (now (case .entry)) (now (book .entry))) (mostSpecificCards limits (now (case .entry)) (now (book .entry)))) × (now (work .exit) ≡ onSelected r (put (now (work .entry)) 0 (zeros (workSize limits))) (now (work .entry))) ⌝ }
+    ensures { λ r. ⌜ (r ≡ selectedOn (afterCards limits (now (case .entry)) (now (book .entry)))
+        (mostSpecificCards limits (now (case .entry)) (now (book .entry))))
+        × (now (work .exit) ≡ kept (afterCards limits (now (case .entry)) (now (book .entry)))
+        (put (now (work .entry)) 0 (zeros (workSize limits))) (now (work .entry))) ⌝ }
 {
     let mut cache = [0u8; CACHE];
     let mut spans = [0usize; SPANS];
@@ -84,7 +88,10 @@ fn select(
 // 24, the cards, and what comes after them.
 fn ask_book(case: &[u8], book: &[u8], limits: Limits, work: &mut [u8]) -> Selected
     requires { ⌜ (Bounded limits) × ((Readable limits (now case)) × (workSize limits ≤ length (now work))) ⌝ }
-    ensures { λ r. ⌜ (r ≡ onAsked (afterCase limits (now (case .entry)) (now (book .entry))) (mostSpecificCards limits (now (case .entry)) (now (book .entry)))) × (now (work .exit) ≡ onSelected r (put (now (work .entry)) 0 (zeros (workSize limits))) (now (work .entry))) ⌝ }
+    ensures { λ r. ⌜ (r ≡ selectedOn (afterCase limits (now (case .entry)) (now (book .entry)))
+        (mostSpecificCards limits (now (case .entry)) (now (book .entry))))
+        × (now (work .exit) ≡ kept (afterCase limits (now (case .entry)) (now (book .entry)))
+        (put (now (work .entry)) 0 (zeros (workSize limits))) (now (work .entry))) ⌝ }
 {
     let mut places = [0usize; PLACES];
     let count = find_cards(book, &mut places);

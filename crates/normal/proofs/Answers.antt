@@ -70,8 +70,7 @@ module _ (limits : Limits) (s : List ℕ) (room : ℕ) where
       let enough = roomAsked (leb (pictureSize limits) room) in
       said-so (andThen enough (andThen read merged))
       (and-decides enough (andThen read merged) (test-decides (pictureSize limits) room shortBuffer)
-      (λ long. and-decides read merged (read-decides limits First s) (λ readable. merged-decides limits First s)))
-      (
+      (λ long. and-decides read merged (read-decides limits First s) (λ readable. merged-decides limits First s))) (
         λ (enough, (readable, few)). record { enough = enough; readable = readable; few = few },
         λ a. (a .enough, (a .readable, a .few)),
       )

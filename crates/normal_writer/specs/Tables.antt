@@ -1,5 +1,6 @@
 -- Whole tables at the start of a lent part. Nobody has to believe these.
 --   TableRoom   what making a normal table needs of its arguments
+--   tableRows   the rows of the normal table of a picture
 --   Tabled      the normal table of a picture is there, and its rows are given; 0 if 14 is answered no
 --   RowsRoom    what ending a table under construction needs
 --   HalfRoom    what a finished table in a half of the work space needs
@@ -22,9 +23,12 @@ pub record TableRoom (limits : Limits) (s out : List ℕ) : Type 0 where
   pub readable : Readable limits s
   pub space : pictureSize limits ≤ length out
 
+abbrev pub tableRows : Limits → List ℕ → ℕ
+tableRows limits s = size pictureSignature (normalTreeOf limits s)
+
 pub record Tabled (limits : Limits) (s out : List ℕ) (r : ℕ) (end : List ℕ) : Type 0 where
   pub same : length end ≡ length out
-  pub rows-are : r ≡ pick (leb (mergedCount limits s) (limits .rows)) (size pictureSignature (normalTreeOf limits s)) 0
+  pub rows-are : r ≡ pick (leb (mergedCount limits s) (limits .rows)) (tableRows limits s) 0
   pub file : mergedCount limits s ≤ limits .rows → take (place r endSize) end ≡ normalFile limits s
 
 pub record RowsRoom (rows : ℕ) (scratch out : List ℕ) : Type 0 where

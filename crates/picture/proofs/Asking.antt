@@ -4,7 +4,8 @@
 --   said-so, yes-so               the same in other words; its first half
 --   asked-decides, test-decides   a question by its test; by a number that has a limit
 --   and-decides, and-yes          a question and those after it: the first no is its own, or it is a yes and theirs comes
---   from-decides, from-yes        one question of each thing in turn; its first half
+--   from-decides, from-yes        one question of each thing in turn; its first half;
+--   all-from, from-all, no-from   by the answers alone
 --   read-decides, unreadable-no   2 to 13 of a picture;
 --   rows-yes, refused-no          by the answer of reading it
 --   on-yes, on-no                 the answer where all is yes; where r is the first no
@@ -114,8 +115,7 @@ module _ (ask : ℕ → Asked) (Y : ℕ → Type 0) (N : ℕ → Refusal → Typ
   from-decides (suc more) k d =
       said-so (andThen (ask k) (askedFrom ask more (k + 1)))
       (and-decides (ask k) (askedFrom ask more (k + 1)) (d k (omega arith) (omega arith))
-      (λ here. from-decides more (k + 1) (λ j a b. d j (omega arith) (omega arith))))
-      (
+      (λ here. from-decides more (k + 1) (λ j a b. d j (omega arith) (omega arith)))) (
         λ (here, rest) j a b. ⊎-elim (λ (z : k ≡ j). subst Y z here) (λ (l : k < j). rest j (omega arith) (omega arith)) (eq-or-lt-of-le a),
         λ all. (all k (omega arith) (omega arith), λ j a b. all j (omega arith) (omega arith)),
       )
@@ -135,6 +135,21 @@ pub from-yes : (ask : ℕ → Asked) (Y : ℕ → Type 0) → ((j : ℕ) → (as
     (more k : ℕ) → (askedFrom ask more k ≡ Yes) ↔ AllFrom Y more k
 from-yes ask Y d more k =
     from-decides ask Y (λ j r. ask j ≡ No r) more k (λ j a b. record { yes = d j; no = λ r. (λ e. e, λ e. e) }) .yes
+
+-- the same by the answers alone: all are yes; j's is the first no
+module _ (ask : ℕ → Asked) (more k : ℕ) where
+  abbrev Said : ℕ → Type 0
+  Said j = ask j ≡ Yes
+
+  pub all-from : AllFrom Said more k → askedFrom ask more k ≡ Yes
+  all-from = from-yes ask Said (λ j. (λ e. e, λ e. e)) more k .1
+
+  pub from-all : askedFrom ask more k ≡ Yes → AllFrom Said more k
+  from-all = from-yes ask Said (λ j. (λ e. e, λ e. e)) more k .0
+
+  pub no-from : (r : Refusal) → FirstFrom Said (λ j q. ask j ≡ No q) more k r → askedFrom ask more k ≡ No r
+  no-from r =
+      from-decides ask Said (λ j q. ask j ≡ No q) more k (λ j a b. record { yes = (λ e. e, λ e. e); no = λ q. (λ e. e, λ e. e) }) .no r .1
 
 -- ---- 2 to 13 of a picture
 

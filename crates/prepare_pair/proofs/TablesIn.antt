@@ -22,7 +22,8 @@ use Rattle.picture.specs.Asked.{kept, onAsked}
 use Rattle.picture.specs.declared.answer.Asked.the-variants.{No, Yes}
 use Rattle.picture.specs.declared.answer.Refusal.{Refusal}
 use Rattle.workspace.specs.Prepare.{Acceptable, halvesPut, pairAsked, workSize}
-use Rattle.prepare_pair.specs.Tables.{NormalTables, TablesIn, firstIn, secondIn, tableRows, tablesOf}
+use Rattle.normal_writer.specs.Tables.{tableRows}
+use Rattle.prepare_pair.specs.Tables.{NormalTables, TablesIn, firstIn, secondIn, tablesOf}
 use Rattle.prepare_pair.specs.declared.prepare.Pair.{Pair}
 use Rattle.prepare_pair.specs.declared.prepare.Prepared.{Prepared}
 use Rattle.prepare_pair.specs.declared.prepare.Prepared.the-variants.{Refused, Tables}

@@ -1,11 +1,11 @@
 // The two normal tables that stand in the work space, as parts of it.
 //   first_table    from byte 0 on
 //   second_table   from the second half on
+use crate::prepare::Pair;
 use crate::prepare::half_size;
 use table::layout::END_SIZE;
 use table::layout::Limits;
 use table::layout::place;
-use crate::prepare::Pair;
 ghost use mathlib.Core.Path.{_≡_};
 ghost use Prim.Native.Nat.{_≤_};
 ghost use lib.ListN.{length};

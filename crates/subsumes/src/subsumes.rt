@@ -1,8 +1,8 @@
 // The third call: question 1, both pictures into the work space, the verdict, and the evidence into the result buffer.
 use crate::verdict::decide;
 use picture::answer::short_buffer;
-use prepare_pair::prepare::has_room;
 use prepare_pair::prepare::Prepared;
+use prepare_pair::prepare::has_room;
 use prepare_pair::prepare::prepare;
 use prepare_pair::tables::first_table;
 use prepare_pair::tables::second_table;

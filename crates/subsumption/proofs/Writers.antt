@@ -54,7 +54,6 @@ use Rattle.table.specs.Bounds.{Bounded}
 use Rattle.table.specs.Layout.{lengthOffset, numberSize}
 use Rattle.table.specs.Number.{Bytes, be}
 use Rattle.table.specs.declared.layout.Limits.{Limits}
-
 use Rattle.workspace.specs.Prepare.{Acceptable, workSize}
 use Rattle.subsumption.specs.Verdict.{evidenceOf, evidenceSize, mapOf, refutationOf, verdictOf}
 use Rattle.subsumption.proofs.EvidenceBytes.{bytes-map, bytes-refutation}

@@ -66,8 +66,7 @@ module _ (limits : Limits) (first second : List ℕ) (size work result : ℕ) wh
       ⊎ (((workSize limits ≤ work) × (size ≤ result)) × PairNo limits first second r))
   two-decides =
       let room = roomy limits size work result in
-      said-so (lentAsked limits room first second) (lent-decides limits first second room)
-      (
+      said-so (lentAsked limits room first second) (lent-decides limits first second room) (
         λ (e, pair). let (enough, long) = room-both limits size work result e in record { work-long = enough; result-long = long; pair = pair },
         λ l. (room-yes limits size work result (l .work-long) (l .result-long), l .pair),
       )

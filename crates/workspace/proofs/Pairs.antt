@@ -46,8 +46,7 @@ module _ (limits : Limits) (first second : List ℕ) where
       (and-decides read (andThen read-second merged) (read-decides limits First first)
       (λ r. and-decides read-second merged (read-decides limits Second second)
       (λ s. and-decides (mergedAsked limits First first) (mergedAsked limits Second second) (merged-decides limits First first)
-      (λ few. merged-decides limits Second second))))
-      (
+      (λ few. merged-decides limits Second second)))) (
         λ (r, (s, (few, few-second))). record { first-readable = r; second-readable = s; first-few = few; second-few = few-second },
         λ a. (a .first-readable, (a .second-readable, (a .first-few, a .second-few))),
       )

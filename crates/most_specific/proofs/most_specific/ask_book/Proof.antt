@@ -1,9 +1,11 @@
 -- The questions in their order.
 use denote.Ref.{now}
 use borrow.Author.Tests.{not-false, not-true}
-use mathlib.Core.Path.{_∙_, refl, sym}
+use mathlib.Core.Path.{_∙_, sym}
+use Rattle.book.specs.Call.{noBook}
 use Rattle.book.specs.Selection.{mostSpecificCards}
-use Rattle.most_specific.proofs.Calls.{cards-passed, cards-readable, cards-refused, form-refused}
+use Rattle.most_specific.specs.Asking.{afterCards, afterCase}
+use Rattle.most_specific.proofs.Calls.{cards-passed, cards-readable, cards-refused, form-refused, left-as, stopped}
 use borrow.Author.Needs.{needs}
 use Rattle.most_specific.proofs.most_specific.ask_book.Statement.{statement}
 use Rattle.most_specific.proofs.most_specific.ask_book.Tie as tie
@@ -17,7 +19,8 @@ has-form-requires c κs = search needs
 returns : tie.Need-returns
 returns c =
     let args = c .before .before .before .before .before .before .before .before .before .args in
-    rw (c .refuse .ensures) (form-refused (args .limits) (now (args .case)) (now (args .book)) (mostSpecificCards (args .limits) (now (args .case)) (now (args .book))) (sym (c .before .before .has-form .ensures) ∙ not-true _ (c .before .if1 .taken)), refl)
+    let no-is = form-refused (args .limits) (now (args .case)) (now (args .book)) (sym (c .before .before .has-form .ensures) ∙ not-true _ (c .before .if1 .taken)) in
+    rw (c .refuse .ensures) (stopped (args .limits) (mostSpecificCards (args .limits) (now (args .case)) (now (args .book))) (now (args .work)) (afterCase (args .limits) (now (args .case)) (now (args .book))) noBook no-is)
 
 read-cards-requires : tie.Need-read-cards-requires
 read-cards-requires c κs = search needs
@@ -31,7 +34,7 @@ select-requires c κs =
     let args = c .before .before .before .before .before .before .before .before .before .before .before .before .before .before .args in
     let find-cards = c .before .before .before .before .before .before .before .before .before .find-cards in
     let read-cards = c .before .before .before .before .read-cards in
-    (pre .0, (pre .1 .0, (cards-readable (args .limits) (now (args .case)) (now (args .book)) (mostSpecificCards (args .limits) (now (args .case)) (now (args .book))) (sym (c .before .before .before .before .before .before .before .has-form .ensures) ∙ not-false _ (c .before .before .before .before .before .before .if1 .left)) (find-cards .result) (find-cards .ensures .0) (read-cards .result) (read-cards .ensures) _ (find-cards .ensures .1) (c .before .before .enum-told .given .1), pre .1 .1)))
+    (pre .0, (pre .1 .0, (cards-readable (args .limits) (now (args .case)) (now (args .book)) (sym (c .before .before .before .before .before .before .before .has-form .ensures) ∙ not-false _ (c .before .before .before .before .before .before .if1 .left)) (find-cards .result) (find-cards .ensures .0) (read-cards .result) (read-cards .ensures) _ (find-cards .ensures .1) (c .before .before .enum-told .given .1), pre .1 .1)))
 
 enum-known-refusal : tie.Need-enum-known-refusal
 enum-known-refusal c = search needs
@@ -45,14 +48,17 @@ returns-2 c =
     let find-cards = c .before .before .before .before .before .before .before .before .before .before .before .before .find-cards in
     let read-cards = c .before .before .before .before .before .before .before .read-cards in
     let chosen = c .before .before .select in
-    (cards-passed (args .limits) (now (args .case)) (now (args .book)) (mostSpecificCards (args .limits) (now (args .case)) (now (args .book))) (sym (c .before .before .before .before .before .before .before .before .before .before .has-form .ensures) ∙ not-false _ (c .before .before .before .before .before .before .before .before .before .if1 .left)) (find-cards .result) (find-cards .ensures .0) (read-cards .result) (read-cards .ensures) (c .before .before .before .before .before .enum-told .given .1) (chosen .result) (chosen .ensures .0), chosen .ensures .1)
+    let passed = cards-passed (args .limits) (now (args .case)) (now (args .book)) (sym (c .before .before .before .before .before .before .before .before .before .before .has-form .ensures) ∙ not-false _ (c .before .before .before .before .before .before .before .before .before .if1 .left)) (find-cards .result) (find-cards .ensures .0) (read-cards .result) (read-cards .ensures) (c .before .before .before .before .before .enum-told .given .1) in
+    left-as (args .limits) (mostSpecificCards (args .limits) (now (args .case)) (now (args .book))) (now (args .work)) (afterCase (args .limits) (now (args .case)) (now (args .book))) (afterCards (args .limits) (now (args .case)) (now (args .book))) passed
+    (chosen .result) _ (chosen .ensures)
 
 returns-3 : tie.Need-returns-3
 returns-3 c =
     let args = c .before .before .before .before .before .before .before .before .before .before .before .before .before .args in
     let find-cards = c .before .before .before .before .before .before .before .before .find-cards in
     let read-cards = c .before .before .before .read-cards in
-    (cards-refused (args .limits) (now (args .case)) (now (args .book)) (mostSpecificCards (args .limits) (now (args .case)) (now (args .book))) (sym (c .before .before .before .before .before .before .has-form .ensures) ∙ not-false _ (c .before .before .before .before .before .if1 .left)) (find-cards .result) (find-cards .ensures .0) (read-cards .result) (read-cards .ensures) (c .before .refusal .given .0 .0) (c .before .refusal .given .1), refl)
+    let no-is = cards-refused (args .limits) (now (args .case)) (now (args .book)) (sym (c .before .before .before .before .before .before .has-form .ensures) ∙ not-false _ (c .before .before .before .before .before .if1 .left)) (find-cards .result) (find-cards .ensures .0) (read-cards .result) (read-cards .ensures) (c .before .refusal .given .0 .0) (c .before .refusal .given .1) in
+    stopped (args .limits) (mostSpecificCards (args .limits) (now (args .case)) (now (args .book))) (now (args .work)) (afterCase (args .limits) (now (args .case)) (now (args .book))) (c .before .refusal .given .0 .0) no-is
 
 refuse-requires : tie.Need-refuse-requires
 refuse-requires c κs = search needs

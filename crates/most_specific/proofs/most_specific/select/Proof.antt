@@ -8,8 +8,10 @@ use mathlib.Core.List.{_++_}
 use mathlib.Core.Path.{_∙_, ap, refl, subst, sym}
 use Rattle.table.proofs.Stores.{blank}
 use Rattle.workspace.specs.Prepare.{workSize}
+use Rattle.book.specs.Selection.{mostSpecificCards}
 use Rattle.book_tables.specs.Cache.{CachedAfter}
-use Rattle.most_specific.proofs.Calls.{cleared-part, covering-inside, selected-word, found-answer, found-is, found-refused, found-taken}
+use Rattle.most_specific.specs.Asking.{afterCards}
+use Rattle.most_specific.proofs.Calls.{cleared-part, covering-inside, done, found-all, found-is, found-refused, found-taken, selected-word, stopped}
 use borrow.Author.Needs.{needs}
 use Rattle.most_specific.proofs.most_specific.select.Statement.{statement}
 use Rattle.most_specific.proofs.most_specific.select.Tie as tie
@@ -71,16 +73,19 @@ returns c =
     let find-subsumers = c .before .before .before .before .before .before .before .before .before .before .before .find-subsumers in
     let covering = c .before .before .before .before .before .before .before .before .covering in
     let half-size = c .before .before .before .before .before .before .half-size in
-    let select-cards = c .before .before .select-cards in (
-      found-answer (args .limits) (now (args .case)) (now (args .book)) (args .count) (pre .1 .1 .0 .counted) (find-subsumers .result) (find-subsumers .ensures .0) (covering .given .0 .0) (covering .given .1) (select-cards .result) (selected-word (args .limits) (now (args .case)) (now (args .book)) (args .count) (covering .given .0 .0) (pre .1 .1 .0 .counted) (found-is (args .limits) (now (args .case)) (now (args .book)) (args .count) (pre .1 .1 .0 .counted) (find-subsumers .result) (find-subsumers .ensures .0) (covering .given .0 .0) (covering .given .1)) (select-cards .result) (select-cards .ensures .0)),
-      ap (λ l. l ++ drop (half-size .result + half-size .result) (now (args .work))) (select-cards .ensures .1) ∙ cleared-part (now (args .work)) (workSize (args .limits)) (half-size .result + half-size .result) (omega (arith, half-size .ensures)),
-    )
+    let select-cards = c .before .before .select-cards in
+    let is = found-is (args .limits) (now (args .case)) (now (args .book)) (args .count) (pre .1 .1 .0 .counted) (find-subsumers .result) (find-subsumers .ensures .0) (covering .given .0 .0) (covering .given .1) in
+    done (args .limits) (mostSpecificCards (args .limits) (now (args .case)) (now (args .book))) (now (args .work)) (afterCards (args .limits) (now (args .case)) (now (args .book)))
+    (found-all (args .limits) (now (args .case)) (now (args .book)) (args .count) (pre .1 .1 .0 .counted) (find-subsumers .result) (find-subsumers .ensures .0) (covering .given .0 .0) (covering .given .1))
+    (select-cards .result) _ (selected-word (args .limits) (now (args .case)) (now (args .book)) (args .count) (covering .given .0 .0) (pre .1 .1 .0 .counted) is (select-cards .result) (select-cards .ensures .0))
+    (ap (λ l. l ++ drop (half-size .result + half-size .result) (now (args .work))) (select-cards .ensures .1) ∙ cleared-part (now (args .work)) (workSize (args .limits)) (half-size .result + half-size .result) (omega (arith, half-size .ensures)))
 
 returns-2 : tie.Need-returns-2
 returns-2 c =
     let args = c .before .before .before .before .before .before .before .before .before .before .args in
     let find-subsumers = c .before .before .before .before .find-subsumers in
-    (found-refused (args .limits) (now (args .case)) (now (args .book)) (args .count) (c .before .before .before .before .before .before .before .before .before .before .pre .1 .1 .0 .counted) (find-subsumers .result) (find-subsumers .ensures .0) (c .before .refusal .given .0 .0) (c .before .refusal .given .1), refl)
+    let no-is = found-refused (args .limits) (now (args .case)) (now (args .book)) (args .count) (c .before .before .before .before .before .before .before .before .before .before .pre .1 .1 .0 .counted) (find-subsumers .result) (find-subsumers .ensures .0) (c .before .refusal .given .0 .0) (c .before .refusal .given .1) in
+    stopped (args .limits) (mostSpecificCards (args .limits) (now (args .case)) (now (args .book))) (now (args .work)) (afterCards (args .limits) (now (args .case)) (now (args .book))) (c .before .refusal .given .0 .0) no-is
 
 pub select-spec : {M : Type 1} → statement M
 select-spec =
