@@ -120,7 +120,8 @@ edge-asked c =
     let label = d .label-agrees in
     row-edge (now (a .first)) (now (a .second)) (now (a .e)) (a .n) (a .i) (image .result)
     (start .pre .0 .counted) (image .ensures) (placed d .if1 .left) (rooted (d .before))
-    (label .result) (label .ensures) (not-false (label .result) (parent .before .before .if4 .left)) (parent .before .if5 .taken)
+    (label .result) (label .ensures) (not-false (label .result) (parent .before .before .if4 .left))
+    (parent .before .if5 .taken)
     (c .before .image2 .result) (c .before .image2 .ensures ∙ ap (imageOf (now (a .e))) (parent .parent .ensures .0))
     (c .edge-agrees .result) (c .edge-agrees .ensures)
 
