@@ -1,101 +1,141 @@
 -- Laws of the check as the code makes it.
---   form-map, form-refutation   what the form of a file says of it
---   refutation-read             21 to 23 over what the code has read
---   check-read                  the answer over the form that the code has read
---   check-evidence              the normal files decide what the definition asks of the pictures,
---   tables-check                and so do the parts of the work space that are these files
-use Prim.Native.Nat.{ℕ}
-use native.Mathlib.Omega.{arith}
+--   asks-individuals, asks-first, asks-second    21 is answered no; 22 is; they are answered yes, and 23 decides
+--   check-map, check-refutation, check-neither   the answer by the form of the file
+--   tables-check                                 the parts of the work space that are the normal files decide what the
+--                                                definition asks of the pictures
+--   short-call, prepared-call                    the call: 1 is answered no; it is answered yes, and what `prepare`
+--                                                has answered
+use Prim.Native.Nat.{ℕ, _<_, _≤_}
+use borrow.Author.Tests.{le-leb, lt-leb}
+use lib.Dec.{leb}
+use lib.ListN.{length}
 use mathlib.Core.Bool.{Bool, false, not, true}
 use mathlib.Core.List.{List}
 use mathlib.Core.Path.{_∙_, _≡_, ap, refl, sym}
 use Rattle.table.specs.Bounds.{Bounded}
-use Rattle.table.specs.Pick.{pick}
 use Rattle.table.specs.Range.{each}
 use Rattle.table.specs.declared.layout.Limits.{Limits}
+use Rattle.picture.specs.Asked.{andThen, asked, kept, onAsked}
 use Rattle.picture.specs.Readable.{rowCount}
+use Rattle.picture.specs.Refusal.{shortBuffer}
+use Rattle.picture.specs.declared.answer.Asked.{Asked}
+use Rattle.picture.specs.declared.answer.Asked.the-variants.{No}
 use Rattle.meaning.specs.Meaning.{pictureTable, pictureTree}
 use Rattle.meaning.specs.NormalTable.{normalFile}
 use Rattle.countermodel.specs.Individual.{individualOk, refutationForm}
 use Rattle.countermodel.specs.Layout.{individualCount}
 use Rattle.countermodel.specs.Model.{modelTree, rowTree}
+use Rattle.homomorphism.specs.Layout.{imageOf}
 use Rattle.model_check.specs.ModelRows.{fitsRow}
+use Rattle.workspace.proofs.Pairs.{lent-pair, lent-short}
+use Rattle.workspace.specs.Lent.{lentAsked}
+use Rattle.workspace.specs.Prepare.{Acceptable, halvesPut, pairAsked, workSize}
 use Rattle.prepare_pair.proofs.TablesIn.{on-tables}
-use Rattle.workspace.specs.Prepare.{Acceptable}
 use Rattle.prepare_pair.specs.Tables.{NormalTables}
-use Rattle.workspace.specs.declared.prepare.Pair.{Pair}
-use Rattle.evidence.specs.Call.{evidenceAnswer}
-use Rattle.evidence.specs.Check.{checkAnswer, onAsked, onForm, refutationAsked}
-use Rattle.evidence.specs.Form.{formOf, mapForm}
-use Rattle.evidence.specs.Map.{ask}
-use Rattle.evidence_check.specs.Tables.{checkIn}
-use Rattle.evidence.specs.declared.asked.Asked.the-variants.{Yes}
-use Rattle.evidence.specs.declared.form.Form.{Form}
-use Rattle.evidence.specs.declared.form.Form.the-variants.{Map, Neither, Refutation}
-use Rattle.evidence.specs.declared.check.Verified.the-variants.{RefutationTaken}
-use Rattle.evidence.proofs.Refutations.{refutation-asked-same}
+use Rattle.prepare_pair.specs.declared.prepare.Pair.{Pair}
 use Rattle.evidence.proofs.NormalTables.{fits-picture}
+use Rattle.evidence.proofs.Refutations.{refutation-asked-same}
+use Rattle.evidence.specs.Call.{evidenceAsked, evidenceKind, verifyAnswer, verifyWork}
+use Rattle.evidence.specs.Check.{checkAsked, refutationAsked}
+use Rattle.evidence.specs.Form.{mapForm}
+use Rattle.evidence.specs.Map.{mapAsked, refusalBy}
+use Rattle.evidence.specs.declared.check.Verified.{Verified}
+use Rattle.evidence.specs.declared.check.Verified.the-variants.{MapTaken, Refused, RefutationTaken}
+use Rattle.evidence_check.specs.Tables.{checkIn}
 
-module _ (limits : Limits) (first second e : List ℕ) (bounded : Bounded limits) (pair : Acceptable limits first second) where
-  abbrev Same : Form → Type 0
-  Same f =
-      onForm (pictureTable (normalFile limits first)) (pictureTable (normalFile limits second))
-      (rowTree (pictureTable (normalFile limits first)) 0) (rowTree (pictureTable (normalFile limits second)) 0) e f
-      ≡ onForm (pictureTable (normalFile limits first)) (pictureTable (normalFile limits second)) (pictureTree limits first) (pictureTree limits second) e f
-
-  by-form : (f : Form) → Same f
-  by-form Map = refl
-  by-form Refutation =
-      ap (onAsked RefutationTaken)
-      (refutation-asked-same (rowTree (pictureTable (normalFile limits first)) 0) (rowTree (pictureTable (normalFile limits second)) 0) (pictureTree limits first) (pictureTree limits second) e
-      (fits-picture limits first bounded (pair .first-few) (pair .first-readable) (modelTree e 0))
-      (fits-picture limits second bounded (pair .second-few) (pair .second-readable) (modelTree e 0)))
-  by-form Neither = refl
-
-  pub check-evidence : checkIn limits (normalFile limits first) (normalFile limits second) e ≡ evidenceAnswer limits first second e
-  unfolding checkIn evidenceAnswer checkAnswer
-  check-evidence = by-form (formOf limits ((pictureTable (normalFile limits second)) .rows) e)
-
-map-form : (b c : Bool) → pick b Map (pick c Refutation Neither) ≡ Map → b ≡ true
-map-form true c h = refl
-map-form false true h = absurd (let z : _≡_ {A = ℕ} 0 1 = cc in omega arith)
-map-form false false h = absurd (let z : _≡_ {A = ℕ} 0 1 = cc in omega arith)
-
-refutation-form : (b c : Bool) → pick b Map (pick c Refutation Neither) ≡ Refutation → c ≡ true
-refutation-form true c h = absurd (let z : _≡_ {A = ℕ} 0 1 = cc in omega arith)
-refutation-form false true h = refl
-refutation-form false false h = absurd (let z : _≡_ {A = ℕ} 0 1 = cc in omega arith)
-
-module _ (limits : Limits) (rows : ℕ) (e : List ℕ) where
-  pub form-map : formOf limits rows e ≡ Map → mapForm rows e ≡ true
-  unfolding formOf
-  form-map h = map-form (mapForm rows e) (refutationForm limits e) h
-
-  pub form-refutation : formOf limits rows e ≡ Refutation → refutationForm limits e ≡ true
-  unfolding formOf
-  form-refutation h = refutation-form (mapForm rows e) (refutationForm limits e) h
+-- ---- on two tables
 
 module _ (first second e : List ℕ) where
-  pub refutation-read : (n : ℕ) (a b c : Bool) → n ≡ individualCount e → a ≡ each (individualOk e) n 0 → b ≡ fitsRow first 0 e 0 → c ≡ fitsRow second 0 e 0 →
-      refutationAsked (rowTree (pictureTable first) 0) (rowTree (pictureTable second) 0) e ≡ ask 21 a (ask 22 b (ask 23 (not c) Yes))
-  unfolding refutationAsked fitsRow
-  refutation-read n a b c k f g h =
-      let counted : a ≡ each (individualOk e) (individualCount e) 0 = f ∙ ap (λ (m : ℕ). each (individualOk e) m 0) k in
-      rw (sym counted, sym g, sym h)
+  -- what the code has read of the individuals: a says that 21 is answered yes of each
+  module _ (n : ℕ) (a : Bool) (counted : n ≡ individualCount e) (passes : a ≡ each (individualOk e) n 0) where
+    abbrev Asks : Asked → Type 0
+    Asks answer = refutationAsked (rowTree (pictureTable first) 0) (rowTree (pictureTable second) 0) e ≡ answer
 
-  pub check-read : (limits : Limits) (m : ℕ) (f : Form) → m ≡ rowCount second → f ≡ formOf limits m e →
-      checkIn limits first second e
-      ≡ onForm (pictureTable first) (pictureTable second) (rowTree (pictureTable first) 0) (rowTree (pictureTable second) 0) e f
-  unfolding checkIn checkAnswer
-  check-read limits m f k h =
-      ap (onForm (pictureTable first) (pictureTable second) (rowTree (pictureTable first) 0) (rowTree (pictureTable second) 0) e)
-      (ap (λ (n : ℕ). formOf limits n e) (sym k) ∙ sym h)
+    refutation-read : (b c : Bool) → b ≡ fitsRow first 0 e 0 → c ≡ fitsRow second 0 e 0 →
+        Asks (andThen (asked a (refusalBy 21)) (andThen (asked b (refusalBy 22)) (asked (not c) (refusalBy 23))))
+    unfolding refutationAsked fitsRow
+    refutation-read b c fits fits-second =
+        let all : a ≡ each (individualOk e) (individualCount e) 0 =
+        passes ∙ ap (λ (m : ℕ). each (individualOk e) m 0) counted in
+        rw (sym all, sym fits, sym fits-second)
+
+    pub asks-individuals : a ≡ false → Asks (No (refusalBy 21))
+    asks-individuals h = refutation-read _ _ refl refl ∙ simp h
+
+    module _ (passed : a ≡ true) (b : Bool) (fits : b ≡ fitsRow first 0 e 0) where
+      pub asks-first : b ≡ false → Asks (No (refusalBy 22))
+      asks-first h = refutation-read b _ fits refl ∙ simp (passed, h)
+
+      pub asks-second : b ≡ true → (c : Bool) → c ≡ fitsRow second 0 e 0 → Asks (asked (not c) (refusalBy 23))
+      asks-second h c fits-second = refutation-read b c fits fits-second ∙ simp (passed, h)
+
+  module _ (limits : Limits) (m : ℕ) (counted : m ≡ rowCount second) where
+    abbrev Checks : Verified → Type 0
+    Checks answer = checkIn limits first second e ≡ answer
+
+    pub check-map : mapForm m e ≡ true →
+        Checks (onAsked Refused (mapAsked (pictureTable first) (pictureTable second) (imageOf e)) MapTaken)
+    unfolding checkIn checkAsked
+    check-map h = let form = rw counted at h in rw form
+
+    module _ (other : mapForm m e ≡ false) where
+      pub check-refutation : refutationForm limits e ≡ true →
+          Checks (onAsked Refused
+          (refutationAsked (rowTree (pictureTable first) 0) (rowTree (pictureTable second) 0) e) RefutationTaken)
+      unfolding checkIn checkAsked
+      check-refutation h = let form = rw counted at other in rw (form, h)
+
+      pub check-neither : refutationForm limits e ≡ false → Checks (Refused (refusalBy 16))
+      unfolding checkIn checkAsked
+      check-neither h = let form = rw counted at other in rw (form, h)
 
 -- ---- the normal tables of a pair
 
+module _ (limits : Limits) (first second e : List ℕ) (bounded : Bounded limits)
+    (pair : Acceptable limits first second) where
+  check-evidence : checkIn limits (normalFile limits first) (normalFile limits second) e
+      ≡ onAsked Refused (evidenceAsked limits first second e) (evidenceKind limits second e)
+  unfolding checkIn evidenceAsked checkAsked
+  check-evidence =
+      rw (refutation-asked-same (rowTree (pictureTable (normalFile limits first)) 0)
+      (rowTree (pictureTable (normalFile limits second)) 0) (pictureTree limits first) (pictureTree limits second) e
+      (fits-picture limits first bounded (pair .first-few) (pair .first-readable) (modelTree e 0))
+      (fits-picture limits second bounded (pair .second-few) (pair .second-readable) (modelTree e 0)))
+
 pub tables-check : {limits : Limits} {first second s t : List ℕ} {pair : Pair} → Bounded limits →
     NormalTables limits first second pair s t → (e : List ℕ) →
-    checkIn limits s t e ≡ evidenceAnswer limits first second e
+    checkIn limits s t e ≡ onAsked Refused (evidenceAsked limits first second e) (evidenceKind limits second e)
 tables-check {limits} {first} {second} bounded tables e =
-    on-tables tables (λ s t. checkIn limits s t e ≡ evidenceAnswer limits first second e)
+    on-tables tables
+    (λ s t. checkIn limits s t e ≡ onAsked Refused (evidenceAsked limits first second e) (evidenceKind limits second e))
     (check-evidence limits first second e bounded (tables .accepted))
+
+-- ---- the call by its tests
+
+module _ (limits : Limits) (first second e work : List ℕ) where
+  abbrev pub Gives : Verified → List ℕ → Type 0
+  Gives answer space =
+      (answer ≡ verifyAnswer limits first second e (length work)) × (space ≡ verifyWork limits first second work)
+
+  -- a is what the questions before the evidence answer
+  by-asked : (a : Asked) → lentAsked limits (leb (workSize limits) (length work)) first second ≡ a →
+      Gives (onAsked Refused (andThen a (evidenceAsked limits first second e)) (evidenceKind limits second e))
+      (kept a (halvesPut limits first second work) work)
+  unfolding verifyAnswer
+  by-asked a is = (rw is, rw is)
+
+  pub short-call : length work < workSize limits → Gives (Refused shortBuffer) work
+  short-call short =
+      let size = workSize limits in
+      by-asked (No shortBuffer)
+      (lent-short limits first second (leb size (length work)) (lt-leb size (length work) short))
+
+  -- a is what the questions of the pair answer, `space` what `prepare` has left
+  pub prepared-call : workSize limits ≤ length work → (a : Asked) (space : List ℕ) → pairAsked limits first second ≡ a →
+      space ≡ kept (pairAsked limits first second) (halvesPut limits first second work) work →
+      Gives (onAsked Refused (andThen a (evidenceAsked limits first second e)) (evidenceKind limits second e)) space
+  prepared-call enough a space is written =
+      let size = workSize limits in
+      let pair = lent-pair limits first second (leb size (length work)) (le-leb size (length work) enough) in
+      let (answer, left) = by-asked a (pair ∙ is) in
+      (answer, written ∙ ap (λ q. kept q (halvesPut limits first second work) work) is ∙ left)

@@ -1,13 +1,12 @@
 // The check of evidence against two tables.
-use crate::form::form_of;
-use evidence::asked::Asked;
+use crate::form::has_map_form;
 use evidence::check::Verified;
-use evidence::form::Form;
 use map_check::map::map_asked;
+use map_check::refusal::refusal_by;
 use model_check::model::fits_table;
-use picture::answer::Input;
-use picture::answer::refuse;
+use picture::answer::Asked;
 use refutation_reader::individual::count;
+use refutation_reader::individual::has_refutation_form;
 use refutation_reader::individual::individuals_ok;
 use refutation_reader::links::INDIVIDUAL_LINKS;
 use refutation_reader::links::fill_links;
@@ -19,7 +18,8 @@ ghost use Rattle.meaning.specs.Meaning.{pictureTable};
 ghost use Rattle.row_sets.specs.Rows.{Checked};
 ghost use Rattle.countermodel.specs.Individual.{Individuals};
 ghost use Rattle.countermodel.specs.Model.{rowTree};
-ghost use Rattle.evidence.specs.Check.{onAsked, refusedBy, refutationAsked};
+ghost use Rattle.picture.specs.Asked.{onAsked};
+ghost use Rattle.evidence.specs.Check.{refutationAsked};
 ghost use Rattle.evidence_check.specs.Tables.{checkIn};
 
 // 21 to 23.
@@ -28,47 +28,40 @@ fn refutation_asked(first: &[u8], n: usize, second: &[u8], m: usize, e: &[u8], k
     ensures { λ r. ⌜ r ≡ refutationAsked (rowTree (pictureTable (now (first .entry))) 0) (rowTree (pictureTable (now (second .entry))) 0) (now (e .entry)) ⌝ }
 {
     if !individuals_ok(e, k) {
-        return Asked::No(21);
+        return Asked::No(refusal_by(21));
     }
     let mut links = [0u16; INDIVIDUAL_LINKS];
     fill_links(e, k, &mut links);
     if !fits_table(e, k, &links, first, n) {
-        return Asked::No(22);
+        return Asked::No(refusal_by(22));
     }
     if fits_table(e, k, &links, second, m) {
-        return Asked::No(23);
+        return Asked::No(refusal_by(23));
     }
     Asked::Yes
 }
 
-// The refusal by a question names the evidence.
-fn refused_by(number: u8) -> Verified
-    ensures { λ r. ⌜ r ≡ refusedBy number ⌝ }
-{
-    Verified::Refused(refuse(number, Input::Evidence))
-}
-
-// The answer where all was answered yes, or the refusal.
+// What is taken where all is answered yes, or the refusal.
 fn answer(taken: Verified, asked: Asked) -> Verified
-    ensures { λ r. ⌜ r ≡ onAsked taken asked ⌝ }
+    ensures { λ r. ⌜ r ≡ onAsked Verified.Refused asked taken ⌝ }
 {
     match asked {
         Asked::Yes => taken,
-        Asked::No(number) => refused_by(number),
+        Asked::No(refusal) => Verified::Refused(refusal),
     }
 }
 
-// 16, and then the questions of the form.
+// 16, and then the questions of the form. No file has both forms: their first tags differ.
 pub fn check(first: &[u8], n: usize, second: &[u8], m: usize, limits: Limits, e: &[u8]) -> Verified
     requires { ⌜ (Bounded limits) × ((Checked (now first) n) × (Checked (now second) m)) ⌝ }
     ensures { λ r. ⌜ r ≡ checkIn limits (now (first .entry)) (now (second .entry)) (now (e .entry)) ⌝ }
 {
-    match form_of(e, m, limits) {
-        Form::Map => answer(Verified::MapTaken, map_asked(first, n, second, m, e)),
-        Form::Refutation => answer(
-            Verified::RefutationTaken,
-            refutation_asked(first, n, second, m, e, count(e)),
-        ),
-        Form::Neither => refused_by(16),
+    if has_map_form(e, m) {
+        return answer(Verified::MapTaken, map_asked(first, n, second, m, e));
     }
+    if has_refutation_form(e, limits) {
+        let asked = refutation_asked(first, n, second, m, e, count(e));
+        return answer(Verified::RefutationTaken, asked);
+    }
+    Verified::Refused(refusal_by(16))
 }

@@ -2,12 +2,12 @@
 use crate::check::check;
 use evidence::check::Verified;
 use picture::answer::short_buffer;
+use prepare_pair::prepare::Prepared;
 use prepare_pair::prepare::half_size;
 use prepare_pair::prepare::prepare;
 use prepare_pair::tables::first_table;
 use prepare_pair::tables::second_table;
 use table::layout::Limits;
-use workspace::prepare::Prepared;
 ghost use mathlib.Core.Path.{_≡_};
 ghost use Prim.Native.Nat.{ℕ};
 ghost use lib.ListN.{length};

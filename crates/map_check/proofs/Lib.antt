@@ -1,2 +1,3 @@
 -- The laws of 17 to 20 as the code asks them.
+pub mod Turns
 pub mod MapLaws

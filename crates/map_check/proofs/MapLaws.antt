@@ -1,38 +1,40 @@
 -- Questions 17 to 20 of a map, by what the code reads.
 --   image-whole                                    where a file has the form of a map, every image stands whole
 --   label-marked, label-else                       19, where the image is marked, and where it is not
---   edge-root, edge-elsewhere, edge-joined         whether two rows are joined: not to row 0, not by another parent, else by kind and role
---   edge-stays, edge-apart, edge-unmarked          20, where the image is its parent's and that is marked; where it is another; where it is not marked
---   row-read                                       17 to 20 of a row, by what was read
---   map-starts                                     the questions of a map are those of its rows from 0 on
---   images-on                                      a row whose questions are answered yes has an image in the first, as those before it
---   order-on, order-stops, order-done              a turn of the questions in order: a row passes, fails, or none is left
-use Prim.Native.Nat.{_+_, _-_, _<_, _≤_, suc, zero, ℕ}
-use borrow.Author.Tests.{eq-eqb, ltb-true, ne-eqb}
+--   edge-root, edge-elsewhere, edge-joined         whether two rows are joined: not to row 0, not by another parent,
+--                                                  else by kind and role
+--   edge-stays, edge-apart, edge-unmarked          20, where the image is its parent's and that is marked; where it is
+--                                                  another; where it is not marked
+--   row-outside, row-unrooted, row-unlike          17, 18, 19 are answered no for a row
+--   row-first, row-edge                            they are answered yes: row 0 has no edge, of another row 20 decides
+--   asks, map-rows                                 the questions of a map are those of its rows in turn
+--   images-inside                                  rows whose questions are answered yes have their images in the first
+use Prim.Native.Nat.{_+_, _<_, _≤_, ℕ}
+use borrow.Author.Tests.{eq-eqb, eqb-true, le-ltb, lt-ltb, ne-eqb}
 use lib.Dec.{eqb, ltb}
 use lib.ListN.{length}
 use mathlib.Core.Bool.{Bool, and-false, false, true}
 use mathlib.Core.List.{List}
-use mathlib.Core.Logic.{⊎-elim}
-use mathlib.Core.Path.{_≡_, _∙_, subst, sym}
-use native.Mathlib.Nat.{eq-or-lt-of-le, sub-zero}
+use mathlib.Core.Path.{_∙_, _≡_, refl}
 use native.Mathlib.Omega.{arith}
 use Rattle.ale.specs.PictureSignature.{pictureSignature}
 use Rattle.ale.specs.RowMap.{edgeAgrees, edgeJoins, labelAgrees}
+use Rattle.evidence.proofs.Homomorphisms.{row-exactly}
+use Rattle.evidence.specs.Form.{mapForm}
+use Rattle.evidence.specs.Map.{mapAsked, refusalBy, rowAsked}
+use Rattle.homomorphism.specs.Layout.{imageOf, «imagePlace»}
+use Rattle.homomorphism_search.specs.Search.{labelCarried, sameEdge}
 use Rattle.meaning.specs.Meaning.{pictureTable}
+use Rattle.picture.specs.Asked.{andThen, asked, askedFrom}
 use Rattle.picture.specs.Readable.{rowCount}
-use Rattle.table.proofs.Bools.{both}
+use Rattle.picture.specs.declared.answer.Asked.{Asked}
+use Rattle.picture.specs.declared.answer.Asked.the-variants.{No, Yes}
+use Rattle.table.proofs.Bools.{both, by-test}
 use Rattle.table.proofs.Rows.{ends-parts}
 use Rattle.table.specs.Fields.{endsAt, impossibleOf, parentOf}
 use Rattle.table.specs.Layout.{numberSize}
 use Rattle.table.specs.Pick.{pick}
-use Rattle.homomorphism.specs.Layout.{imageOf, «imagePlace»}
-use Rattle.homomorphism_search.specs.Search.{labelCarried, sameEdge}
-use Rattle.evidence.specs.Form.{mapForm}
-use Rattle.evidence.specs.Map.{ask, inOrder, mapAsked, rowAsked}
-use Rattle.evidence.specs.declared.asked.Asked.{Asked}
-use Rattle.evidence.specs.declared.asked.Asked.the-variants.{No, Yes}
-use Rattle.evidence.proofs.Asking.{ask-yes}
+use Rattle.map_check.proofs.Turns.{YesTo}
 
 pub image-whole : (e : List ℕ) (m i : ℕ) → mapForm m e ≡ true → i < m → imagePlace i + numberSize ≤ length e
 unfolding mapForm
@@ -75,41 +77,54 @@ module _ (first second : List ℕ) (i u v : ℕ) where
 
 -- the questions in order
 
-pub row-read : (first second e : List ℕ) (n i v u : ℕ) (label edge : Bool) → n ≡ rowCount first → v ≡ imageOf e i → u ≡ imageOf e (parentOf second i) →
-    label ≡ labelAgrees pictureSignature (pictureTable first) (pictureTable second) i v →
-    edge ≡ edgeAgrees pictureSignature (pictureTable first) (pictureTable second) i u v →
-    rowAsked (pictureTable first) (pictureTable second) (imageOf e) i
-    ≡ ask 17 (ltb v n) (ask 18 (pick (eqb i 0) (eqb v 0) true) (ask 19 label (ask 20 (pick (eqb i 0) true edge) Yes)))
-unfolding rowAsked
-row-read first second e n i v u label edge counted image image-above labelled edged = rw (labelled, edged, counted, image, image-above)
+-- a row, by its image v
+module _ (first second e : List ℕ) (n i v : ℕ) (counted : n ≡ rowCount first) (image : v ≡ imageOf e i) where
+  abbrev Row : Asked → Type 0
+  Row answer = rowAsked (pictureTable first) (pictureTable second) (imageOf e) i ≡ answer
+
+  row-read : (label edge : Bool) → label ≡ labelAgrees pictureSignature (pictureTable first) (pictureTable second) i v →
+      edge
+      ≡ edgeAgrees pictureSignature (pictureTable first) (pictureTable second) i (imageOf e (parentOf second i)) v →
+      Row (andThen (asked (ltb v n) (refusalBy 17))
+      (andThen (asked (pick (eqb i 0) (eqb v 0) true) (refusalBy 18))
+      (andThen (asked label (refusalBy 19))
+      (asked (pick (eqb i 0) true edge) (refusalBy 20)))))
+  unfolding rowAsked
+  row-read label edge labelled edged = rw (labelled, edged, counted, image)
+
+  pub row-outside : n ≤ v → Row (No (refusalBy 17))
+  row-outside l = row-read _ _ refl refl ∙ simp (le-ltb v n l)
+
+  pub row-unrooted : v < n → i ≡ 0 → (v ≡ 0 → ⊥) → Row (No (refusalBy 18))
+  row-unrooted l z d = row-read _ _ refl refl ∙ simp (lt-ltb v n l, eq-eqb i 0 z, ne-eqb v 0 d)
+
+  -- 17 and 18 are answered yes
+  module _ (inside : v < n) (root : i ≡ 0 → v ≡ 0) (label : Bool)
+      (labelled : label ≡ labelAgrees pictureSignature (pictureTable first) (pictureTable second) i v) where
+    rooted : pick (eqb i 0) (eqb v 0) true ≡ true
+    rooted = by-test (eqb i 0) (λ z. rw z (eq-eqb v 0 (root (eqb-true i 0 z)))) (λ z. rw z)
+
+    pub row-unlike : label ≡ false → Row (No (refusalBy 19))
+    row-unlike h = row-read label _ labelled refl ∙ simp (lt-ltb v n inside, rooted, h)
+
+    pub row-first : label ≡ true → i ≡ 0 → Row Yes
+    row-first h z = row-read label _ labelled refl ∙ simp (lt-ltb v n inside, eq-eqb v 0 (root z), h, eq-eqb i 0 z)
+
+    pub row-edge : label ≡ true → (i ≡ 0 → ⊥) → (u : ℕ) → u ≡ imageOf e (parentOf second i) →
+        (edge : Bool) → edge ≡ edgeAgrees pictureSignature (pictureTable first) (pictureTable second) i u v →
+        Row (asked edge (refusalBy 20))
+    row-edge h d u above edge edged =
+        row-read label edge labelled (rw above at edged) ∙ simp (lt-ltb v n inside, h, ne-eqb i 0 d)
 
 module _ (first second e : List ℕ) where
-  pub map-starts : (m : ℕ) → m ≡ rowCount second →
-      mapAsked (pictureTable first) (pictureTable second) (imageOf e) ≡ inOrder (rowAsked (pictureTable first) (pictureTable second) (imageOf e)) (m - 0) 0
+  abbrev pub asks : ℕ → Asked
+  asks = rowAsked (pictureTable first) (pictureTable second) (imageOf e)
+
+  pub images-inside : (n i : ℕ) → n ≡ rowCount first → YesTo asks i → (k : ℕ) → k < i → imageOf e k < n
+  images-inside n i counted before k l =
+      rw counted (row-exactly (pictureTable first) (pictureTable second) (imageOf e) k .0 (before k l) .inside)
+
+  pub map-rows : (m : ℕ) → m ≡ rowCount second →
+      mapAsked (pictureTable first) (pictureTable second) (imageOf e) ≡ askedFrom asks m 0
   unfolding mapAsked
-  map-starts m counted = rw (sub-zero, counted)
-
-  image-inside : (n i : ℕ) → n ≡ rowCount first → rowAsked (pictureTable first) (pictureTable second) (imageOf e) i ≡ Yes → imageOf e i < n
-  unfolding rowAsked
-  image-inside n i counted h = rw counted (ltb-true (imageOf e i) (rowCount first) (ask-yes 17 (ltb (imageOf e i) (rowCount first)) _ h .0))
-
-  pub images-on : (n i : ℕ) (answer : Asked) → n ≡ rowCount first → answer ≡ rowAsked (pictureTable first) (pictureTable second) (imageOf e) i → answer ≡ Yes →
-      ((k : ℕ) → k < i → imageOf e k < n) → (k : ℕ) → k < i + 1 → imageOf e k < n
-  images-on n i answer counted asked told before k l =
-      ⊎-elim
-      (λ (x : k ≡ i). subst (λ j. imageOf e j < n) (sym x) (image-inside n i counted (sym asked ∙ told)))
-      (λ (x : k < i). before k x)
-      (eq-or-lt-of-le (omega arith))
-
-module _ (f : ℕ → Asked) (m i : ℕ) where
-  pub order-on : (answer : Asked) → i < m → answer ≡ f i → answer ≡ Yes → inOrder f (m - i) i ≡ inOrder f (m - (i + 1)) (i + 1)
-  unfolding inOrder
-  order-on answer l asked told = let s : m - i ≡ suc (m - (i + 1)) = omega arith in rw (s, sym asked ∙ told)
-
-  pub order-stops : (answer : Asked) (number : ℕ) → i < m → answer ≡ f i → answer ≡ No number → inOrder f (m - i) i ≡ No number
-  unfolding inOrder
-  order-stops answer number l asked told = let s : m - i ≡ suc (m - (i + 1)) = omega arith in rw (s, sym asked ∙ told)
-
-  pub order-done : m ≤ i → inOrder f (m - i) i ≡ Yes
-  unfolding inOrder
-  order-done l = let s : m - i ≡ zero = omega arith in rw s
+  map-rows m counted = rw counted

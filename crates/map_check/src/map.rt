@@ -1,9 +1,10 @@
 // 17 to 20, for each row of the second table in turn.
-use evidence::asked::Asked;
+use crate::refusal::refusal_by;
 use homomorphism_search::label::label_at;
 use homomorphism_search::label::label_within;
 use homomorphism_search::search::same_edge;
 use map_writer::layout::image;
+use picture::answer::Asked;
 use table_rows::row::impossible;
 use table_rows::row::parent;
 ghost use mathlib.Core.Path.{_≡_};
@@ -71,19 +72,19 @@ fn row_asked(first: &[u8], n: usize, second: &[u8], m: usize, e: &[u8], i: usize
 {
     let v = image(e, i);
     if n <= v {
-        return Asked::No(17);
+        return Asked::No(refusal_by(17));
     }
     if i == 0 {
         if v != 0 {
-            return Asked::No(18);
+            return Asked::No(refusal_by(18));
         }
     }
     if !label_agrees(first, v, second, i) {
-        return Asked::No(19);
+        return Asked::No(refusal_by(19));
     }
     if i != 0 {
         if !edge_agrees(first, n, image(e, parent(second, i)), v, second, m, i) {
-            return Asked::No(20);
+            return Asked::No(refusal_by(20));
         }
     }
     Asked::Yes
@@ -100,8 +101,8 @@ pub fn map_asked(first: &[u8], n: usize, second: &[u8], m: usize, e: &[u8]) -> A
             Asked::Yes => {
                 i += 1;
             }
-            Asked::No(number) => {
-                return Asked::No(number);
+            Asked::No(refusal) => {
+                return Asked::No(refusal);
             }
         }
     }

@@ -9,14 +9,11 @@ enum-told c = search needs
 enum-known-asked : tie.Need-enum-known-asked
 enum-known-asked c = search needs
 
-refused-by-requires : tie.Need-refused-by-requires
-refused-by-requires c κs = search needs
-
 returns : tie.Need-returns
 returns c = search needs
 
 returns-2 : tie.Need-returns-2
-returns-2 c = rw (c .before .before .asked .given .1) (c .refused-by .ensures)
+returns-2 c = rw (c .before .asked .given .1)
 
 pub answer-spec : {M : Type 1} → statement M
-answer-spec = tie.close (tie.spec enum-told enum-known-asked refused-by-requires returns returns-2)
+answer-spec = tie.close (tie.spec enum-told enum-known-asked returns returns-2)

@@ -1,4 +1,5 @@
--- The end field says how long the file is, so the tag and the length that it begins with are there; each test that fails decides.
+-- The end field says how long the file is, so the tag and the length that it begins with are there; each test that
+-- fails decides.
 use borrow.Author.Needs.{needs}
 use borrow.Author.Tests.{eq-eqb, ne-eqb, not-false, not-true}
 use denote.Ref.{now}

@@ -1,15 +1,14 @@
 -- 1, and then what `prepare` has answered and written; 16 to 23 are asked of the two tables, and write nothing more.
 use Prim.Native.Nat.{_<_, _≤_}
-use mathlib.Core.Path.{_∙_, sym}
+use mathlib.Core.Path.{_∙_}
 use native.Mathlib.Omega.{arith}
 use denote.Ref.{now}
 use lib.ListN.{length}
 use Rattle.workspace.specs.Prepare.{workSize}
-use Rattle.workspace.specs.declared.prepare.Prepared.the-variants.{Refused, Tables}
-use Rattle.prepare_pair.proofs.TablesIn.{first-lies, prepared-in, prepared-tables}
+use Rattle.picture.specs.declared.answer.Asked.the-variants.{No, Yes}
+use Rattle.prepare_pair.proofs.TablesIn.{first-lies, prepared-in, prepared-no, prepared-tables, prepared-yes}
 use Rattle.prepare_pair.specs.Tables.{NormalTables, TablesIn}
-use Rattle.evidence_check.proofs.CheckLaws.{tables-check}
-use Rattle.evidence.proofs.Verifications.{prepared-verify, prepared-work, short-verify, short-work}
+use Rattle.evidence_check.proofs.CheckLaws.{prepared-call, short-call, tables-check}
 use borrow.Author.Needs.{needs}
 use Rattle.evidence_check.proofs.verify.verify.Statement.{statement}
 use Rattle.evidence_check.proofs.verify.verify.Tie as tie
@@ -63,11 +62,8 @@ returns c =
     let a = c .before .before .before .before .before .before .before .args in
     let short : length (now (a .work)) < workSize (a .limits) =
     omega (arith, c .before .if1 .taken, c .before .before .half-size .ensures) in
-    rw (c .short-buffer .ensures) (
-      sym (short-verify (a .limits) (now (a .first)) (now (a .second)) (now (a .evidence))
-          (length (now (a .work))) short),
-      sym (short-work (a .limits) (now (a .first)) (now (a .second)) (now (a .work)) short),
-    )
+    rw (c .short-buffer .ensures)
+    (short-call (a .limits) (now (a .first)) (now (a .second)) (now (a .evidence)) (now (a .work)) short)
 
 prepare-requires : tie.Need-prepare-requires
 prepare-requires c κs = search needs
@@ -97,17 +93,14 @@ returns-2 c =
     let d = paired (c .before) in
     let start = entry (tested d) in
     let a = start .args in
-    let prepare = c .before .before .before .before .before .before .before .before .before .prepare in
-    let pair = d .pair .given in
-    let same = sym (prepare .ensures .0) in (
-      c .check .ensures
-          ∙ tables-check (start .pre) (normal (c .before)) (now (a .evidence))
-          ∙ sym (prepared-verify (a .limits) (now (a .first)) (now (a .second)) (now (a .evidence))
-          (length (now (a .work))) (enough (tested d)) (Tables (pair .0 .0)) (same ∙ pair .1)),
-      prepare .ensures .1
-          ∙ sym (prepared-work (a .limits) (now (a .first)) (now (a .second)) (now (a .work))
-          (enough (tested d)) (prepare .result) same),
-    )
+    let prepare = d .before .before .before .before .prepare in
+    let (answer, space) =
+    prepared-call (a .limits) (now (a .first)) (now (a .second)) (now (a .evidence)) (now (a .work)) (enough (tested d))
+    Yes (prepare .last .1 .1 .1 .0)
+    (prepared-yes (a .limits) (now (a .first)) (now (a .second)) (now (a .work)) (start .pre) (enough (tested d))
+    (prepare .ensures .0) (prepare .ensures .1) (d .pair .given .1) .0)
+    (prepare .ensures .1) in
+    (c .check .ensures ∙ tables-check (start .pre) (normal (c .before)) (now (a .evidence)) ∙ answer, space)
 
 same-length-2 : tie.Need-same-length-2
 same-length-2 c = search needs
@@ -118,13 +111,10 @@ returns-3 c =
     let a = entry tests .args in
     let prepare = c .before .before .before .before .before .prepare in
     let refusal = c .before .refusal .given in
-    let same = sym (prepare .ensures .0) in (
-      sym (prepared-verify (a .limits) (now (a .first)) (now (a .second)) (now (a .evidence)) (length (now (a .work)))
-          (enough tests) (Refused (refusal .0 .0)) (same ∙ refusal .1)),
-      prepare .ensures .1
-          ∙ sym (prepared-work (a .limits) (now (a .first)) (now (a .second)) (now (a .work))
-          (enough tests) (prepare .result) same),
-    )
+    prepared-call (a .limits) (now (a .first)) (now (a .second)) (now (a .evidence)) (now (a .work)) (enough tests)
+    (No (refusal .0 .0)) (prepare .last .1 .1 .1 .0)
+    (prepared-no (a .limits) (now (a .first)) (now (a .second)) (prepare .ensures .0) (refusal .0 .0) (refusal .1))
+    (prepare .ensures .1)
 
 short-buffer-requires : tie.Need-short-buffer-requires
 short-buffer-requires c κs = search needs
