@@ -18,7 +18,7 @@ use Rattle.table.proofs.Bools.{by-test}
 use Rattle.table.proofs.Ranges.{left-suc}
 use Rattle.table.specs.Layout.{headSize}
 use Rattle.book.specs.Form.{card, cardAt, cardCount, cardTag, cardsFrom, fieldPlace, lengthSaid, mostCards, nextPlace}
-use Rattle.book_form.specs.Places.{Placed}
+use Rattle.book_form.specs.Places.{CardPlaced, Placed}
 use Rattle.book.proofs.Forms.{after-card}
 
 -- ---- one field
@@ -123,21 +123,25 @@ module _ (book places : List ℕ) where
 
 -- ---- a card as a part of the book
 
-module _ (book places : List ℕ) (count : ℕ) (p : Placed book places count) (k : ℕ) (l : k < count) where
+module _ (book places : List ℕ) (k : ℕ) (here : CardPlaced book places k) where
+  from-is : getD places k 0 ≡ fieldPlace book k
+  from-is = here .places-are .placed k (omega (arith, here .below))
+
+  to-is : getD places (k + 1) 0 ≡ fieldPlace book (k + 1)
+  to-is = here .places-are .placed (k + 1) (omega (arith, here .below))
+
   next-place : getD places (k + 1) 0 ≡ getD places k 0 + headSize + lengthSaid book (fieldPlace book k)
-  next-place =
-      p .placed (k + 1) (omega arith) ∙ after-card book k
-      ∙ ap (λ (n : ℕ). n + headSize + lengthSaid book (fieldPlace book k)) (sym (p .placed k (omega arith)))
+  next-place = to-is ∙ after-card book k ∙ ap (λ (n : ℕ). n + headSize + lengthSaid book (fieldPlace book k)) (sym from-is)
 
   pub place-from : getD places k 0 + headSize ≤ getD places (k + 1) 0
   place-from = omega (arith, next-place)
 
   pub place-to : getD places (k + 1) 0 ≤ length book
-  place-to = omega (arith, p .placed (k + 1) (omega arith), p .inside (k + 1) (omega arith))
+  place-to = omega (arith, to-is, here .places-are .inside (k + 1) (omega (arith, here .below)))
 
   pub place-part : take (getD places (k + 1) 0 - (getD places k 0 + headSize)) (drop (getD places k 0 + headSize) book) ≡ card book k
   unfolding card
   place-part =
       let long : getD places (k + 1) 0 - (getD places k 0 + headSize) ≡ lengthSaid book (fieldPlace book k) = omega (arith, next-place) in
       ap (λ (n : ℕ). take n (drop (getD places k 0 + headSize) book)) long
-      ∙ ap (λ (n : ℕ). take (lengthSaid book (fieldPlace book k)) (drop (n + headSize) book)) (p .placed k (omega arith))
+      ∙ ap (λ (n : ℕ). take (lengthSaid book (fieldPlace book k)) (drop (n + headSize) book)) from-is

@@ -1,4 +1,4 @@
-// The form of a book: the places of its cards, and 24.
+// The form of a book: the places of its cards, 24, and a card.
 use table::layout::HEAD_SIZE;
 use table::layout::LENGTH_AT;
 use table::number::load16;
@@ -7,8 +7,8 @@ ghost use mathlib.Core.Path.{_≡_};
 ghost use mathlib.Core.Bool.{true};
 ghost use Prim.Native.Nat.{ℕ, _+_, _≤_};
 ghost use lib.ListN.{length};
-ghost use Rattle.book.specs.Form.{bookForm, cardAt, cardCount, mostCards, nextPlace};
-ghost use Rattle.book_form.specs.Places.{Placed};
+ghost use Rattle.book.specs.Form.{bookForm, «card», cardAt, cardCount, mostCards, nextPlace};
+ghost use Rattle.book_form.specs.Places.{CardPlaced, Placed};
 
 pub const CARD_TAG: u8 = 0x51;
 
@@ -66,4 +66,14 @@ pub fn has_form(book: &[u8], places: &[usize; PLACES], count: usize) -> bool
     ensures { λ r. ⌜ r ≡ bookForm (now (book .entry)) ⌝ }
 {
     ends_at(book, places[count])
+}
+
+// Card k, as a part of the book: from after its field's head to where the next field begins.
+pub fn card<'a>(book: &'a [u8], places: &[usize; PLACES], k: usize) -> &'a [u8]
+    requires { ⌜ CardPlaced (now book) (now places) k ⌝ }
+    ensures { λ r. ⌜ now r ≡ «card» (now (book .entry)) k ⌝ }
+{
+    let start = places[k] + HEAD_SIZE;
+    let end = places[k + 1];
+    &book[start..end]
 }

@@ -1,3 +1,3 @@
-// The form of a book (24), and words of cards.
+// The form of a book (24), a card as a part of it, and words of cards.
 pub mod form;
 pub mod word;

@@ -29,10 +29,11 @@ use Rattle.prepare_pair.specs.Tables.{firstIn, secondIn}
 use Rattle.workspace.specs.declared.prepare.Pair.{Pair}
 use Rattle.book.specs.Form.{card}
 use Rattle.book.specs.Selection.{cardCovers}
-use Rattle.book_tables.specs.Tables.{CardsTaken, Tabled}
+use Rattle.book_tables.specs.Tables.{CardsTaken}
 use Rattle.book_selection.specs.Comparing.{BothHalves, Comparable, LowerHalf, Paired}
 use Rattle.book_form.specs.Places.{With, WithEach}
-use Rattle.book_tables.proofs.Tablings.{tabled-checked, tabled-file, tabled-fits}
+use Rattle.normal_writer.proofs.Tablings.{tabled-checked, tabled-file, tabled-fits}
+use Rattle.normal_writer.specs.Tables.{Tabled}
 
 pub with-each : (word m : ℕ) (test : Bool) (more n : ℕ) (other : Bool) (r : ℕ) → With word m test more → With more n other r → WithEach word m test n other r
 with-each word m test more n other r p q i = q i ∙ ap (λ (b : Bool). b || (eqb i n && other)) (p i)

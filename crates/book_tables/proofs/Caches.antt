@@ -16,6 +16,7 @@ use native.Mathlib.Omega.{arith}
 use Rattle.meaning.proofs.Normals.{normal-length, normal-size}
 use Rattle.meaning.specs.NormalTable.{mergedCount, normalFile}
 use Rattle.normal_writer.proofs.Prefixes.{take-put}
+use Rattle.normal_writer.specs.Tables.{Tabled}
 use Rattle.table.proofs.Puts.{length-put}
 use Rattle.table.specs.Bounds.{pictureSize}
 use Rattle.table.specs.Layout.{endSize, «place»}
@@ -26,7 +27,6 @@ use Rattle.table.specs.declared.layout.Limits.{Limits}
 use Rattle.workspace.specs.Prepare.{tableRows}
 use Rattle.book.specs.Form.{card, mostCards}
 use Rattle.book_tables.specs.Cache.{Cached, CachedAt, TableAt}
-use Rattle.book_tables.specs.Tables.{Tabled}
 
 pub tabled-at : (limits : Limits) (s out : List ℕ) (r : ℕ) (end : List ℕ) → Tabled limits s out r end → mergedCount limits s ≤ limits .rows → TableAt limits s end r
 tabled-at limits s out r end tabled few =

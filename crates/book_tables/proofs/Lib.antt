@@ -1,4 +1,4 @@
 -- The laws of the tables of the cards.
-pub mod Tablings
+pub mod CardTables
 pub mod Caches
 pub mod CardTests

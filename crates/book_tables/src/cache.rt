@@ -1,8 +1,9 @@
 // A cache of the tables of covering cards, one after the other in an array of the call's own, so that they are copied and not made again.
-use crate::covering::tabulate_card;
 use book_form::form::MAX_CARDS;
 use book_form::form::PLACES;
-use normalize_call::normalize::SCRATCH;
+use book_form::form::card;
+use normal_writer::write::TABLE;
+use normal_writer::write::normal_table;
 use table::layout::END_SIZE;
 use table::layout::Limits;
 use table::layout::place;
@@ -14,12 +15,12 @@ ghost use lib.ListN.{length};
 ghost use Rattle.table.specs.Bounds.{Bounded, maxRows, pictureSize};
 ghost use Rattle.table.specs.Layout.{endSize, «place»};
 ghost use Rattle.table.specs.declared.layout.Limits.{Limits};
-ghost use Rattle.book.specs.Form.{card, mostCards};
+ghost use Rattle.normal_writer.specs.Tables.{Tabled};
+ghost use Rattle.book.specs.Form.{«card», mostCards};
 ghost use Rattle.book_tables.specs.Cache.{Cached, TableAt, CardsCached};
-ghost use Rattle.book_tables.specs.Tables.{Tabled};
 
-// As many bytes as the longest table takes; the cache has as many.
-pub const TABLE: usize = SCRATCH + END_SIZE;
+// The cache has as many bytes as the longest table takes.
+pub const CACHE: usize = TABLE;
 
 // For each card where its table begins, and then for each card its rows; 0 if it is not cached.
 pub const SPANS: usize = 2 * MAX_CARDS;
@@ -34,7 +35,7 @@ pub fn store(
     spans: &mut [usize; SPANS],
 ) -> usize
     requires { ⌜ (m ≤ maxRows) × ((«place» m endSize ≤ length (now scratch)) × ((k < mostCards) × ((at ≤ length (now cache)) × (length (now spans) ≡ mostCards + mostCards)))) ⌝ }
-    ensures { λ r. ⌜ ((limits : Limits) (book : List ℕ) → Cached limits book (now (cache .entry)) (now (spans .entry)) at → TableAt limits (card book k) (now (scratch .entry)) m → Cached limits book (now (cache .exit)) (now (spans .exit)) r) × (length (now (cache .exit)) ≡ length (now (cache .entry))) ⌝ }
+    ensures { λ r. ⌜ ((limits : Limits) (book : List ℕ) → Cached limits book (now (cache .entry)) (now (spans .entry)) at → TableAt limits («card» book k) (now (scratch .entry)) m → Cached limits book (now (cache .exit)) (now (spans .exit)) r) × (length (now (cache .exit)) ≡ length (now (cache .entry))) ⌝ }
 {
     let size = place(m, END_SIZE);
     if cache.len() - at < size {
@@ -58,11 +59,11 @@ pub fn load(
     out: &mut [u8],
 ) -> usize
     requires { ⌜ (Bounded limits) × ((CardsCached limits (now book) (now places) count (now cache) (now spans)) × ((k < count) × (pictureSize limits ≤ length (now out)))) ⌝ }
-    ensures { λ r. ⌜ Tabled limits (card (now (book .entry)) k) (now (out .entry)) r (now (out .exit)) ⌝ }
+    ensures { λ r. ⌜ Tabled limits («card» (now (book .entry)) k) (now (out .entry)) r (now (out .exit)) ⌝ }
 {
     let m = spans[MAX_CARDS + k];
     if m == 0 {
-        return tabulate_card(book, places, count, k, limits, out);
+        return normal_table(card(book, places, k), limits, out);
     }
     let start = spans[k];
     copy_in(out, 0, &cache[start..start + place(m, END_SIZE)]);

@@ -1,22 +1,21 @@
 // Which cards cover the case. 14 is asked of the case and of each card in turn; nothing that the caller lent is written before all are answered yes, so the
 // tables stand in arrays of the call's own. Those of covering cards are cached there as long as they fit, so that they need not be made again.
 use crate::cache::SPANS;
-use crate::cache::TABLE;
 use crate::cache::store;
 use crate::covering::table_covers;
-use crate::covering::tabulate;
-use crate::covering::tabulate_card;
 use book::answer::Selected;
 use book_form::form::PLACES;
+use book_form::form::card;
 use book_form::word::bit;
+use normal_writer::write::TABLE;
+use normal_writer::write::normal_table;
+use normal_writer::write::table_of;
 use picture::answer::Input;
 use picture::answer::Refusal;
 use picture::answer::too_many;
 use row_sets::rows::LINKS;
 use row_sets::rows::fill_links;
-use table::layout::END_SIZE;
 use table::layout::Limits;
-use table::layout::place;
 ghost use mathlib.Core.Path.{_≡_};
 ghost use Prim.Native.Nat.{ℕ, _+_, _≤_, _<_};
 ghost use lib.ListN.{length, take};
@@ -55,7 +54,7 @@ fn covers_case(
     requires { ⌜ (Bounded limits) × ((m ≤ limits .rows) × ((«place» m endSize ≤ length (now scratch)) × ((Checked (take («place» m endSize) (now scratch)) m) × (LinkedTable (now table) n (now links))))) ⌝ }
     ensures { λ r. ⌜ r ≡ rowMaps (now (table .entry)) (take («place» m endSize) (now (scratch .entry))) (limits .depth) 0 0 ⌝ }
 {
-    let other = &scratch[..place(m, END_SIZE)];
+    let other = table_of(scratch, m);
     let mut others = [0u8; LINKS];
     fill_links(other, m, &mut others);
     table_covers(table, n, links, other, m, &others, limits.depth)
@@ -79,7 +78,7 @@ fn test_card(
     requires { ⌜ (Bounded limits) × ((CardsRead limits (now book) (now places) count) × ((k < count) × ((LinkedTable (now table) n (now links)) × ((pictureSize limits ≤ length (now scratch)) × (SubsumersBelow limits (now table) (now book) count (now cache) (now spans) subsumers k))))) ⌝ }
     ensures { λ r. ⌜ (TestedTo limits (now (table .entry)) (now (book .entry)) count (now (cache .exit)) (now (spans .exit)) k r) × ((length (now (scratch .exit)) ≡ length (now (scratch .entry))) × (length (now (cache .exit)) ≡ length (now (cache .entry)))) ⌝ }
 {
-    let m = tabulate_card(book, places, count, k, limits, scratch);
+    let m = normal_table(card(book, places, k), limits, scratch);
     if m == 0 {
         return Tested::Refused(too_many(Input::Card(k as u8)));
     }
@@ -153,11 +152,11 @@ pub fn find_subsumers(
     ensures { λ r. ⌜ (r ≡ onAsked (andThen (caseMerged limits (now (case .entry))) (askedFrom (cardMerged limits (now (book .entry))) count 0)) (cardWord (caseCovered limits (now (case .entry)) (now (book .entry))) count)) × (CachedAfter r limits (now (book .entry)) (now (cache .exit)) (now (spans .exit))) ⌝ }
 {
     let mut scratch = [0u8; TABLE];
-    let n = tabulate(case, limits, &mut scratch);
+    let n = normal_table(case, limits, &mut scratch);
     if n == 0 {
         return Selected::Refused(too_many(Input::First));
     }
-    let table = &scratch[..place(n, END_SIZE)];
+    let table = table_of(&scratch, n);
     let mut links = [0u8; LINKS];
     fill_links(table, n, &mut links);
     test_cards(book, places, count, limits, table, n, &links, cache, spans)

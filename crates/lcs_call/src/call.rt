@@ -1,7 +1,7 @@
 // The fourth call: question 1, both pictures into the work space, question 15, and the common picture into the result buffer.
 use lcs::common::Common;
-use normalize_call::normalize::SCRATCH;
-use normalize_call::normalize::write_table;
+use normal_writer::write::SCRATCH;
+use normal_writer::write::write_table;
 use picture::answer::Input;
 use picture::answer::refuse;
 use picture::answer::short_buffer;

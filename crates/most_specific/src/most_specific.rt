@@ -2,11 +2,12 @@
 use book::answer::Asked;
 use book::answer::Selected;
 use book_form::form::PLACES;
+use book_form::form::card;
 use book_form::form::find_cards;
 use book_form::form::has_form;
 use book_selection::compare::select_cards;
+use book_tables::cache::CACHE;
 use book_tables::cache::SPANS;
-use book_tables::cache::TABLE;
 use book_tables::subsumers::find_subsumers;
 use picture::answer::Answer;
 use picture::answer::Input;
@@ -14,38 +15,19 @@ use picture::answer::refuse;
 use picture::answer::short_buffer;
 use picture_reader::read::read;
 use prepare_pair::prepare::half_size;
-use table::layout::HEAD_SIZE;
 use table::layout::Limits;
 ghost use mathlib.Core.Path.{_≡_};
-ghost use Prim.Native.Nat.{ℕ, _≤_, _<_};
+ghost use Prim.Native.Nat.{ℕ, _≤_};
 ghost use lib.ListN.{length};
 ghost use Rattle.table.specs.Bounds.{Bounded};
 ghost use Rattle.table.specs.Put.{put, zeros};
-ghost use Rattle.picture.specs.Read.{answerOf};
 ghost use Rattle.picture.specs.Readable.{Readable};
 ghost use Rattle.workspace.specs.Prepare.{workSize};
 ghost use Rattle.book.specs.Call.{askedFrom, cardRead, mostSpecificAnswer, mostSpecificWork, onAsked, onSelected};
-ghost use Rattle.book.specs.Form.{card};
 ghost use Rattle.book.specs.Selection.{mostSpecificCards};
 ghost use Rattle.book_tables.specs.Tables.{CardsRead};
 ghost use Rattle.most_specific.specs.Asking.{afterCase, afterCards};
 ghost use Rattle.book_form.specs.Places.{Placed};
-
-// 2 to 13 of card k.
-fn read_card(
-    book: &[u8],
-    places: &[usize; PLACES],
-    count: usize,
-    k: usize,
-    limits: Limits,
-) -> Answer
-    requires { ⌜ (Bounded limits) × ((Placed (now book) (now places) count) × (k < count)) ⌝ }
-    ensures { λ r. ⌜ r ≡ answerOf limits (Input.Card k) (card (now (book .entry)) k) ⌝ }
-{
-    let start = places[k] + HEAD_SIZE;
-    let end = places[k + 1];
-    read(&book[start..end], limits, Input::Card(k as u8))
-}
 
 // 2 to 13 of each card in turn.
 fn read_cards(book: &[u8], places: &[usize; PLACES], count: usize, limits: Limits) -> Asked
@@ -54,7 +36,7 @@ fn read_cards(book: &[u8], places: &[usize; PLACES], count: usize, limits: Limit
 {
     let mut k = 0;
     while k < count {
-        match read_card(book, places, count, k, limits) {
+        match read(card(book, places, k), limits, Input::Card(k as u8)) {
             Answer::Rows(_) => {
                 k += 1;
             }
@@ -78,7 +60,7 @@ fn select(
     requires { ⌜ (Bounded limits) × ((Readable limits (now case)) × ((CardsRead limits (now book) (now places) count) × (workSize limits ≤ length (now work)))) ⌝ }
     ensures { λ r. ⌜ (r ≡ onAsked (afterCards limits (now (case .entry)) (now (book .entry))) (mostSpecificCards limits (now (case .entry)) (now (book .entry)))) × (now (work .exit) ≡ onSelected r (put (now (work .entry)) 0 (zeros (workSize limits))) (now (work .entry))) ⌝ }
 {
-    let mut cache = [0u8; TABLE];
+    let mut cache = [0u8; CACHE];
     let mut spans = [0usize; SPANS];
     match find_subsumers(case, book, places, count, limits, &mut cache, &mut spans) {
         Selected::Cards(covering) => {

@@ -7,4 +7,4 @@ pub mod Leavings
 pub mod PartLaws
 pub mod Turns
 pub mod Roots
-pub mod Normalizations
+pub mod Tablings

@@ -2,3 +2,4 @@
 pub mod Grown
 pub mod Parts
 pub mod Built
+pub mod Tables

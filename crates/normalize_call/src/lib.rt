@@ -1,3 +1,2 @@
-// The second call, and a normal table written into a half of the work space.
-pub mod half;
+// The second call.
 pub mod normalize;

@@ -1,3 +1,3 @@
 -- The laws of the two tables in the work space.
-pub mod BuiltTables
+pub mod TabledPairs
 pub mod TablesIn

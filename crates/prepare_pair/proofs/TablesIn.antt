@@ -1,6 +1,7 @@
 -- The two tables in the work space, as they are lent to what reads them.
 --   first-lies        the first table lies within the work space
 --   on-tables         what is true of two normal files is true of the parts that are these files
+--   prepared-yes, prepared-no   what `prepare` gives says what the questions of the pair answer
 --   prepared-in       after `prepare` has given the pair both tables are there, each as the code needs it,
 --   prepared-tables   and the parts that are cut out are the normal tables
 use Prim.Native.Nat.{ℕ, _≤_}
@@ -15,12 +16,18 @@ use Rattle.meaning.proofs.Normals.{normal-length, normal-reads, normal-size}
 use Rattle.meaning.specs.NormalTable.{normalFile}
 use Rattle.row_sets.proofs.Checks.{readable-checked}
 use Rattle.row_sets.specs.Rows.{Checked}
-use Rattle.workspace.specs.Prepare.{Acceptable, halvesPut, onPrepared, prepareAnswer, tableRows, workSize}
-use Rattle.prepare_pair.specs.Tables.{NormalTables, TablesIn, firstIn, secondIn}
-use Rattle.workspace.specs.declared.prepare.Pair.{Pair}
-use Rattle.workspace.specs.declared.prepare.Prepared.{Prepared}
-use Rattle.workspace.specs.declared.prepare.Prepared.the-variants.{Tables}
-use Rattle.workspace.proofs.Preparations.{halves-first, halves-second, length-halves, tables-acceptable, tablesOf}
+use Rattle.picture.proofs.Asking.{given, refused-by}
+use Rattle.picture.proofs.Keeping.{kept-yes}
+use Rattle.picture.specs.Asked.{kept, onAsked}
+use Rattle.picture.specs.declared.answer.Asked.the-variants.{No, Yes}
+use Rattle.picture.specs.declared.answer.Refusal.{Refusal}
+use Rattle.workspace.specs.Prepare.{Acceptable, halvesPut, pairAsked, workSize}
+use Rattle.prepare_pair.specs.Tables.{NormalTables, TablesIn, firstIn, secondIn, tableRows, tablesOf}
+use Rattle.prepare_pair.specs.declared.prepare.Pair.{Pair}
+use Rattle.prepare_pair.specs.declared.prepare.Prepared.{Prepared}
+use Rattle.prepare_pair.specs.declared.prepare.Prepared.the-variants.{Refused, Tables}
+use Rattle.workspace.proofs.Pairs.{yes-acceptable}
+use Rattle.workspace.proofs.Preparations.{halves-first, halves-second, length-halves}
 
 pub first-lies : {limits : Limits} {work : List ℕ} {pair : Pair} → TablesIn limits work pair →
     (pair .first ≤ maxRows) × (place (pair .first) endSize ≤ length work)
@@ -60,15 +67,21 @@ module _ (limits : Limits) (first second work : List ℕ) (bounded : Bounded lim
 
 -- after `prepare`
 module _ (limits : Limits) (first second old : List ℕ) {work : List ℕ} {answer : Prepared} {pair : Pair}
-    (bounded : Bounded limits) (enough : workSize limits ≤ length old) (is : answer ≡ prepareAnswer limits first second)
-    (written : work ≡ onPrepared answer (halvesPut limits first second old) old) (tables : answer ≡ Tables pair) where
+    (bounded : Bounded limits) (enough : workSize limits ≤ length old)
+    (is : answer ≡ onAsked Refused (pairAsked limits first second) (Tables (tablesOf limits first second)))
+    (written : work ≡ kept (pairAsked limits first second) (halvesPut limits first second old) old) (tables : answer ≡ Tables pair) where
+  pub prepared-yes : (pairAsked limits first second ≡ Yes) × (Tables (tablesOf limits first second) ≡ Tables pair)
+  prepared-yes =
+      given Refused (Tables (tablesOf limits first second)) (Tables pair) (λ r e. let z : _≡_ {A = ℕ} 0 1 = cc in omega arith)
+      (pairAsked limits first second) (sym is ∙ tables)
+
   accepted : Acceptable limits first second × (pair ≡ tablesOf limits first second)
-  accepted = tables-acceptable limits first second pair (sym is ∙ tables)
+  accepted = let (all, same) = prepared-yes in (yes-acceptable limits first second all, cc)
 
   -- what is true of both tables once they are written
   as-written : (P : Pair → List ℕ → Type 0) → P (tablesOf limits first second) (halvesPut limits first second old) → P pair work
   as-written P h =
-      let halves : work ≡ halvesPut limits first second old = written ∙ ap (λ a. onPrepared a (halvesPut limits first second old) old) tables in
+      let halves : work ≡ halvesPut limits first second old = written ∙ kept-yes (halvesPut limits first second old) old (pairAsked limits first second) (prepared-yes .0) in
       subst (λ q. P q work) (sym (accepted .1)) (subst (λ w. P (tablesOf limits first second) w) (sym halves) h)
 
   pub prepared-in : TablesIn limits work pair
@@ -86,3 +99,10 @@ module _ (limits : Limits) (first second old : List ℕ) {work : List ℕ} {answ
         first-checked = subst (λ x. Checked x (pair .first)) (sym e) (prepared-in .first-checked);
         second-checked = subst (λ x. Checked x (pair .second)) (sym f) (prepared-in .second-checked);
       }
+
+pub prepared-no : (limits : Limits) (first second : List ℕ) {answer : Prepared} →
+    answer ≡ onAsked Refused (pairAsked limits first second) (Tables (tablesOf limits first second)) →
+    (r : Refusal) → answer ≡ Refused r → pairAsked limits first second ≡ No r
+prepared-no limits first second is r refused =
+    refused-by Refused (Tables (tablesOf limits first second)) (λ q s e. cc) r (λ e. let z : _≡_ {A = ℕ} 0 1 = cc in omega arith)
+    (pairAsked limits first second) (sym is ∙ refused)

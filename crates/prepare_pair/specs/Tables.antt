@@ -1,4 +1,8 @@
 -- Where the two tables stand in the work space. Nobody has to believe these.
+--   HalvesRoom          what writing a finished table into each half needs
+--   PairRoom            what making the tables of two pictures needs
+--   tableRows, tablesOf the rows of a picture's normal table, and of both
+--   bothMerged          14 of both
 --   firstIn, secondIn   the tables of so many rows in the work space
 --   TablesIn            they are there, each as the code needs it
 --   NormalTables        two parts that are the normal tables of two pictures, each as the code needs it
@@ -6,13 +10,41 @@ use Prim.Native.Nat.{ℕ, _≤_}
 use lib.ListN.{drop, length, take}
 use mathlib.Core.List.{List}
 use mathlib.Core.Path.{_≡_}
-use Rattle.table.specs.Bounds.{pictureSize}
+use Rattle.table.specs.Bounds.{Bounded, pictureSize}
 use Rattle.table.specs.Layout.{endSize, «place»}
 use Rattle.table.specs.declared.layout.Limits.{Limits}
-use Rattle.meaning.specs.NormalTable.{normalFile}
+use Rattle.ale.specs.PictureSignature.{pictureSignature}
+use Rattle.ale.specs.Tree.{size}
+use Rattle.picture.specs.Asked.{andThen}
+use Rattle.picture.specs.Readable.{Readable}
+use Rattle.picture.specs.declared.answer.Asked.{Asked}
+use Rattle.picture.specs.declared.answer.Input.the-variants.{First, Second}
+use Rattle.meaning.specs.NormalTable.{normalFile, normalTreeOf}
+use Rattle.normal.specs.Call.{mergedAsked}
 use Rattle.row_sets.specs.Rows.{Checked}
 use Rattle.workspace.specs.Prepare.{Acceptable, workSize}
-use Rattle.workspace.specs.declared.prepare.Pair.{Pair}
+use Rattle.prepare_pair.specs.declared.prepare.Pair.{Pair}
+
+pub record HalvesRoom (limits : Limits) (first second work : List ℕ) : Type 0 where
+  pub bounded : Bounded limits
+  pub first-fits : length first ≤ pictureSize limits
+  pub second-fits : length second ≤ pictureSize limits
+  pub space : workSize limits ≤ length work
+
+pub record PairRoom (limits : Limits) (first second work : List ℕ) : Type 0 where
+  pub bounded : Bounded limits
+  pub first-readable : Readable limits first
+  pub second-readable : Readable limits second
+  pub space : workSize limits ≤ length work
+
+abbrev pub tableRows : Limits → List ℕ → ℕ
+tableRows limits s = size pictureSignature (normalTreeOf limits s)
+
+abbrev pub tablesOf : Limits → List ℕ → List ℕ → Pair
+tablesOf limits first second = record { first = tableRows limits first; second = tableRows limits second }
+
+abbrev pub bothMerged : Limits → List ℕ → List ℕ → Asked
+bothMerged limits first second = andThen (mergedAsked limits First first) (mergedAsked limits Second second)
 
 abbrev pub firstIn : Pair → List ℕ → List ℕ
 firstIn pair work = take (place (pair .first) endSize) work

@@ -5,7 +5,7 @@ use crate::prepare::half_size;
 use table::layout::END_SIZE;
 use table::layout::Limits;
 use table::layout::place;
-use workspace::prepare::Pair;
+use crate::prepare::Pair;
 ghost use mathlib.Core.Path.{_≡_};
 ghost use Prim.Native.Nat.{_≤_};
 ghost use lib.ListN.{length};

@@ -23,7 +23,6 @@ use Rattle.normal_writer.specs.Grown.{prefix}
 use Rattle.table_rows.specs.declared.builder.Builder.{Builder}
 use Rattle.product_rows.specs.Grown.{Built, Grown, Room}
 use Rattle.table.specs.declared.layout.Limits.{Limits}
-use Rattle.workspace.specs.declared.prepare.Prepared.the-variants as prepared
 
 module _ (limit parent : ℕ) where
   pub grown-nil : (b : Builder) (out : List ℕ) → Room limit b out → Grown limit parent b out nil b out

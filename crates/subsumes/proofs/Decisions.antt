@@ -29,7 +29,10 @@ use Rattle.meaning.proofs.Pictures.{picture-ranked}
 use Rattle.meaning.specs.Meaning.{pictureTable}
 use Rattle.meaning.specs.NormalTable.{normalFile, normalTreeOf}
 use Rattle.row_sets.specs.Rows.{Checked}
+use Rattle.picture.specs.Asked.{kept, onAsked}
 use Rattle.picture.specs.Refusal.{shortBuffer}
+use Rattle.picture.specs.declared.answer.Asked.{Asked}
+use Rattle.picture.specs.declared.answer.Asked.the-variants as asked
 use Rattle.picture.specs.Depth.{depth}
 use Rattle.picture.specs.Readable.{Readable}
 use Rattle.table.specs.Fields.{parentOf}
@@ -38,11 +41,11 @@ use Rattle.table.specs.Layout.{endSize}
 use Rattle.table.specs.Pick.{pick}
 use Rattle.table.specs.Put.{put}
 use Rattle.table.specs.declared.layout.Limits.{Limits}
-use Rattle.workspace.specs.Lent.{pairWork, roomy}
-use Rattle.workspace.specs.Prepare.{Acceptable, halvesPut, onPrepared, prepareAnswer}
-use Rattle.workspace.specs.declared.prepare.Pair.{Pair}
-use Rattle.workspace.specs.declared.prepare.Prepared.{Prepared}
-use Rattle.subsumption.specs.Call.{onVerdict, subsumesAnswer, subsumesResult, subsumesWork, verdictAnswer}
+use Rattle.workspace.proofs.Pairs.{lent-pair, lent-short}
+use Rattle.workspace.specs.Lent.{roomy}
+use Rattle.workspace.specs.Prepare.{Acceptable, halvesPut, pairAsked}
+use Rattle.prepare_pair.specs.declared.prepare.Pair.{Pair}
+use Rattle.subsumption.specs.Call.{subsumesAnswer, subsumesAsked, subsumesResult, subsumesWork, verdictAnswer}
 use Rattle.subsumes.specs.Tables.{Settled, evidenceIn, verdictIn}
 use Rattle.subsumption.specs.Verdict.{evidenceOf, evidenceSize, mapOf, refutationOf, verdictOf}
 use Rattle.subsumption.specs.declared.verdict.Verdict.{Verdict}
@@ -138,15 +141,23 @@ module _ (limits : Limits) (first second work result : List ℕ) where
       (answer ≡ subsumesAnswer limits first second (length work) (length result))
       × ((space ≡ subsumesWork limits first second work (length result)) × (buffer ≡ subsumesResult limits first second (length work) result))
 
-  pub short-call : roomy limits (evidenceSize limits) (length work) (length result) ≡ false → Gives (Refused shortBuffer) work result
-  unfolding subsumesAnswer pairWork subsumesResult
-  short-call h = (rw h, (rw h, rw h))
+  -- what the questions answer, a
+  by-asked : (a : Asked) → subsumesAsked limits first second (length work) (length result) ≡ a →
+      Gives (onAsked Refused a (verdictAnswer limits first second)) (kept a (halvesPut limits first second work) work)
+      (kept a (put result 0 (evidenceOf limits first second)) result)
+  unfolding subsumesAnswer
+  by-asked a e = (rw e, (rw e, rw e))
 
-  pub prepared-call : roomy limits (evidenceSize limits) (length work) (length result) ≡ true → (answer a : Prepared) (space : List ℕ) →
-      answer ≡ prepareAnswer limits first second → space ≡ onPrepared answer (halvesPut limits first second work) work → answer ≡ a →
-      Gives (onVerdict a (verdictAnswer limits first second)) space (onPrepared a (put result 0 (evidenceOf limits first second)) result)
-  unfolding subsumesAnswer pairWork subsumesResult
-  prepared-call h answer a space is written e = let same = sym is ∙ e in (rw (h, same), (written ∙ rw (h, is), rw (h, same)))
+  pub short-call : roomy limits (evidenceSize limits) (length work) (length result) ≡ false → Gives (Refused shortBuffer) work result
+  short-call h = by-asked (asked.No shortBuffer) (lent-short limits first second (roomy limits (evidenceSize limits) (length work) (length result)) h)
+
+  -- a is what the questions of the pair answer, `space` what `prepare` has left
+  pub prepared-call : roomy limits (evidenceSize limits) (length work) (length result) ≡ true → (a : Asked) (space : List ℕ) →
+      pairAsked limits first second ≡ a → space ≡ kept (pairAsked limits first second) (halvesPut limits first second work) work →
+      Gives (onAsked Refused a (verdictAnswer limits first second)) space (kept a (put result 0 (evidenceOf limits first second)) result)
+  prepared-call h a space is written =
+      let (answer, (left, buffer)) = by-asked a (lent-pair limits first second (roomy limits (evidenceSize limits) (length work) (length result)) h ∙ is) in
+      (answer, (written ∙ ap (λ q. kept q (halvesPut limits first second work) work) is ∙ left, buffer))
 
 -- ---- the parts of the work space that are the normal tables
 

@@ -2,6 +2,7 @@
 use crate::verdict::decide;
 use picture::answer::short_buffer;
 use prepare_pair::prepare::has_room;
+use prepare_pair::prepare::Prepared;
 use prepare_pair::prepare::prepare;
 use prepare_pair::tables::first_table;
 use prepare_pair::tables::second_table;
@@ -10,7 +11,6 @@ use refutation_reader::layout::individuals_within;
 use subsumption::verdict::Verdict;
 use table::layout::END_SIZE;
 use table::layout::Limits;
-use workspace::prepare::Prepared;
 ghost use mathlib.Core.Path.{_≡_};
 ghost use Prim.Native.Nat.{ℕ};
 ghost use lib.ListN.{length};

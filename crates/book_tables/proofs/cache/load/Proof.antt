@@ -6,6 +6,7 @@ use lib.ListN.{drop, getD}
 use lib.Seq.{length-take-le}
 use lib.ListN.{length-drop}
 use Rattle.book.specs.Form.{card, mostCards}
+use Rattle.book_tables.proofs.CardTables.{card-placed, card-room, card-tabled}
 use Rattle.book_tables.proofs.Caches.{cached-tabled, cached-few}
 use borrow.Author.Needs.{needs}
 use Rattle.book_tables.proofs.cache.load.Statement.{statement}
@@ -20,14 +21,18 @@ mul-m c = search needs
 element-copy-out-m : tie.Need-element-copy-out-m
 element-copy-out-m c = search needs
 
-tabulate-card-requires : tie.Need-tabulate-card-requires
-tabulate-card-requires c κs = search needs
+card-requires : tie.Need-card-requires
+card-requires c κs = let pre = c .before .before .before .before .before .pre in card-placed (pre .1 .0 .taken .cards-read) (pre .1 .1 .0)
+
+normal-table-requires : tie.Need-normal-table-requires
+normal-table-requires c κs =
+    let pre = c .before .before .before .before .before .before .before .pre in card-room (pre .1 .0 .taken .cards-read) (pre .1 .1 .0) (pre .0) (c .before .card .ensures) (pre .1 .1 .1)
 
 same-length : tie.Need-same-length
 same-length c = search needs
 
 returns : tie.Need-returns
-returns c = search needs
+returns c = let pre = c .before .before .before .before .before .before .before .before .before .before .pre in card-tabled (pre .1 .0 .taken .cards-read) (pre .1 .1 .0) (c .before .before .before .before .card .ensures) (c .before .before .normal-table .ensures)
 
 mul-start : tie.Need-mul-start
 mul-start c = search needs
@@ -87,7 +92,8 @@ load-spec =
     add-m
     mul-m
     element-copy-out-m
-    tabulate-card-requires
+    card-requires
+    normal-table-requires
     same-length
     returns
     mul-start

@@ -3,6 +3,10 @@ use Prim.Native.Nat.{_-_}
 use native.Mathlib.Omega.{arith}
 use borrow.Author.Needs.{needs}
 use denote.Ref.{now}
+use mathlib.Core.Path.{_∙_, _≡_, ap}
+use Rattle.picture.specs.Read.{answerOf}
+use Rattle.picture.specs.declared.answer.Input.the-variants.{Card}
+use Rattle.book.specs.Form.{card}
 use Rattle.most_specific.proofs.Calls.{ReadTo, read-all, read-next, read-refused, read-start}
 use Rattle.most_specific.proofs.most_specific.read_cards.Statement.{statement}
 use Rattle.most_specific.proofs.most_specific.read_cards.Tie as tie
@@ -16,36 +20,45 @@ abbrev μ-loop : tie.MeasureT-loop
 loop-holds : tie.Need-loop-holds Inv-loop μ-loop
 loop-holds c = read-start (c .before .args .limits) (now (c .before .args .book)) (c .before .args .count)
 
-read-card-requires : tie.Need-read-card-requires Inv-loop μ-loop
-read-card-requires c κs =
-    let pre = c .before .before .before .pre in
-    (pre .0, (pre .1, c .loop-test .taken))
+card-requires : tie.Need-card-requires Inv-loop μ-loop
+card-requires c κs =
+    let start = c .before .before .before in record { count = start .args .count; places-are = start .pre .1; below = c .loop-test .taken }
+
+cast-t10 : tie.Need-cast-t10 Inv-loop μ-loop
+cast-t10 c = search needs
+
+read-requires : tie.Need-read-requires Inv-loop μ-loop
+read-requires c κs = search needs
+
+-- the part that was read is card k
+says : (c : tie.After-read Inv-loop μ-loop) → let a = c .before .before .before .before .before .args in let k = c .before .before .before .loop .k in c .read .result ≡ answerOf (a .limits) (Card k) (card (now (a .book)) k)
+says c = c .read .ensures ∙ ap (answerOf (c .before .before .before .before .before .args .limits) (Card (c .before .before .before .loop .k))) (c .before .card .ensures)
 
 enum-told : tie.Need-enum-told Inv-loop μ-loop
 enum-told c = search needs
 
 add-k : tie.Need-add-k Inv-loop μ-loop
-add-k c = omega (arith, c .before .before .before .loop-test .taken, c .before .before .before .before .before .before .pre .1 .most)
+add-k c = omega (arith, c .before .before .before .before .loop-test .taken, c .before .before .before .before .before .before .before .pre .1 .most)
 
 loop-less : tie.Need-loop-less Inv-loop μ-loop
-loop-less c = omega (arith, c .before .before .before .loop-test .taken)
+loop-less c = omega (arith, c .before .before .before .before .loop-test .taken)
 
 loop-again : tie.Need-loop-again Inv-loop μ-loop
 loop-again c =
-    let args = c .before .before .before .before .before .before .args in
-    let loop = c .before .before .before .before .loop in
-    let read-card = c .before .before .read-card in
-    read-next (args .limits) (now (args .book)) (args .count) (loop .k) (loop .inv) (c .before .before .before .loop-test .taken) (read-card .result) (read-card .ensures) (c .enum-told .given .0 .0) (c .enum-told .given .1)
+    let args = c .before .before .before .before .before .before .before .args in
+    let loop = c .before .before .before .before .before .loop in
+    let told = c .enum-told .given in
+    read-next (args .limits) (now (args .book)) (args .count) (loop .k) (loop .inv) (c .before .before .before .before .loop-test .taken) (c .before .before .read .result) (says (c .before .before)) (told .0 .0) (told .1)
 
 enum-known-refusal : tie.Need-enum-known-refusal Inv-loop μ-loop
 enum-known-refusal c = search needs
 
 returns : tie.Need-returns Inv-loop μ-loop
 returns c =
-    let args = c .before .before .before .before .before .before .before .args in
-    let loop = c .before .before .before .before .before .loop in
-    let read-card = c .before .before .before .read-card in
-    read-refused (args .limits) (now (args .book)) (args .count) (loop .k) (loop .inv) (c .before .before .before .before .loop-test .taken) (read-card .result) (read-card .ensures) (c .before .refusal .given .0 .0) (c .before .refusal .given .1)
+    let args = c .before .before .before .before .before .before .before .before .args in
+    let loop = c .before .before .before .before .before .before .loop in
+    let refusal = c .before .refusal .given in
+    read-refused (args .limits) (now (args .book)) (args .count) (loop .k) (loop .inv) (c .before .before .before .before .before .loop-test .taken) (c .before .before .before .read .result) (says (c .before .before .before)) (refusal .0 .0) (refusal .1)
 
 returns-2 : tie.Need-returns-2 Inv-loop μ-loop
 returns-2 c =
@@ -59,7 +72,9 @@ read-cards-spec =
     Inv-loop
     μ-loop
     loop-holds
-    read-card-requires
+    card-requires
+    cast-t10
+    read-requires
     enum-told
     add-k
     loop-less

@@ -8,7 +8,6 @@ use Rattle.picture.specs.declared.answer.Answer.the-variants as answer
 use Rattle.picture.specs.declared.answer.Input.the-variants.{First}
 use Rattle.picture.proofs.Readables.{answer-reading}
 use Rattle.normal.proofs.Answers.{long-answer, result-of, short-answer}
-use Rattle.row_sets.proofs.Checks.{readable-checked}
 use Rattle.normalize_call.proofs.normalize.normalize.Statement.{statement}
 use Rattle.normalize_call.proofs.normalize.normalize.Tie as tie
 
@@ -24,19 +23,20 @@ returns c =
 read-requires : tie.Need-read-requires
 read-requires c κs = search needs
 
-enum-known-rows : tie.Need-enum-known-rows
-enum-known-rows c = search needs
+enum-told : tie.Need-enum-told
+enum-told c = search needs
 
-tabulate-requires : tie.Need-tabulate-requires
-tabulate-requires c κs =
-    let start = c .before .before .before .before .before .before .before .before .before in
+write-normal-requires : tie.Need-write-normal-requires
+write-normal-requires c κs =
+    let start = c .before .before .before .before .before .before .before .before in
     let a = start .args in
-    let rows = c .before .before .rows .given in
-    let read = c .before .before .before .before .read in (
-      readable-checked (a .limits) (now (a .picture)) (rows .0 .0)
-          (answer-reading (a .limits) (now (a .picture)) First (rows .0 .0) (sym (read .ensures) ∙ rows .1)) (start .pre),
-      (start .pre, omega (arith, c .before .before .before .before .before .if1 .left, c .before .before .before .before .before .before .place .ensures)),
-    )
+    let told = c .before .enum-told .given in
+    let read = c .before .before .before .read in
+    record {
+      bounded = start .pre;
+      readable = record { rows = told .0 .0; reads = answer-reading (a .limits) (now (a .picture)) First (told .0 .0) (sym (read .ensures) ∙ told .1) };
+      space = omega (arith, c .before .before .before .before .if1 .left, c .before .before .before .before .before .place .ensures);
+    }
 
 enum-known-refusal : tie.Need-enum-known-refusal
 enum-known-refusal c = search needs
@@ -46,14 +46,14 @@ same-length c = search needs
 
 returns-2 : tie.Need-returns-2
 returns-2 c =
-    let a = c .before .before .before .before .before .before .before .before .before .before .before .before .args in
-    let rows = c .before .before .before .before .before .rows .given in
-    let read = c .before .before .before .before .before .before .before .read in
-    let room = c .before .before .before .before .before .before .before .before .if1 .left in
-    let at = c .before .before .before .before .before .before .before .before .before .place .ensures in
-    let done = c .before .before .tabulate in
+    let a = c .before .before .before .before .before .before .before .before .before .before .before .args in
+    let told = c .before .before .before .before .enum-told .given in
+    let read = c .before .before .before .before .before .before .read in
+    let room = c .before .before .before .before .before .before .before .if1 .left in
+    let at = c .before .before .before .before .before .before .before .before .place .ensures in
+    let done = c .before .before .write-normal in
     let e = done .ensures .0
-    ∙ sym (long-answer (a .limits) (now (a .picture)) (length (now (a .result))) (answer.Rows (rows .0 .0)) (omega (arith, room, at)) (sym (read .ensures) ∙ rows .1)) in
+    ∙ sym (long-answer (a .limits) (now (a .picture)) (length (now (a .result))) (answer.Rows (told .0 .0)) (omega (arith, room, at)) (sym (read .ensures) ∙ told .1)) in
     (e, done .ensures .1 ∙ sym (result-of (a .limits) (now (a .picture)) (now (a .result)) (done .result) (sym e)))
 
 returns-3 : tie.Need-returns-3
@@ -77,8 +77,8 @@ normalize-spec =
     short-buffer-requires
     returns
     read-requires
-    enum-known-rows
-    tabulate-requires
+    enum-told
+    write-normal-requires
     enum-known-refusal
     same-length
     returns-2

@@ -1,14 +1,10 @@
 -- Each half is as long as the longest picture, so the table put into the upper one begins where the lower one ends.
-use mathlib.Core.List.{_++_}
 use mathlib.Core.Path.{_∙_, sym}
 use native.Mathlib.Omega.{arith}
 use lib.Seq.{length-take-le}
 use borrow.Author.Needs.{needs}
 use denote.Ref.{now}
-use Rattle.table.specs.Fields.{endBytes}
 use Rattle.normal.proofs.Halves.{length-half}
-use Rattle.normal_writer.proofs.Normalizations.{length-prefix}
-use Rattle.normal_writer.specs.Grown.{prefix}
 use Rattle.normal.specs.Half.{halfOf}
 use Rattle.workspace.proofs.Halves.{put-halves}
 use Rattle.prepare_pair.proofs.prepare.write_halves.Statement.{statement}
@@ -31,7 +27,7 @@ write-half-requires c κs =
     let start = c .before .before .before .before .before in
     let half = c .before .half-size in
     let lent = length-take-le (half .result) (start .args .work .now) (omega (arith, half .ensures)) in
-    (start .pre .0, (start .pre .1 .0, (start .pre .1 .1 .0, omega (arith, half .ensures, lent))))
+    record { bounded = start .pre .bounded; fits = start .pre .first-fits; space = omega (arith, half .ensures, lent) }
 
 sub-write-half : tie.Need-sub-write-half
 sub-write-half c = search needs
@@ -55,12 +51,9 @@ returns c =
     let half = c .before .before .before .before .before .before .before .before .half-size in
     let lower = c .before .before .before .before .before .before .write-half in
     let upper = c .before .before .write-half2 in
-    let file = prefix (a .table .rows) (now (a .scratch)) ++ endBytes in
-    let file-upper = prefix (a .upper .rows) (now (a .other)) ++ endBytes in
-    let size = length-prefix (a .table .rows) (now (a .scratch)) (start .pre .1 .1 .0) in
-    let size-half = length-half (a .limits) file (omega (arith, size, start .pre .1 .0)) in
-    put-halves (half .result) (now (a .work)) (halfOf (a .limits) file) (halfOf (a .limits) file-upper) (size-half ∙ sym (half .ensures))
-    (omega (arith, half .ensures, start .pre)) (lower .last .1 .1 .1 .0) (upper .last .1 .1 .1 .0) (lower .ensures .1) (upper .ensures .1)
+    let size-half = length-half (a .limits) (now (a .first)) (start .pre .first-fits) in
+    put-halves (half .result) (now (a .work)) (halfOf (a .limits) (now (a .first))) (halfOf (a .limits) (now (a .second))) (size-half ∙ sym (half .ensures))
+    (omega (arith, half .ensures, start .pre .space)) (lower .last .1 .1 .0) (upper .last .1 .1 .0) (lower .ensures) (upper .ensures)
 
 pub write-halves-spec : {M : Type 1} → statement M
 write-halves-spec =

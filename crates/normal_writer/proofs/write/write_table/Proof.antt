@@ -4,9 +4,9 @@ use native.Mathlib.Omega.{arith}
 use lib.Seq.{length-take-le}
 use borrow.Author.Needs.{needs}
 use denote.Ref.{now}
-use Rattle.normal_writer.proofs.Normalizations.{table-put}
-use Rattle.normalize_call.proofs.normalize.write_table.Statement.{statement}
-use Rattle.normalize_call.proofs.normalize.write_table.Tie as tie
+use Rattle.normal_writer.proofs.Tablings.{table-put}
+use Rattle.normal_writer.proofs.write.write_table.Statement.{statement}
+use Rattle.normal_writer.proofs.write.write_table.Tie as tie
 
 place-requires : tie.Need-place-requires
 place-requires c κs = search needs
@@ -36,7 +36,7 @@ returns c =
     let finished = c .before .before .finish in (
       finished .ensures .0,
       table-put (a .table .rows) (p .result) (now (a .scratch)) (now (a .out)) (copied .last .0) (finished .last .1 .0) (p .ensures)
-          (start .pre .1 .0) (start .pre .1 .1) (copied .ensures) (finished .ensures .1),
+          (start .pre .made) (start .pre .space) (copied .ensures) (finished .ensures .1),
     )
 
 pub write-table-spec : {M : Type 1} → statement M

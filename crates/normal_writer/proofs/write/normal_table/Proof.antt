@@ -1,15 +1,15 @@
 -- What is built is the normal table where 14 is answered yes; the end field makes it a file.
 use native.Mathlib.Omega.{arith}
 use denote.Ref.{now}
-use Rattle.book_tables.proofs.Tablings.{readable-rows, tabled-none, tabled-rows}
+use Rattle.normal_writer.proofs.Tablings.{readable-rows, tabled-none, tabled-rows}
 use borrow.Author.Needs.{needs}
-use Rattle.book_tables.proofs.covering.tabulate.Statement.{statement}
-use Rattle.book_tables.proofs.covering.tabulate.Tie as tie
+use Rattle.normal_writer.proofs.write.normal_table.Statement.{statement}
+use Rattle.normal_writer.proofs.write.normal_table.Tie as tie
 
 build-requires : tie.Need-build-requires
 build-requires c κs =
     let start = c .before .before .before in
-    (readable-rows (start .args .limits) (now (start .args .picture)) (start .pre .0) (start .pre .1 .0), (start .pre .0, omega (arith, start .pre .1 .1)))
+    (readable-rows (start .args .limits) (now (start .args .picture)) (start .pre .bounded) (start .pre .readable), (start .pre .bounded, omega (arith, start .pre .space)))
 
 same-length : tie.Need-same-length
 same-length c = search needs
@@ -33,8 +33,8 @@ returns-2 c =
     let built = c .before .before .before .before .before .before .before .before .before .before .build in
     let done = c .before .before .finish in
     tabled-rows (start .args .limits) (now (start .args .picture)) (now (start .args .out)) (built .result) (built .last .1 .1 .1 .0) (done .last .1 .0) (built .ensures) (if1 .left)
-    (omega (arith, built .ensures .same, built .ensures .fewer, if1 .left, start .pre .1 .1)) (done .ensures .1)
+    (omega (arith, built .ensures .same, built .ensures .fewer, if1 .left, start .pre .space)) (done .ensures .1)
 
-pub tabulate-spec : {M : Type 1} → statement M
-tabulate-spec =
+pub normal-table-spec : {M : Type 1} → statement M
+normal-table-spec =
     tie.close (tie.spec build-requires same-length returns finish-requires same-length-2 returns-2)

@@ -1,0 +1,68 @@
+// Whole tables: the normal table of a picture, with its end field, at the start of a lent part; and a finished table in a half of the work space.
+use crate::grow::build;
+use table::layout::END_SIZE;
+use table::layout::Limits;
+use table::layout::MAX_ROWS;
+use table::layout::ROW_SIZE;
+use table::layout::place;
+use table::number::clear;
+use table::number::copy_in;
+use table_rows::builder::Builder;
+ghost use mathlib.Core.Path.{_≡_};
+ghost use mathlib.Core.List.{_++_};
+ghost use Prim.Native.Nat.{ℕ, _≤_};
+ghost use lib.ListN.{length, take};
+ghost use Rattle.table.specs.Bounds.{maxRows};
+ghost use Rattle.table.specs.Fields.{endBytes};
+ghost use Rattle.table.specs.Layout.{«place», endSize};
+ghost use Rattle.table.specs.Put.{put};
+ghost use Rattle.normal.specs.Half.{halfOf};
+ghost use Rattle.normal_writer.specs.Grown.{prefix};
+ghost use Rattle.normal_writer.specs.Tables.{HalfRoom, RowsRoom, TableRoom, Tabled};
+
+// As many bytes as the rows of the longest table take.
+pub const SCRATCH: usize = ROW_SIZE * MAX_ROWS;
+
+// The same with the end field.
+pub const TABLE: usize = SCRATCH + END_SIZE;
+
+// Writes the normal table of a picture, and gives its rows; 0 if 14 is answered no, for a table has a row.
+pub fn normal_table(picture: &[u8], limits: Limits, out: &mut [u8]) -> usize
+    requires { ⌜ TableRoom limits (now picture) (now out) ⌝ }
+    ensures { λ r. ⌜ Tabled limits (now (picture .entry)) (now (out .entry)) r (now (out .exit)) ⌝ }
+{
+    let built = build(picture, picture.len() / ROW_SIZE, limits, out);
+    if limits.rows < built.merged {
+        return 0;
+    }
+    let table = built.table;
+    table.finish(out);
+    table.rows
+}
+
+// The table of so many rows at the start of a part.
+pub fn table_of(part: &[u8], rows: usize) -> &[u8]
+    requires { ⌜ (rows ≤ maxRows) × («place» rows endSize ≤ length (now part)) ⌝ }
+    ensures { λ r. ⌜ now r ≡ take («place» rows endSize) (now (part .entry)) ⌝ }
+{
+    &part[..place(rows, END_SIZE)]
+}
+
+// Copies the rows of a table under construction and ends the table there; its length in bytes.
+pub fn write_table(scratch: &[u8], table: Builder, out: &mut [u8]) -> usize
+    requires { ⌜ RowsRoom (table .rows) (now scratch) (now out) ⌝ }
+    ensures { λ r. ⌜ (r ≡ «place» (table .rows) endSize) × (now (out .exit) ≡ put (now (out .entry)) 0 (prefix (table .rows) (now (scratch .entry)) ++ endBytes)) ⌝ }
+{
+    let rows = table.rows;
+    copy_in(out, 0, &scratch[..place(rows, 0)]);
+    table.finish(out)
+}
+
+// Copies a finished table into a half and clears the rest.
+pub fn write_half(table: &[u8], limits: Limits, half: &mut [u8])
+    requires { ⌜ HalfRoom limits (now table) (now half) ⌝ }
+    ensures { λ _. ⌜ now (half .exit) ≡ put (now (half .entry)) 0 (halfOf limits (now (table .entry))) ⌝ }
+{
+    copy_in(half, 0, table);
+    clear(half, table.len(), place(limits.rows, END_SIZE));
+}
