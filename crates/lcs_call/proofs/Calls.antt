@@ -1,6 +1,6 @@
 -- Laws of the common picture as the code makes it, from the tables in the work space, and of the call by its tests.
 --   trims                             the normal tables of a pair are such as the walk along both needs,
---   common-file-in, common-in         and what is made of them is what the definition says of the pictures
+--   common-file-in, large-in          and what is made of them is what the definition says of the pictures
 --   made-few, made-many               the answer and the result buffer over the rows that were built
 --   short-call, prepared-call         the answer and both buffers: 1 is answered no, or the reading and 14 decide
 --   tables-trims, tables-common       the same of the parts of the work space that are the normal tables
@@ -22,7 +22,10 @@ use Rattle.meaning.proofs.Normals.{normal-meaning, normal-normal, normal-roles}
 use Rattle.meaning.specs.File.{fileOf}
 use Rattle.meaning.specs.NormalTable.{normalFile, normalTreeOf}
 use Rattle.normal_writer.specs.Grown.{prefix}
+use Rattle.picture.specs.Asked.{andThen, kept, onAsked}
 use Rattle.picture.specs.Refusal.{shortBuffer}
+use Rattle.picture.specs.declared.answer.Asked.{Asked}
+use Rattle.picture.specs.declared.answer.Asked.the-variants.{No}
 use Rattle.picture.specs.Readable.{Readable}
 use Rattle.table.specs.Bounds.{Bounded, pictureSize}
 use Rattle.table.specs.Fields.{endBytes}
@@ -31,16 +34,17 @@ use Rattle.table.specs.Put.{put}
 use Rattle.table_rows.specs.declared.builder.Builder.{Builder}
 use Rattle.table.specs.declared.layout.Limits.{Limits}
 use Rattle.prepare_pair.proofs.TablesIn.{on-tables}
-use Rattle.workspace.specs.Lent.{pairWork, roomy}
-use Rattle.workspace.specs.Prepare.{Acceptable, halvesPut, onPrepared, prepareAnswer}
+use Rattle.workspace.proofs.Pairs.{lent-pair, lent-short}
+use Rattle.workspace.specs.Lent.{roomy}
+use Rattle.workspace.specs.Prepare.{Acceptable, halvesPut, pairAsked}
 use Rattle.prepare_pair.specs.Tables.{NormalTables}
-use Rattle.workspace.specs.declared.prepare.Pair.{Pair}
-use Rattle.workspace.specs.declared.prepare.Prepared.{Prepared}
-use Rattle.lcs.specs.Call.{commonAnswer, lcsAnswer, lcsResult, lcsWork, onCommon, onTables, tooLarge}
+use Rattle.prepare_pair.specs.declared.prepare.Pair.{Pair}
+use Rattle.lcs.specs.Call.{largeAsked, lcsAnswer, lcsLent, lcsResult, lcsWork, tooLarge}
+use Rattle.lcs_call.specs.Large.{largeIn}
 use Rattle.product_rows.specs.Grown.{Built}
 use Rattle.lcs.specs.Product.{lcsCount, lcsFile, lcsTree}
 use Rattle.product_rows.specs.Siblings.{Trim}
-use Rattle.product_writer.specs.Tables.{Trims, commonFileIn, commonIn, productAt}
+use Rattle.product_writer.specs.Tables.{Trims, commonFileIn, productAt}
 use Rattle.lcs.specs.declared.common.Common.{Common}
 use Rattle.lcs.specs.declared.common.Common.the-variants.{Length, Refused}
 
@@ -50,19 +54,24 @@ module _ (limits : Limits) (s t : List ℕ) (b : Builder) (scratch mid : List �
   abbrev made : Tree pictureSignature
   made = productAt s t (limits .depth) 0 0
 
-  pub made-many : (out : List ℕ) → limits .rows < b .rows → (Refused tooLarge ≡ commonIn limits s t) × (out ≡ onCommon (Refused tooLarge) (commonFileIn limits s t) out)
-  unfolding commonIn
-  made-many out many = (rw (lt-leb (size pictureSignature made) (limits .rows) (omega (arith, built .count))), refl)
+  abbrev file : List ℕ
+  file = commonFileIn limits s t
+
+  pub made-many : (out : List ℕ) → limits .rows < b .rows →
+      (Refused tooLarge ≡ onAsked Refused (largeIn limits s t) (Length (length file))) × (out ≡ kept (largeIn limits s t) (put out 0 file) out)
+  unfolding largeIn
+  made-many out many = let e = lt-leb (size pictureSignature made) (limits .rows) (omega (arith, built .count)) in (rw e, rw e)
 
   pub made-few : (n : ℕ) (out end : List ℕ) → b .rows ≤ limits .rows → n ≡ place (b .rows) endSize → end ≡ put out 0 (prefix (b .rows) mid ++ endBytes) →
-      (Length n ≡ commonIn limits s t) × (end ≡ onCommon (Length n) (commonFileIn limits s t) out)
-  unfolding commonIn commonFileIn
+      (Length n ≡ onAsked Refused (largeIn limits s t) (Length (length file))) × (end ≡ kept (largeIn limits s t) (put out 0 file) out)
+  unfolding largeIn commonFileIn
   made-few n out end few long written =
       let within : size pictureSignature made ≤ limits .rows = omega (arith, built .count) in
+      let yes-is = le-leb (size pictureSignature made) (limits .rows) within in
       let size-is : n ≡ length (fileOf (encode pictureSignature made)) =
       omega (arith, long, built .count, length-fileOf (encode pictureSignature made), encodeTree-length pictureSignature made 0 exists 0 0) in (
-        rw (le-leb (size pictureSignature made) (limits .rows) within) (ap Length size-is),
-        written ∙ ap (λ (x : List ℕ). put out 0 (x ++ endBytes)) (built .bytes-are within),
+        rw yes-is (ap Length size-is),
+        rw yes-is (written ∙ ap (λ (x : List ℕ). put out 0 (x ++ endBytes)) (built .bytes-are within)),
       )
 
 -- ---- the normal tables of a pair
@@ -95,9 +104,9 @@ module _ (limits : Limits) (first second : List ℕ) (bounded : Bounded limits) 
   unfolding commonFileIn lcsFile
   common-file-in = ap (λ t. fileOf (encode pictureSignature t)) product-is
 
-  pub common-in : commonIn limits (normalFile limits first) (normalFile limits second) ≡ commonAnswer limits first second
-  unfolding commonIn commonAnswer lcsCount
-  common-in = rw (product-is, common-file-in)
+  pub large-in : largeIn limits (normalFile limits first) (normalFile limits second) ≡ largeAsked limits first second
+  unfolding largeIn lcsCount
+  large-in = rw product-is
 
 -- ---- the call by its tests
 
@@ -107,15 +116,27 @@ module _ (limits : Limits) (first second work result : List ℕ) where
       (answer ≡ lcsAnswer limits first second (length work) (length result))
       × ((space ≡ lcsWork limits first second work (length result)) × (buffer ≡ lcsResult limits first second (length work) result))
 
-  pub short-call : roomy limits (pictureSize limits) (length work) (length result) ≡ false → Gives (Refused shortBuffer) work result
-  unfolding lcsAnswer pairWork lcsResult
-  short-call h = (rw h, (rw h, rw h))
+  abbrev file-of : List ℕ
+  file-of = lcsFile limits first second
 
-  pub prepared-call : roomy limits (pictureSize limits) (length work) (length result) ≡ true → (answer a : Prepared) (space : List ℕ) →
-      answer ≡ prepareAnswer limits first second → space ≡ onPrepared answer (halvesPut limits first second work) work → answer ≡ a →
-      Gives (onTables a (commonAnswer limits first second)) space (onCommon (onTables a (commonAnswer limits first second)) (lcsFile limits first second) result)
-  unfolding lcsAnswer pairWork lcsResult
-  prepared-call h answer a space is written e = let same = sym is ∙ e in (rw (h, same), (written ∙ rw (h, is), rw (h, same)))
+  -- what the questions before 15 answer, a
+  by-asked : (a : Asked) → lcsLent limits first second (length work) (length result) ≡ a →
+      Gives (onAsked Refused (andThen a (largeAsked limits first second)) (Length (length file-of)))
+      (kept a (halvesPut limits first second work) work) (kept (andThen a (largeAsked limits first second)) (put result 0 file-of) result)
+  unfolding lcsAnswer
+  by-asked a e = (rw e, (rw e, rw e))
+
+  pub short-call : roomy limits (pictureSize limits) (length work) (length result) ≡ false → Gives (Refused shortBuffer) work result
+  short-call h = by-asked (No shortBuffer) (lent-short limits first second (roomy limits (pictureSize limits) (length work) (length result)) h)
+
+  -- a is what the questions of the pair answer, `space` what `prepare` has left
+  pub prepared-call : roomy limits (pictureSize limits) (length work) (length result) ≡ true → (a : Asked) (space : List ℕ) →
+      pairAsked limits first second ≡ a → space ≡ kept (pairAsked limits first second) (halvesPut limits first second work) work →
+      Gives (onAsked Refused (andThen a (largeAsked limits first second)) (Length (length file-of))) space
+      (kept (andThen a (largeAsked limits first second)) (put result 0 file-of) result)
+  prepared-call h a space is written =
+      let (answer, (left, buffer)) = by-asked a (lent-pair limits first second (roomy limits (pictureSize limits) (length work) (length result)) h ∙ is) in
+      (answer, (written ∙ ap (λ q. kept q (halvesPut limits first second work) work) is ∙ left, buffer))
 
 -- ---- the parts of the work space that are the normal tables
 
@@ -125,16 +146,20 @@ module _ {limits : Limits} {first second s t : List ℕ} {pair : Pair} (bounded 
   tables-trims =
       on-tables tables (λ s t. Trims s t (limits .depth)) (trims limits first second bounded (tables .accepted))
 
-  pub tables-common : (r : Common) (out end : List ℕ) → r ≡ commonIn limits s t →
-      end ≡ onCommon r (commonFileIn limits s t) out →
-      (r ≡ commonAnswer limits first second) × (end ≡ onCommon (commonAnswer limits first second) (lcsFile limits first second) out)
+  abbrev AnswerOn : Asked → List ℕ → Common
+  AnswerOn a file = onAsked Refused a (Length (length file))
+
+  pub tables-common : (r : Common) (out end : List ℕ) → r ≡ AnswerOn (largeIn limits s t) (commonFileIn limits s t) →
+      end ≡ kept (largeIn limits s t) (put out 0 (commonFileIn limits s t)) out →
+      (r ≡ AnswerOn (largeAsked limits first second) (lcsFile limits first second))
+      × (end ≡ kept (largeAsked limits first second) (put out 0 (lcsFile limits first second)) out)
   tables-common r out end answers writes =
-      let same = answers ∙ on-tables tables (λ s t. commonIn limits s t ≡ commonAnswer limits first second)
-      (common-in limits first second bounded (tables .accepted)) in (
-        same,
+      let asks = on-tables tables (λ s t. largeIn limits s t ≡ largeAsked limits first second)
+      (large-in limits first second bounded (tables .accepted)) in
+      let is = on-tables tables (λ s t. commonFileIn limits s t ≡ lcsFile limits first second)
+      (common-file-in limits first second bounded (tables .accepted)) in (
+        answers ∙ ap (λ a. AnswerOn a (commonFileIn limits s t)) asks ∙ ap (λ f. AnswerOn (largeAsked limits first second) f) is,
         writes
-            ∙ ap (λ a. onCommon a (commonFileIn limits s t) out) same
-            ∙ ap (λ e. onCommon (commonAnswer limits first second) e out)
-            (on-tables tables (λ s t. commonFileIn limits s t ≡ lcsFile limits first second)
-            (common-file-in limits first second bounded (tables .accepted))),
+            ∙ ap (λ a. kept a (put out 0 (commonFileIn limits s t)) out) asks
+            ∙ ap (λ f. kept (largeAsked limits first second) (put out 0 f) out) is,
       )

@@ -7,19 +7,22 @@ use picture::answer::refuse;
 use picture::answer::short_buffer;
 use prepare_pair::prepare::half_size;
 use prepare_pair::prepare::has_room;
+use prepare_pair::prepare::Prepared;
 use prepare_pair::prepare::prepare;
 use prepare_pair::tables::first_table;
 use prepare_pair::tables::second_table;
 use product_writer::graft::build;
 use table::layout::Limits;
-use workspace::prepare::Prepared;
 ghost use mathlib.Core.Path.{_≡_};
 ghost use Prim.Native.Nat.{ℕ, _≤_};
 ghost use lib.ListN.{length};
 ghost use Rattle.table.specs.Bounds.{Bounded, pictureSize};
+ghost use Rattle.table.specs.Put.{put};
 ghost use Rattle.row_sets.specs.Rows.{Checked};
-ghost use Rattle.lcs.specs.Call.{lcsAnswer, lcsResult, lcsWork, onCommon};
-ghost use Rattle.product_writer.specs.Tables.{Trims, commonFileIn, commonIn};
+ghost use Rattle.picture.specs.Asked.{kept, onAsked};
+ghost use Rattle.lcs.specs.Call.{lcsAnswer, lcsResult, lcsWork};
+ghost use Rattle.lcs_call.specs.Large.{largeIn};
+ghost use Rattle.product_writer.specs.Tables.{Trims, commonFileIn};
 
 // 15, and the common picture of two normal tables. Nothing is written before 15 is answered yes.
 fn write_common(
@@ -31,7 +34,10 @@ fn write_common(
     result: &mut [u8],
 ) -> Common
     requires { ⌜ (Checked (now first) n) × ((Checked (now second) m) × ((Trims (now first) (now second) (limits .depth)) × ((Bounded limits) × (pictureSize limits ≤ length (now result))))) ⌝ }
-    ensures { λ r. ⌜ (r ≡ commonIn limits (now (first .entry)) (now (second .entry))) × (now (result .exit) ≡ onCommon r (commonFileIn limits (now (first .entry)) (now (second .entry))) (now (result .entry))) ⌝ }
+    ensures { λ r. ⌜ (r ≡ onAsked Common.Refused (largeIn limits (now (first .entry)) (now (second .entry)))
+        (Common.Length (length (commonFileIn limits (now (first .entry)) (now (second .entry))))))
+        × (now (result .exit) ≡ kept (largeIn limits (now (first .entry)) (now (second .entry)))
+        (put (now (result .entry)) 0 (commonFileIn limits (now (first .entry)) (now (second .entry)))) (now (result .entry))) ⌝ }
 {
     let mut scratch = [0u8; SCRATCH];
     let table = build(first, n, second, m, limits, &mut scratch);

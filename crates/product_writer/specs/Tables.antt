@@ -5,28 +5,22 @@
 --   pairsFrom    row c of s, with row e of t and its later siblings, by the same kind and role
 --   Paired       what is asked of them: those of t stand no earlier than c in the order of edges
 --   Trims        what is asked of both tables
---   commonFileIn, commonIn   the common picture of two normal tables as a file, and the answer; 15
+--   commonFileIn   the common picture of two normal tables as a file
 use Prim.Native.Nat.{_<_, ℕ}
-use lib.Dec.{leb}
-use lib.ListN.{length}
 use mathlib.Core.List.{List}
 use mathlib.Core.Path.{_≡_}
 use Rattle.table.specs.Fields.{kindOf, roleOf}
-use Rattle.table.specs.Pick.{pick}
 use Rattle.table.specs.declared.layout.Limits.{Limits}
 use Rattle.ale.proofs.PairWalks.{KeysFrom}
 use Rattle.ale.proofs.Pairs.{pairForest}
 use Rattle.ale.specs.Encoding.{encode}
 use Rattle.ale.specs.PictureSignature.{pictureSignature}
 use Rattle.ale.specs.Product.{pairEach, product}
-use Rattle.ale.specs.Tree.{Forest, Tree, size, successorsOf}
+use Rattle.ale.specs.Tree.{Forest, Tree, successorsOf}
 use Rattle.meaning.specs.File.{fileOf}
 use Rattle.meaning.specs.Meaning.{kindAt}
 use Rattle.homomorphism_search.specs.Search.{treeAt}
-use Rattle.lcs.specs.Call.{tooLarge}
 use Rattle.product_rows.specs.Siblings.{Kept, Trim, TrimAll, forestFrom, keyAt}
-use Rattle.lcs.specs.declared.common.Common.{Common}
-use Rattle.lcs.specs.declared.common.Common.the-variants.{Length, Refused}
 
 abbrev pub Hung : ℕ → ℕ → Type 0
 Hung rows c = (c ≡ 0 → ⊥) × (c < rows)
@@ -54,6 +48,3 @@ pub record Trims (s t : List ℕ) (depth : ℕ) : Type 0 where
 module _ (limits : Limits) (s t : List ℕ) where
   unfoldable pub commonFileIn : List ℕ
   commonFileIn = fileOf (encode pictureSignature (productAt s t (limits .depth) 0 0))
-
-  unfoldable pub commonIn : Common
-  commonIn = pick (leb (size pictureSignature (productAt s t (limits .depth) 0 0)) (limits .rows)) (Length (length commonFileIn)) (Refused tooLarge)

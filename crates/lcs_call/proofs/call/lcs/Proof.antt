@@ -8,11 +8,11 @@ use mathlib.Core.Bool.{true}
 use mathlib.Core.Path.{_∙_, _≡_, ap, sym}
 use Rattle.table.specs.Bounds.{pictureSize}
 use Rattle.workspace.proofs.Lendings.{room-both}
-use Rattle.prepare_pair.proofs.TablesIn.{first-lies, prepared-in, prepared-tables}
+use Rattle.prepare_pair.proofs.TablesIn.{first-lies, prepared-in, prepared-no, prepared-tables, prepared-yes}
 use Rattle.prepare_pair.specs.Tables.{NormalTables, TablesIn}
 use Rattle.workspace.specs.Lent.{roomy}
 use Rattle.workspace.specs.Prepare.{workSize}
-use Rattle.workspace.specs.declared.prepare.Prepared.the-variants.{Refused, Tables}
+use Rattle.picture.specs.declared.answer.Asked.the-variants.{No, Yes}
 use Rattle.lcs_call.proofs.Calls.{prepared-call, short-call, tables-common, tables-trims}
 use Rattle.lcs_call.proofs.call.lcs.Statement.{statement}
 use Rattle.lcs_call.proofs.call.lcs.Tie as tie
@@ -126,8 +126,10 @@ returns-2 c =
     (made .result) (now (a .result)) (made .last .1 .1 .1 .1 .1 .0) (made .ensures .0) (made .ensures .1) in
     let (answer, (space, buffer)) =
     prepared-call (a .limits) (now (a .first)) (now (a .second)) (now (a .work)) (now (a .result)) (has-room (tested d))
-    (prepare .result) (Tables (pair .0 .0)) (prepare .last .1 .1 .1 .0) (prepare .ensures .0) (prepare .ensures .1)
-    (pair .1) in
+    Yes (prepare .last .1 .1 .1 .0)
+    (prepared-yes (a .limits) (now (a .first)) (now (a .second)) (now (a .work)) (start .pre) (enough (tested d) .0)
+    (prepare .ensures .0) (prepare .ensures .1) (pair .1) .0)
+    (prepare .ensures .1) in
     (answered ∙ answer, (space, put ∙ buffer))
 
 same-length-3 : tie.Need-same-length-3
@@ -140,8 +142,9 @@ returns-3 c =
     let prepare = c .before .before .before .before .before .prepare in
     let refusal = c .before .refusal .given in
     prepared-call (a .limits) (now (a .first)) (now (a .second)) (now (a .work)) (now (a .result)) (has-room tests)
-    (prepare .result) (Refused (refusal .0 .0)) (prepare .last .1 .1 .1 .0) (prepare .ensures .0) (prepare .ensures .1)
-    (refusal .1)
+    (No (refusal .0 .0)) (prepare .last .1 .1 .1 .0)
+    (prepared-no (a .limits) (now (a .first)) (now (a .second)) (prepare .ensures .0) (refusal .0 .0) (refusal .1))
+    (prepare .ensures .1)
 
 short-buffer-requires : tie.Need-short-buffer-requires
 short-buffer-requires c κs = search needs
