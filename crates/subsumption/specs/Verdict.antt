@@ -1,5 +1,6 @@
 -- 01, "Verdict with evidence": whether the second picture covers the first, and the evidence that is written.
---   verdictOf      003, Theorem 41: the normal tree of the second maps to that of the first (`covers`); that this is covering, by Table 1: `condition-2-verdict`
+--   verdictOf      003, Theorem 41: the normal tree of the second maps to that of the first (`covers`); that this is
+--                  covering, by Table 1: proofs/Writers, `verdict-covers`
 --   mapOf          our map of the two normal tables: the lowest possible row each time, parents first
 --   refutationOf   the countermodel of the two normal trees, as a refutation file; 01 leaves which one to the program
 --   evidenceOf     a map where the verdict is yes, else a refutation
