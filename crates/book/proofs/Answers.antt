@@ -5,7 +5,7 @@ use lib.Dec.{leb}
 use mathlib.Core.List.{List}
 use mathlib.Core.Logic.{_⊎_}
 use mathlib.Core.Path.{_≡_}
-use Rattle.picture.proofs.Asking.{Decides, and-decides, test-decides}
+use Rattle.picture.proofs.Orders.{Decides, and-decides, test-decides}
 use Rattle.picture.specs.Asked.{roomAsked}
 use Rattle.picture.specs.Refusal.{shortBuffer}
 use Rattle.table.specs.declared.layout.Limits.{Limits}

@@ -8,7 +8,7 @@ use mathlib.Core.List.{List}
 use mathlib.Core.Logic.{_⊎_, inl, inr}
 use mathlib.Core.Path.{_≡_, refl, subst, sym}
 use native.Mathlib.Omega.{arith}
-use Rattle.picture.proofs.Asking.{AllFrom, Decides, FirstFrom, Refuses, Unreadable, and-decides, and-refuses, asked-decides, asked-refuses, from-decides, from-refuses, read-decides, read-refuses, said-so}
+use Rattle.picture.proofs.Orders.{AllFrom, Decides, FirstFrom, Refuses, Unreadable, and-decides, and-refuses, asked-decides, asked-refuses, from-decides, from-refuses, read-decides, read-refuses, said-so}
 use Rattle.picture.specs.Asked.{andThen, askedFrom, readAsked}
 use Rattle.picture.specs.Readable.{Readable}
 use Rattle.picture.specs.Refusal.{refusal, tooMany}

@@ -22,7 +22,7 @@ use Rattle.table.specs.Bounds.{Bounded}
 use Rattle.table.specs.Links.{Zeros}
 use Rattle.table.specs.Pick.{pick}
 use Rattle.table.specs.declared.layout.Limits.{Limits}
-use Rattle.picture.proofs.Asking.{all-from, from-all, no-from}
+use Rattle.picture.proofs.Orders.{all-from, from-all, no-from}
 use Rattle.picture.specs.Asked.{andThen, askedFrom}
 use Rattle.normal.proofs.Answers.{merged-decides, merged-many}
 use Rattle.normal.specs.Call.{mergedAsked}

@@ -13,7 +13,7 @@ use Rattle.table.specs.Pick.{pick}
 use Rattle.ale.specs.PictureSignature.{pictureSignature}
 use Rattle.ale.specs.RowMap.{IsHomomorphism, edgeAgrees, labelAgrees}
 use Rattle.ale.specs.Table.{Table}
-use Rattle.picture.proofs.Asking.{and-decides, asked-decides, from-yes, yes-so}
+use Rattle.picture.proofs.Orders.{and-decides, asked-decides, from-yes, yes-so}
 use Rattle.picture.specs.Asked.{andThen, asked}
 use Rattle.picture.specs.declared.answer.Asked.the-variants.{Yes}
 use Rattle.evidence.specs.Map.{mapAsked, refusalBy, rowAsked}

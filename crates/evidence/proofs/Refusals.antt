@@ -13,7 +13,7 @@ use Rattle.ale.specs.PictureSignature.{pictureSignature}
 use Rattle.ale.specs.RowMap.{edgeAgrees, labelAgrees}
 use Rattle.ale.specs.Table.{Table}
 use Rattle.ale.specs.Tree.{Tree}
-use Rattle.picture.proofs.Asking.{Refuses, and-refuses, asked-refuses, from-refuses}
+use Rattle.picture.proofs.Orders.{Refuses, and-refuses, asked-refuses, from-refuses}
 use Rattle.picture.specs.Asked.{andThen, asked}
 use Rattle.picture.specs.declared.answer.Asked.{Asked}
 use Rattle.picture.specs.declared.answer.Refusal.{Refusal}

@@ -23,7 +23,7 @@ use Rattle.ale.specs.Tree.{Tree}
 use Rattle.countermodel.specs.Individual.{individualOk, individualTable, individuals}
 use Rattle.countermodel.specs.Layout.{individualCount}
 use Rattle.countermodel.specs.Model.{modelTree}
-use Rattle.picture.proofs.Asking.{and-decides, asked-decides, yes-so}
+use Rattle.picture.proofs.Orders.{and-decides, asked-decides, yes-so}
 use Rattle.picture.specs.Asked.{andThen, asked}
 use Rattle.picture.specs.declared.answer.Asked.the-variants.{Yes}
 use Rattle.evidence.specs.Check.{refutationAsked}

@@ -9,7 +9,7 @@ use mathlib.Core.Logic.{_↔_, _⊎_, inl, inr, ⊎-elim}
 use mathlib.Core.Path.{_≡_}
 use Rattle.table.specs.Bounds.{Bounded}
 use Rattle.table.specs.declared.layout.Limits.{Limits}
-use Rattle.picture.proofs.Asking.{Decides, and-yes, said-so}
+use Rattle.picture.proofs.Orders.{Decides, and-yes, said-so}
 use Rattle.picture.specs.Refusal.{shortBuffer}
 use Rattle.picture.specs.declared.answer.Asked.the-variants.{Yes}
 use Rattle.workspace.proofs.Pairs.{PairNo}

@@ -17,7 +17,7 @@ use Rattle.table.specs.Bounds.{Bounded, pictureSize}
 use Rattle.table.specs.Pick.{pick}
 use Rattle.table.specs.Put.{put, zeros}
 use Rattle.table.specs.declared.layout.Limits.{Limits}
-use Rattle.picture.proofs.Asking.{Refuses, and-refuses, asked-refuses, read-decides, read-refuses}
+use Rattle.picture.proofs.Orders.{Refuses, and-refuses, asked-refuses, read-decides, read-refuses}
 use Rattle.picture.proofs.Readables.{readable-count, readable-most}
 use Rattle.picture.specs.Asked.{kept, onAsked, readAsked, readingAsked, roomAsked}
 use Rattle.picture.specs.Read.{answerOf, answered, readingOf}

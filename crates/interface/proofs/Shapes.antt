@@ -20,7 +20,7 @@ use mathlib.Core.Path.{_∙_, _≡_, ap, refl, subst, sym}
 use native.Mathlib.Omega.{arith}
 use Rattle.table.proofs.Puts.{length-put, put-after}
 use Rattle.table.specs.Put.{put}
-use Rattle.picture.proofs.Asking.{Refuses, refuses-no}
+use Rattle.picture.proofs.Orders.{Refuses, refuses-no}
 use Rattle.picture.specs.Asked.{andThen, kept, onAsked}
 use Rattle.picture.specs.declared.answer.Asked.{Asked}
 use Rattle.picture.specs.declared.answer.Asked.the-variants.{No, Yes}

@@ -10,7 +10,7 @@ use native.Mathlib.Omega.{arith}
 use Rattle.table.specs.Bounds.{Bounded}
 use Rattle.table.specs.Pick.{pick}
 use Rattle.table.specs.declared.layout.Limits.{Limits}
-use Rattle.picture.proofs.Asking.{on-by}
+use Rattle.picture.proofs.Orders.{on-by}
 use Rattle.picture.specs.declared.answer.Refusal.{Refusal}
 use Rattle.workspace.proofs.Lendings.{two-decides}
 use Rattle.countermodel.proofs.Individuals.{within-most}

@@ -6,7 +6,7 @@ use mathlib.Core.Logic.{⊎-elim}
 use mathlib.Core.Path.{_≡_}
 use native.Mathlib.Nat.{eq-or-lt-of-le}
 use native.Mathlib.Omega.{arith}
-use Rattle.picture.proofs.Asking.{AllFrom, Decides, FirstFrom, from-decides}
+use Rattle.picture.proofs.Orders.{AllFrom, Decides, FirstFrom, from-decides}
 use Rattle.picture.specs.Asked.{askedFrom}
 use Rattle.picture.specs.declared.answer.Asked.{Asked}
 use Rattle.picture.specs.declared.answer.Asked.the-variants.{No, Yes}

@@ -17,8 +17,7 @@ use mathlib.Core.Path.{_∙_, _≡_, ap, refl, subst, sym}
 use native.Mathlib.Decide.{ℕ-discrete}
 use native.Mathlib.Omega.{arith}
 use Rattle.picture.specs.Refusal.{shortBuffer}
-use Rattle.picture.proofs.Asking.{all-from, and-yes, from-all, given, no-from, read-decides, refused-by, refused-no, rows-yes}
-use Rattle.picture.proofs.Keeping.{put-start}
+use Rattle.picture.proofs.Orders.{all-from, and-yes, from-all, given, no-from, read-decides, refused-by, refused-no, rows-yes}
 use Rattle.picture.specs.Asked.{andThen, askedFrom, kept}
 use Rattle.picture.specs.Read.{answerOf}
 use Rattle.picture.specs.Readable.{Readable}
@@ -27,7 +26,7 @@ use Rattle.picture.specs.declared.answer.Answer.the-variants as answer
 use Rattle.picture.specs.declared.answer.Input.the-variants.{Card, First}
 use Rattle.picture.specs.declared.answer.Refusal.{Refusal}
 use Rattle.table.proofs.Bools.{both}
-use Rattle.table.proofs.Puts.{length-zeros}
+use Rattle.table.proofs.Puts.{length-zeros, put-start}
 use Rattle.table.proofs.Ranges.{some-same}
 use Rattle.table.specs.NameSet.{has}
 use Rattle.table.specs.Put.{put, zeros}

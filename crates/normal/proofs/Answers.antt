@@ -20,7 +20,7 @@ use native.Mathlib.Omega.{arith}
 use Rattle.table.specs.Bounds.{pictureSize}
 use Rattle.table.specs.Put.{put}
 use Rattle.table.specs.declared.layout.Limits.{Limits}
-use Rattle.picture.proofs.Asking.{Decides, Refuses, Unreadable, and-decides, and-refuses, asked-refuses, given, read-decides, read-refuses, said-so, test-decides}
+use Rattle.picture.proofs.Orders.{Decides, Refuses, Unreadable, and-decides, and-refuses, asked-refuses, given, read-decides, read-refuses, said-so, test-decides}
 use Rattle.picture.specs.Asked.{andThen, kept, onAsked, readAsked, roomAsked}
 use Rattle.picture.specs.Readable.{Readable}
 use Rattle.picture.specs.Refusal.{refusal, shortBuffer, tooMany}

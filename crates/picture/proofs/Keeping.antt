@@ -1,17 +1,16 @@
 -- Laws of what a buffer lent for writing holds at exit, said once for every call.
 --   kept-yes, kept-no   it is written where all is answered yes, else as it was
 --   kept-by             a property of its old contents and, where all is answered yes, of its new ones is one of it
---   put-start           a file put at the start, and what stood after it
 --   file-past           where a file is put at its start: bytes past the file keep their contents, whatever the answer;
 --   file-kept           so does the buffer's length, if the file fits
 --   file-read           and its bytes up to the file's length are the file, where all is answered yes
 use Prim.Native.Nat.{_+_, _-_, _≤_, ℕ}
 use lib.ListN.{drop, getD, length, take}
 use lib.Seq.{take-at}
-use mathlib.Core.List.{List, _++_}
-use mathlib.Core.Path.{_≡_, ap, refl, sym}
+use mathlib.Core.List.{List}
+use mathlib.Core.Path.{_≡_, refl, sym}
 use native.Mathlib.Omega.{arith}
-use Rattle.table.proofs.Puts.{length-put, put-after}
+use Rattle.table.proofs.Puts.{length-put, put-after, put-start}
 use Rattle.table.specs.Put.{put}
 use Rattle.picture.specs.Asked.{kept}
 use Rattle.picture.specs.declared.answer.Asked.{Asked}
@@ -28,10 +27,6 @@ module _ (new old : List ℕ) where
   pub kept-by : (P : List ℕ → Type 0) (a : Asked) → P old → (a ≡ Yes → P new) → P (kept a new old)
   kept-by P Yes before after = after refl
   kept-by P (No r) before after = before
-
-pub put-start : (old file : List ℕ) → put old 0 file ≡ file ++ drop (length file) old
-unfolding put
-put-start old file = let e : 0 + length file ≡ length file = omega arith in ap (λ (k : ℕ). file ++ drop k old) e
 
 module _ (a : Asked) (file old : List ℕ) where
   pub file-past : (i : ℕ) → length file ≤ i → getD (kept a (put old 0 file) old) i 0 ≡ getD old i 0

@@ -4,6 +4,6 @@ pub mod Questions
 pub mod Fields
 pub mod Scans
 pub mod Readables
-pub mod Asking
+pub mod Orders
 pub mod Keeping
 pub mod Cases

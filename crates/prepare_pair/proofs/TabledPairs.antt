@@ -13,7 +13,7 @@ use mathlib.Core.Path.{_∙_, _≡_}
 use Rattle.table.specs.Bounds.{Bounded}
 use Rattle.table.specs.Put.{put}
 use Rattle.table.specs.declared.layout.Limits.{Limits}
-use Rattle.picture.proofs.Asking.{refused-no, rows-yes}
+use Rattle.picture.proofs.Orders.{refused-no, rows-yes}
 use Rattle.picture.specs.Read.{answerOf}
 use Rattle.picture.specs.Refusal.{tooMany}
 use Rattle.picture.specs.declared.answer.Answer.the-variants as answer

@@ -16,7 +16,7 @@ use Rattle.meaning.proofs.Normals.{normal-length, normal-reads, normal-size}
 use Rattle.meaning.specs.NormalTable.{normalFile}
 use Rattle.row_sets.proofs.Checks.{readable-checked}
 use Rattle.row_sets.specs.Rows.{Checked}
-use Rattle.picture.proofs.Asking.{given, refused-by}
+use Rattle.picture.proofs.Orders.{given, refused-by}
 use Rattle.picture.proofs.Keeping.{kept-yes}
 use Rattle.picture.specs.Asked.{kept, onAsked}
 use Rattle.picture.specs.declared.answer.Asked.the-variants.{No, Yes}

@@ -1,6 +1,7 @@
 -- Laws of `put` and of `zeros`.
 --   put-paste                       what a copying loop makes is a `put`
 --   put-nil                         nothing put changes nothing
+--   put-start                       a run put at the start, and what stood after it
 --   length-put                      the length stays
 --   put-put, put-three              runs put one after the other
 --   put-before, put-in, put-after   what stands before the run, in it and after it
@@ -24,6 +25,10 @@ put-paste d at s = rw take-length
 pub put-nil : (d : List ℕ) (at : ℕ) → put d at [] ≡ d
 unfolding put
 put-nil d at = rw (append-nil, add-zero at) (take-append-drop at d)
+
+pub put-start : (d s : List ℕ) → put d 0 s ≡ s ++ drop (length s) d
+unfolding put
+put-start d s = let e : 0 + length s ≡ length s = omega arith in ap (λ (k : ℕ). s ++ drop k d) e
 
 pub length-put : (d : List ℕ) (at : ℕ) (s : List ℕ) → at + length s ≤ length d → length (put d at s) ≡ length d
 length-put d at s h = ap length (sym (put-paste d at s)) ∙ length-paste d at s (length s) h (omega arith)

@@ -16,7 +16,7 @@ use mathlib.Core.Logic.{_⊎_, inl, inr, ⊎-elim}
 use mathlib.Core.Path.{_∙_, _≡_, refl, sym}
 use Rattle.table.proofs.Bools.{both, by-test}
 use Rattle.table.specs.declared.layout.Limits.{Limits}
-use Rattle.picture.proofs.Asking.{Decides, said-so}
+use Rattle.picture.proofs.Orders.{Decides, said-so}
 use Rattle.picture.proofs.Keeping.{kept-by}
 use Rattle.picture.specs.Refusal.{shortBuffer}
 use Rattle.meaning.specs.NormalTable.{normalFile}

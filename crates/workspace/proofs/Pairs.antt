@@ -12,7 +12,7 @@ use mathlib.Core.List.{List}
 use mathlib.Core.Logic.{_↔_, _⊎_, inl, inr, ⊎-elim}
 use mathlib.Core.Path.{_≡_, refl}
 use Rattle.table.specs.declared.layout.Limits.{Limits}
-use Rattle.picture.proofs.Asking.{Decides, Refuses, Unreadable, and-decides, and-refuses, asked-decides, asked-refuses, read-decides, read-refuses, said-so}
+use Rattle.picture.proofs.Orders.{Decides, Refuses, Unreadable, and-decides, and-refuses, asked-decides, asked-refuses, read-decides, read-refuses, said-so}
 use Rattle.picture.specs.Asked.{andThen, readAsked, roomAsked}
 use Rattle.picture.specs.Readable.{Readable}
 use Rattle.picture.specs.Refusal.{refusal, shortBuffer}

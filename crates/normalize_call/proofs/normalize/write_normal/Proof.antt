@@ -9,7 +9,7 @@ use mathlib.Core.Path.{_∙_, _≡_, ap, sym}
 use Rattle.table.specs.Put.{put}
 use Rattle.meaning.proofs.Normals.{normal-size}
 use Rattle.meaning.specs.NormalTable.{mergedCount, normalFile}
-use Rattle.picture.proofs.Asking.{on-no, on-yes}
+use Rattle.picture.proofs.Orders.{on-no, on-yes}
 use Rattle.picture.proofs.Keeping.{kept-no, kept-yes}
 use Rattle.picture.specs.declared.answer.Input.the-variants.{First}
 use Rattle.normal.proofs.Answers.{merged-decides, merged-many}

@@ -4,7 +4,7 @@ use borrow.Author.Needs.{needs}
 use denote.Ref.{now}
 use Rattle.picture.proofs.Readables.{answer-reading}
 use Rattle.picture.specs.declared.answer.Input.the-variants.{First, Second}
-use Rattle.picture.proofs.Asking.{on-no}
+use Rattle.picture.proofs.Orders.{on-no}
 use Rattle.picture.proofs.Keeping.{kept-no}
 use Rattle.prepare_pair.specs.declared.prepare.Prepared.the-variants.{Refused}
 use Rattle.prepare_pair.proofs.TabledPairs.{pair-answers, refused-first, refused-second}

@@ -8,7 +8,7 @@ use mathlib.Core.Path.{_∙_, _≡_, ap, refl, sym}
 use Rattle.meaning.proofs.Normals.{normal-size}
 use Rattle.meaning.specs.NormalTable.{mergedCount, normalFile}
 use Rattle.normal_writer.proofs.Tablings.{none-many, some-few, tabled-there}
-use Rattle.picture.proofs.Asking.{on-no, on-yes}
+use Rattle.picture.proofs.Orders.{on-no, on-yes}
 use Rattle.picture.proofs.Keeping.{kept-no, kept-yes}
 use Rattle.prepare_pair.specs.declared.prepare.Prepared.the-variants.{Refused, Tables}
 use Rattle.prepare_pair.proofs.TabledPairs.{both-few, halves-files, many-first, many-second, tabled-pair}
