@@ -12,8 +12,7 @@ use lib.Seq.{drop-append-le, drop-at, drop-drop, length-take-le, take-all, take-
 use mathlib.Core.List.{List, _++_, append-assoc, append-nil}
 use mathlib.Core.Path.{_∙_, _≡_, ap, sym}
 use native.Mathlib.Omega.{arith}
-use Rattle.table.proofs.Puts.{put-start}
-use Rattle.table.proofs.Puts.{put-after}
+use Rattle.table.proofs.Puts.{put-after, put-start}
 use Rattle.table.specs.Put.{put}
 
 module _ (a : ℕ) (d : List ℕ) where
