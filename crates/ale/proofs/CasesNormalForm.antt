@@ -4,7 +4,7 @@ use mathlib.Core.Bool.{false, true}
 use mathlib.Core.Path.{_≡_, ap}
 use native.Mathlib.Omega.{arith}
 use Rattle.table.specs.NameSet.{has}
-use Rattle.ale.specs.NormalForm.{CanonicalBottom, Ordered, Reduced, Saturated}
+use Rattle.ale.specs.Theory.{CanonicalBottom, Ordered, Reduced, Saturated}
 use Rattle.ale.specs.Tree.{bottomLabel, cons, exists, forAll, nil, node, sizes}
 use Rattle.ale.proofs.CasesTree.{Sig, bottomLeaf, double, five, leaf, none, single, three, under}
 

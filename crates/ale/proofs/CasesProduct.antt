@@ -1,7 +1,8 @@
 -- Products, computed: K9 to K11 of paper 01.
 use mathlib.Core.List.{[], _∷_}
 use mathlib.Core.Path.{_≡_, refl}
-use Rattle.ale.specs.Product.{lcs, product}
+use Rattle.ale.specs.Product.{product}
+use Rattle.ale.specs.Theory.{lcs}
 use Rattle.ale.specs.Tree.{Tree, cons, exists, forAll, nil, node}
 use Rattle.ale.proofs.CasesNormal.{k4-rows, picture, row}
 use Rattle.ale.proofs.CasesTree.{Sig, bottomLeaf, double, five, leaf, names, none, single, three, threeFive, under, wants}

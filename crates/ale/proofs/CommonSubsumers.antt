@@ -13,7 +13,7 @@ use mathlib.Core.Path.{_≡_}
 use Rattle.ale.specs.Homomorphism.{mapsTo}
 use Rattle.ale.specs.Interpretation.{Subsumed, structureOf}
 use Rattle.ale.specs.Normal.{normalTree, tidy}
-use Rattle.ale.specs.Product.{lcs, lcsTable}
+use Rattle.ale.specs.Theory.{lcs, lcsTable}
 use Rattle.ale.specs.Signature.{Signature}
 use Rattle.ale.specs.Table.{KnownRoles, Table, tree}
 use Rattle.ale.specs.Tree.{RolesKnown, Tree}

@@ -17,7 +17,7 @@ use Rattle.ale.specs.Countermodel.{countermodel, encoded-inhabited, numb
 use Rattle.ale.specs.Encoding.{encode, encoded}
 use Rattle.ale.specs.Homomorphism.{mapsTo}
 use Rattle.ale.specs.Interpretation.{Subsumed, structureOf}
-use Rattle.ale.specs.NormalForm.{Reduced, Saturated}
+use Rattle.ale.specs.Theory.{Reduced, Saturated}
 use Rattle.ale.specs.Signature.{Signature}
 use Rattle.ale.specs.Structure.{Fits}
 use Rattle.ale.specs.Tree.{Tree, exists, height, size}

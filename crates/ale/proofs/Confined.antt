@@ -12,7 +12,8 @@ use native.Mathlib.Omega.{arith}
 use Rattle.ale.specs.Forest.{byRole, dropped}
 use Rattle.ale.specs.Merged.{merged, roleParts}
 use Rattle.ale.specs.Normal.{inconsistent, normalTree, tidy, tidyAll}
-use Rattle.ale.specs.Product.{edgeCounts, lcs, product}
+use Rattle.ale.specs.Product.{edgeCounts, product}
+use Rattle.ale.specs.Theory.{lcs}
 use Rattle.ale.specs.Signature.{Signature}
 use Rattle.ale.specs.Table.{Table}
 use Rattle.ale.specs.Tree.{All, Forest, Kind, RolesKnown, RolesKnownAll, Tree, bottomTree, cons, height, heights, nil, node}

@@ -6,11 +6,10 @@ use Prim.Native.Nat.{_<_, ℕ}
 use lib.Dec.{eqb}
 use mathlib.Core.Bool.{_&&_, not}
 use Rattle.table.specs.Pick.{pick}
-use Rattle.ale.specs.Countermodel.{canonical, canonicalAll, countermodel, falsify, falsifyAll, individual, realize}
+use Rattle.ale.specs.Countermodel.{canonical, canonicalAll, countermodel, falsify, falsifyAll, individual, realize, valueOf}
 use Rattle.ale.specs.Encoding.{encoded}
 use Rattle.ale.specs.Homomorphism.{edgeServes, mapsTo}
 use Rattle.ale.specs.Normal.{normalTree}
-use Rattle.ale.specs.NormalForm.{valueOf}
 use Rattle.ale.specs.Signature.{Signature}
 use Rattle.ale.specs.Table.{KnownRoles, Table}
 use Rattle.ale.specs.Tree.{Forest, Kind, RolesKnown, RolesKnownAll, Tree, any, cons, exists, forAll, nil, node}

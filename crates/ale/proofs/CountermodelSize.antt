@@ -7,9 +7,8 @@ use mathlib.Core.Bool.{Bool, _&&_, false, not, true}
 use native.Mathlib.Nat.{le-max-left, le-max-right, mul-le-mul-left, mul-le-mul-right}
 use native.Mathlib.Omega.{arith}
 use Rattle.table.specs.Pick.{pick}
-use Rattle.ale.specs.Countermodel.{canonical, canonicalAll, countermodel, falsify, falsifyAll, individual, realize}
+use Rattle.ale.specs.Countermodel.{canonical, canonicalAll, countermodel, falsify, falsifyAll, individual, realize, valueOf}
 use Rattle.ale.specs.Homomorphism.{edgeServes, mapsTo}
-use Rattle.ale.specs.NormalForm.{valueOf}
 use Rattle.ale.specs.Signature.{Signature}
 use Rattle.ale.specs.Tree.{Forest, Kind, Tree, any, cons, exists, forAll, height, heights, nil, node, size, sizes}
 

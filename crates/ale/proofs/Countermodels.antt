@@ -13,10 +13,10 @@ use mathlib.Core.Bool.{Bool, _&&_, false, not, true}
 use mathlib.Core.Logic.{inl, inr, ⊎-elim}
 use mathlib.Core.Path.{_≡_, ap, refl, subst}
 use Rattle.table.specs.Pick.{pick}
-use Rattle.ale.specs.Countermodel.{canonical, canonicalAll, countermodel, falsify, falsifyAll, individual, realize}
+use Rattle.ale.specs.Countermodel.{canonical, canonicalAll, countermodel, falsify, falsifyAll, individual, realize, valueOf}
 use Rattle.ale.specs.Forest.{dropped, trivial}
 use Rattle.ale.specs.Homomorphism.{edgeServes, labelWithin, mapsAllTo, mapsTo}
-use Rattle.ale.specs.NormalForm.{IfExists, IfForAll, NodeSaturated, Propagated, Reduced, ReducedAll, Saturated, SaturatedAll, valueOf}
+use Rattle.ale.specs.Theory.{IfExists, IfForAll, NodeSaturated, Propagated, Reduced, ReducedAll, Saturated, SaturatedAll}
 use Rattle.ale.specs.Signature.{Signature}
 use Rattle.ale.specs.Structure.{Fits, FitsAll, Restriction, Satisfies}
 use Rattle.ale.specs.Tree.{All, Forest, Kind, Label, Tree, any, cons, exists, forAll, labelOf, nil, node, top}

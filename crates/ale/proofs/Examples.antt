@@ -29,15 +29,13 @@ use Rattle.table.specs.Layout.{roles}
 use Rattle.ale.specs.Concept.{Concept, ConceptSubsumed, InExtension, conceptOf, conjunction, primitive, value}
 use Rattle.ale.specs.Countermodel.{maxIndividuals, numbered}
 use Rattle.ale.specs.Encoding.{Row, encode, encoded}
-use Rattle.ale.specs.Folding.{one, two}
+use Rattle.ale.specs.Theory.{one, two, CanonicalBottom, Normal, Ordered, lcs, lcsTable, SubsumedInAll}
 use Rattle.ale.specs.Homomorphism.{mapsTo}
 use Rattle.ale.specs.Interpretation.{Equivalent, Interpretation, Subsumed, structureOf}
 use Rattle.ale.specs.Merged.{merged}
 use Rattle.ale.specs.Normal.{normalTree}
-use Rattle.ale.specs.NormalForm.{CanonicalBottom, Normal, Ordered}
-use Rattle.ale.specs.Product.{lcs, lcsTable}
 use Rattle.ale.specs.RowMap.{IsHomomorphism, edgeAgrees, image, rowMapsTo}
-use Rattle.ale.specs.Structure.{Fits, Structure, SubsumedInAll}
+use Rattle.ale.specs.Structure.{Fits, Structure}
 use Rattle.ale.specs.Table.{KnownRoles, Table, tree}
 use Rattle.ale.specs.Tree.{Tree, exists, forAll, size}
 use Rattle.ale.proofs.CasesCountermodel.{k7-counter}

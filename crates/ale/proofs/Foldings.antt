@@ -8,9 +8,8 @@
 use Prim.Native.Nat.{_<_, suc, zero, ℕ}
 use mathlib.Core.Logic.{_↔_, inl, inr, ⊎-elim}
 use mathlib.Core.Path.{refl, subst, sym}
-use Rattle.ale.specs.Folding.{Folding, Uses, fold, one, two}
+use Rattle.ale.specs.Theory.{Folding, Uses, fold, one, two, lcs, lcsTable}
 use Rattle.ale.specs.Interpretation.{Equivalent, Subsumed}
-use Rattle.ale.specs.Product.{lcs, lcsTable}
 use Rattle.ale.specs.Signature.{Signature}
 use Rattle.ale.specs.Table.{KnownRoles, Table, tree}
 use Rattle.ale.specs.Tree.{RolesKnown, Tree}

@@ -18,7 +18,7 @@ use native.Mathlib.Nat.{eq-or-lt-of-le}
 use native.Mathlib.Omega.{arith}
 use Rattle.ale.specs.Forest.{append, byRole, consReduced, dropped, trivial}
 use Rattle.ale.specs.Homomorphism.{labelWithin}
-use Rattle.ale.specs.NormalForm.{Reduced, ReducedAll}
+use Rattle.ale.specs.Theory.{Reduced, ReducedAll}
 use Rattle.ale.specs.Signature.{Signature}
 use Rattle.ale.specs.Structure.{Fits, FitsAll, Restriction, Structure}
 use Rattle.ale.specs.Tree.{All, Any, Forest, Kind, Tree, cons, emptyLabel, exists, forAll, nil, node}

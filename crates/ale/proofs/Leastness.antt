@@ -11,7 +11,7 @@ use Rattle.table.specs.Pick.{pick}
 use Rattle.ale.specs.Forest.{append, consReduced, dropped, trivial}
 use Rattle.ale.specs.Homomorphism.{edgeServes, labelWithin, mapsAllTo, mapsTo, roleServes}
 use Rattle.ale.specs.Normal.{inconsistent, tidy, tidyAll}
-use Rattle.ale.specs.NormalForm.{Reduced, ReducedAll}
+use Rattle.ale.specs.Theory.{Reduced, ReducedAll}
 use Rattle.ale.specs.Product.{edgeCounts, labelIntersection, pairAll, pairEach, product}
 use Rattle.ale.specs.Signature.{Signature}
 use Rattle.ale.specs.Tree.{Any, Forest, Kind, Label, RolesKnown, RolesKnownAll, Tree, any, bottomTree, cons, emptyLabel, exists, forAll, nil, node, sameKind}

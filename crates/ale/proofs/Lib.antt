@@ -24,7 +24,6 @@ pub mod Soundness
 pub mod RowLists
 pub mod TableLaws
 pub mod SameTables
-pub mod LinkLists
 pub mod Forests
 pub mod Appends
 pub mod Merging

@@ -7,8 +7,8 @@ use mathlib.Core.Path.{refl}
 use Rattle.ale.specs.Forest.{consReduced, dropped}
 use Rattle.ale.specs.Merged.{merged}
 use Rattle.ale.specs.Normal.{inconsistent, normalTree, tidy, tidyAll}
-use Rattle.ale.specs.NormalForm.{CanonicalBottom, CanonicalBottomAll}
-use Rattle.ale.specs.Product.{edgeCounts, lcs, product}
+use Rattle.ale.specs.Theory.{CanonicalBottom, CanonicalBottomAll, lcs}
+use Rattle.ale.specs.Product.{edgeCounts, product}
 use Rattle.ale.specs.Signature.{Signature}
 use Rattle.ale.specs.Table.{Table}
 use Rattle.ale.specs.Tree.{All, Forest, Kind, Tree, bottomTree, cons, nil, node}

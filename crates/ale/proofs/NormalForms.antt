@@ -4,7 +4,8 @@ use lib.Dec.{T, eqb}
 use mathlib.Core.Path.{_≡_, refl}
 use Rattle.ale.specs.Forest.{trivial}
 use Rattle.ale.specs.Homomorphism.{mapsTo}
-use Rattle.ale.specs.NormalForm.{IfForAll, Saturated, valueOf}
+use Rattle.ale.specs.Countermodel.{valueOf}
+use Rattle.ale.specs.Theory.{IfForAll, Saturated}
 use Rattle.ale.specs.Signature.{Signature}
 use Rattle.ale.specs.Tree.{All, Forest, Tree, cons, exists, forAll, nil, node, top}
 use Rattle.ale.proofs.NameLaws.{none-has}

@@ -11,10 +11,11 @@ use mathlib.Core.Path.{subst}
 use Rattle.ale.specs.Forest.{dropped, trivial}
 use Rattle.ale.specs.Merged.{existsParts, existsRows, labelOfSet, merged, roleParts, valuePart, valueRows}
 use Rattle.ale.specs.Normal.{bottomExists, inconsistent, normalOf, tidy, tidyAll, tidyNode}
-use Rattle.ale.specs.NormalForm.{IfExists, IfForAll, Propagated, Saturated, SaturatedAll, valueOf}
+use Rattle.ale.specs.Countermodel.{valueOf}
+use Rattle.ale.specs.Theory.{IfExists, IfForAll, Propagated, Saturated, SaturatedAll, SubsumedInAll}
 use Rattle.ale.specs.Rows.{member}
 use Rattle.ale.specs.Signature.{Signature}
-use Rattle.ale.specs.Structure.{Fits, Structure, SubsumedInAll}
+use Rattle.ale.specs.Structure.{Fits, Structure}
 use Rattle.ale.specs.Table.{KnownRoles, Table}
 use Rattle.ale.specs.Tree.{All, Any, Forest, Kind, Label, Tree, any, bottomTree, cons, exists, forAll, nil, node, sameKind}
 use Rattle.ale.proofs.Forests.{All-append, All-byRole, All-consReduced, Any-append-left, Any-byRole, Any-consReduced, Any-consReduced-later, trivial-fits}

@@ -11,7 +11,7 @@ use native.Mathlib.Omega.{arith}
 use Rattle.ale.specs.Forest.{append, byRole, consReduced, dropped}
 use Rattle.ale.specs.Merged.{existsParts, existsRows, merged, roleParts, valuePart, valueRows}
 use Rattle.ale.specs.Normal.{inconsistent, tidy, tidyAll}
-use Rattle.ale.specs.NormalForm.{Before, Ordered, OrderedAll}
+use Rattle.ale.specs.Theory.{Before, Ordered, OrderedAll}
 use Rattle.ale.specs.Rows.{withRow}
 use Rattle.ale.specs.Signature.{Signature}
 use Rattle.ale.specs.Table.{Table}

@@ -19,7 +19,7 @@ use Rattle.table.proofs.Bools.{is-false, is-true}
 use Rattle.table.specs.Pick.{pick}
 use Rattle.ale.specs.Forest.{append, consReduced, dropped}
 use Rattle.ale.specs.Homomorphism.{roleServes}
-use Rattle.ale.specs.NormalForm.{Before, OrderedAll}
+use Rattle.ale.specs.Theory.{Before, OrderedAll}
 use Rattle.ale.specs.PictureSignature.{pictureSignature}
 use Rattle.ale.specs.Product.{edgeCounts, pairAll, pairEach, product}
 use Rattle.ale.specs.Signature.{Signature}

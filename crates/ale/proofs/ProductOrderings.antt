@@ -9,8 +9,8 @@ use native.Mathlib.Omega.{arith}
 use Rattle.ale.specs.Forest.{append, consReduced}
 use Rattle.ale.specs.Merged.{merged}
 use Rattle.ale.specs.Normal.{normalTree}
-use Rattle.ale.specs.NormalForm.{Before, Ordered, OrderedAll}
-use Rattle.ale.specs.Product.{edgeCounts, lcs, pairAll, pairEach, product}
+use Rattle.ale.specs.Theory.{Before, Ordered, OrderedAll, lcs}
+use Rattle.ale.specs.Product.{edgeCounts, pairAll, pairEach, product}
 use Rattle.ale.specs.Signature.{Signature}
 use Rattle.ale.specs.Table.{Table}
 use Rattle.ale.specs.Tree.{All, Forest, Kind, Tree, cons, exists, forAll, nil, node}

@@ -6,8 +6,8 @@ use mathlib.Core.List.{[], _∷_}
 use Rattle.ale.specs.Forest.{append, consReduced}
 use Rattle.ale.specs.Merged.{merged}
 use Rattle.ale.specs.Normal.{normalTree}
-use Rattle.ale.specs.NormalForm.{Reduced, ReducedAll}
-use Rattle.ale.specs.Product.{edgeCounts, lcs, pairAll, pairEach, product}
+use Rattle.ale.specs.Theory.{Reduced, ReducedAll, lcs}
+use Rattle.ale.specs.Product.{edgeCounts, pairAll, pairEach, product}
 use Rattle.ale.specs.Signature.{Signature}
 use Rattle.ale.specs.Table.{Table}
 use Rattle.ale.specs.Tree.{Forest, Kind, Tree, cons, exists, forAll, nil, node}

@@ -8,7 +8,8 @@ use mathlib.Core.Logic.{⊎-elim}
 use mathlib.Core.Path.{subst, sym}
 use Rattle.ale.specs.Homomorphism.{edgeServes, labelWithin, mapsAllTo, mapsTo, roleServes}
 use Rattle.ale.specs.Signature.{Signature}
-use Rattle.ale.specs.Structure.{Fits, FitsAll, Restriction, Satisfies, Structure, SubsumedInAll}
+use Rattle.ale.specs.Structure.{Fits, FitsAll, Restriction, Satisfies, Structure}
+use Rattle.ale.specs.Theory.{SubsumedInAll}
 use Rattle.ale.specs.Tree.{Forest, Kind, Label, Tree, any, cons, exists, forAll, nil, node, sameKind}
 use Rattle.ale.proofs.Labels.{within-excluded, within-possible, within-wanted}
 use Rattle.ale.proofs.Structures.{FitsEdge, fits-each, satisfies-narrow}

@@ -15,7 +15,8 @@ use mathlib.Core.Logic.{⊎-elim}
 use Rattle.ale.specs.Interpretation.{Subsumed, structureOf}
 use Rattle.ale.specs.Merged.{labelUnion}
 use Rattle.ale.specs.Signature.{Signature}
-use Rattle.ale.specs.Structure.{Fits, FitsAll, Restriction, Satisfies, Structure, SubsumedInAll}
+use Rattle.ale.specs.Structure.{Fits, FitsAll, Restriction, Satisfies, Structure}
+use Rattle.ale.specs.Theory.{SubsumedInAll}
 use Rattle.ale.specs.Tree.{All, Forest, Kind, Label, Tree, cons, emptyLabel, exists, forAll, nil}
 use Rattle.ale.proofs.NameLaws.{none-has, union-elim, union-left, union-right}
 use Rattle.ale.proofs.Tests.{clash, or-left, or-right, or-split, refute}

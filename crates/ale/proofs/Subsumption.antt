@@ -18,9 +18,9 @@ use Rattle.ale.specs.Homomorphism.{mapsTo}
 use Rattle.ale.specs.Interpretation.{Equivalent, Subsumed, structureOf}
 use Rattle.ale.specs.Merged.{merged}
 use Rattle.ale.specs.Normal.{normalTree}
-use Rattle.ale.specs.NormalForm.{Normal}
+use Rattle.ale.specs.Theory.{Normal, SubsumedInAll}
 use Rattle.ale.specs.Signature.{Signature}
-use Rattle.ale.specs.Structure.{Fits, SubsumedInAll}
+use Rattle.ale.specs.Structure.{Fits}
 use Rattle.ale.specs.Table.{KnownRoles, Table, tree, treeOf}
 use Rattle.ale.specs.Tree.{Tree}
 use Rattle.ale.proofs.Completeness.{countermodel-refutes, subsumed-mapsTo}

@@ -11,7 +11,7 @@ use lib.Dec.{T}
 use mathlib.Core.Bool.{_||_, not}
 use mathlib.Core.Logic.{⊎-elim}
 use Rattle.ale.specs.Normal.{bottomExists, inconsistent, tidy, tidyAll, tidyNode}
-use Rattle.ale.specs.NormalForm.{Reduced, ReducedAll}
+use Rattle.ale.specs.Theory.{Reduced, ReducedAll}
 use Rattle.ale.specs.Signature.{Signature}
 use Rattle.ale.specs.Structure.{Fits, FitsAll, Satisfies, Structure}
 use Rattle.ale.specs.Tree.{Forest, Kind, Label, Tree, any, bottomTree, cons, exists, forAll, labelOf, nil, node}

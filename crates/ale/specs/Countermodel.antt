@@ -3,6 +3,7 @@
 --   individual             one individual, from its names and its successors
 --   realize                an individual for each some-successor
 --   canonical              003, Definition 36: the canonical model of a tree, where only its wanted names hold
+--   valueOf                the all-successor of a role, or ⊤
 --   falsify                successors that fit g and not one edge (k, r) of d, where h gives the countermodel of its end
 --   countermodel           individuals that fit v and not d; `countermodel d v`
 --   reached                01, "Evidence": each later individual is reached from its parent by its role, and no other pairs exist
@@ -10,19 +11,23 @@
 --   maxIndividuals         how many individuals are enough, by depth and rows
 --   numbered               a tree of individuals, numbered depth first
 use Prim.Native.Nat.{_*_, _<_, suc, ℕ}
-use lib.Dec.{T}
+use lib.Dec.{T, eqb}
 use mathlib.Core.Bool.{Bool, _&&_, false, not, true}
 use native.Mathlib.Omega.{arith}
 use Rattle.table.specs.Pick.{pick}
 use Rattle.ale.specs.Encoding.{encoded}
 use Rattle.ale.specs.Homomorphism.{edgeServes, mapsTo}
 use Rattle.ale.specs.Interpretation.{Interpretation}
-use Rattle.ale.specs.NormalForm.{valueOf}
 use Rattle.ale.specs.Signature.{Signature}
 use Rattle.ale.specs.Table.{Table, successorOf}
-use Rattle.ale.specs.Tree.{Forest, Kind, Tree, any, cons, exists, forAll, nil, node}
+use Rattle.ale.specs.Tree.{Forest, Kind, Tree, any, cons, exists, forAll, nil, node, top}
 
 module _ (S : Signature) where
+  abbrev pub valueOf : ℕ → Forest S → Tree S
+  valueOf r nil = top S
+  valueOf r (cons exists s t f) = valueOf r f
+  valueOf r (cons forAll s t f) = pick (eqb s r) t (valueOf r f)
+
   abbrev pub individual : S .Names → Forest S → Tree S
   individual s f = node (record { wanted = s; excluded = S .none; bottom = false }) f
 
@@ -42,7 +47,7 @@ module _ (S : Signature) where
 
   abbrev pub falsify : Kind → ℕ → (Tree S → Tree S) → Forest S → Forest S
   falsify exists r h g = realize (λ r′ c. pick (S .subrole r′ r) (h c) (canonical c)) g
-  falsify forAll r h g = cons exists r (h (valueOf S r g)) (canonicalAll g)
+  falsify forAll r h g = cons exists r (h (valueOf r g)) (canonicalAll g)
 
   -- nothing fits ⊥, and a wanted name that v does not want fails in the canonical model; an excluded name that v does not exclude may hold
   abbrev mutual

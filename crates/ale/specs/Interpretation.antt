@@ -3,7 +3,7 @@
 --   structureOf      the same as a structure. Its elements are all numbers, but its edges end at individuals: so "some" and "all" range over these.
 --                    A role is a set of pairs of individuals: `edge` below `count` on both sides, of x by `Subsumed`, of y by `structureOf`
 --   Subsumed         `Subsumed v d`: v ⊑ d, d covers v: every individual that fits v fits d, in every interpretation
---                    (over all structures: `SubsumedInAll`, for pictures the same, Subsumption: `subsumed-inAll`)
+--                    (over all structures: Theory, `SubsumedInAll`; for pictures the same, Subsumption: `subsumed-inAll`)
 --   Equivalent       each subsumes the other
 use Prim.Native.Nat.{_<_, ℕ}
 use lib.Dec.{T}

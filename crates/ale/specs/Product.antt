@@ -1,19 +1,15 @@
--- 01, "The product of two normal tables" (003, Definition 42), with dropping; the least common subsumer of two tables.
+-- 01, "The product of two normal tables" (003, Definition 42), with dropping.
 --   labelIntersection   wanted with wanted, excluded with excluded
 --   edgeCounts          an edge of this kind that counts for role r: an all-edge of r, a some-edge of a role that r includes
 --   pairEach            one successor of the first with each of the second, a trivial all-successor dropped
 --   pairAll             each successor of the first with each of the second, of one kind, for one role
 --   product             a pair with a ⊥ side is the other side; else names intersected, and for each role all with all, some with some
---   lcs, lcsTable       the product of the normal trees, and its table (003, Definition 2)
 use Prim.Native.Nat.{ℕ}
 use mathlib.Core.Bool.{Bool, _&&_, false}
 use Rattle.table.specs.Pick.{pick}
-use Rattle.ale.specs.Encoding.{encoded}
 use Rattle.ale.specs.Forest.{append, byRole, consReduced}
 use Rattle.ale.specs.Homomorphism.{roleServes}
-use Rattle.ale.specs.Normal.{normalTree}
 use Rattle.ale.specs.Signature.{Signature}
-use Rattle.ale.specs.Table.{Table}
 use Rattle.ale.specs.Tree.{Forest, Kind, Label, Tree, cons, exists, forAll, nil, node, sameKind}
 
 module _ (S : Signature) where
@@ -43,10 +39,3 @@ module _ (S : Signature) where
     pairAll nil k r g = nil
     pairAll (cons k′ r′ c f) k r g =
         pick (edgeCounts k r k′ r′) (append S (pairEach k r (λ e. product c e) g) (pairAll f k r g)) (pairAll f k r g)
-
-module _ (S : Signature) (p q : Table S) where
-  abbrev pub lcs : ℕ → ℕ → Tree S
-  lcs n m = product S (normalTree S p n) (normalTree S q m)
-
-  abbrev pub lcsTable : ℕ → Table S
-  lcsTable n = encoded S (lcs n n)

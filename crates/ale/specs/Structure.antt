@@ -3,7 +3,6 @@
 --   Restriction     some element reached by the role, or every one, has a property: the one place where fitting tells the kinds apart
 --   Satisfies       every wanted name holds, no excluded one does, and the label is not ⊥
 --   Fits            the label is satisfied, and so is each successor's restriction
---   SubsumedInAll   whatever fits the first fits the second, in every structure, of any size (covering itself is `Subsumed`, over finite ones)
 use Prim.Native.Nat.{ℕ}
 use lib.Dec.{T}
 use mathlib.Core.Bool.{Bool, not}
@@ -34,7 +33,3 @@ module _ (S : Signature) (M : Structure S) where
     pub FitsAll : Forest S → M .Element → Type 0
     FitsAll nil x = Unit
     FitsAll (cons k r t f) x = Restriction k r (λ y. Fits t y) x × FitsAll f x
-
-module _ (S : Signature) where
-  abbrev pub SubsumedInAll : Tree S → Tree S → Type 1
-  SubsumedInAll t u = (M : Structure S) (x : M .Element) → Fits S M t x → Fits S M u x

@@ -20,7 +20,7 @@ use Rattle.row_sets.specs.Rows.{Checked}
 use Rattle.table.specs.Bounds.{Bounded, maxRows, pictureSize}
 use Rattle.table.specs.Fields.{parentOf}
 use Rattle.table.specs.Layout.{endSize, «place»}
-use Rattle.table.specs.Links.{Linked}
+use Rattle.table_rows.specs.Links.{Linked}
 use Rattle.table.specs.NameSet.{has}
 use Rattle.table.specs.declared.layout.Limits.{Limits}
 use Rattle.workspace.proofs.Halves.{put-upper, upper-part}

@@ -20,7 +20,7 @@ use Rattle.normal_writer.specs.Tables.{Tabled, tableRows}
 use Rattle.table.proofs.Puts.{length-put}
 use Rattle.table.specs.Bounds.{pictureSize}
 use Rattle.table.specs.Layout.{endSize, «place»}
-use Rattle.table.specs.Links.{Zeros}
+use Rattle.table_rows.specs.Links.{Zeros}
 use Rattle.table.specs.Pick.{pick}
 use Rattle.table.specs.Put.{put}
 use Rattle.table.specs.declared.layout.Limits.{Limits}

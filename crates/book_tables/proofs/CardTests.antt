@@ -19,10 +19,10 @@ use Rattle.picture.specs.Refusal.{tooMany}
 use Rattle.picture.specs.declared.answer.Input.the-variants.{Card, First}
 use Rattle.picture.specs.declared.answer.Refusal.{Refusal}
 use Rattle.table.specs.Bounds.{Bounded}
-use Rattle.table.specs.Links.{Zeros}
+use Rattle.table_rows.specs.Links.{Zeros}
 use Rattle.table.specs.Pick.{pick}
 use Rattle.table.specs.declared.layout.Limits.{Limits}
-use Rattle.picture.proofs.Orders.{all-from, from-all, no-from}
+use Rattle.picture.proofs.Orders.{to-no, to-yes, yes-on, yes-to}
 use Rattle.picture.specs.Asked.{andThen, askedFrom}
 use Rattle.normal.proofs.Answers.{merged-decides, merged-many}
 use Rattle.normal.specs.Call.{mergedAsked}
@@ -63,10 +63,7 @@ module _ (limits : Limits) (t book : List ℕ) (count : ℕ) where
       answer = is ∙ ap (λ (v : List ℕ). rowMaps t v (limits .depth) 0 0) table
 
       all-few : (j : ℕ) → j < k + 1 → cardMerged limits book j ≡ Yes
-      all-few j b = elim (ℕ-discrete j k) [
-        | yes e ↦ ap (cardMerged limits book) e ∙ merged-decides limits (Card k) (card book k) .yes .1 few
-        | no u ↦ so .few j (omega (arith, u))
-      ]
+      all-few = yes-on (cardMerged limits book) k (merged-decides limits (Card k) (card book k) .yes .1 few) (so .few)
 
       -- the word with what the card adds
       added : (one : ℕ) → one ≡ pick (coversTable limits t book k) (2 ^ k) 0 → subsumers .word + one ≡ cardWord (coversTable limits t book) (k + 1)
@@ -96,12 +93,12 @@ module _ (limits : Limits) (t book : List ℕ) (count : ℕ) where
         test-covers cache₂ spans₂ at there = record { most = omega arith; few = all-few; word-is = more; cache-is = there }
 
     pub test-no : (r : Refusal) → cardMerged limits book k ≡ No r → Refused r ≡ Answer
-    test-no r stopped = sym (rw (no-from (cardMerged limits book) count 0 r (k, omega arith, omega arith, stopped, λ i a b. so .few i b)))
+    test-no r stopped = sym (rw (to-no (cardMerged limits book) count k r l stopped (so .few)))
 
   pub test-all : (cache spans : List ℕ) (subsumers : Subsumers) (k : ℕ) → SubsumersBelow limits t book count cache spans subsumers k → count ≤ k → Cards (subsumers .word) ≡ Answer
   test-all cache spans subsumers k so done =
       let end : k ≡ count = omega (arith, so .most) in
-      let all = all-from (cardMerged limits book) count 0 (λ j a b. so .few j (omega arith)) in
+      let all = to-yes (cardMerged limits book) count k done (so .few) in
       ap Cards (so .word-is ∙ ap (cardWord (coversTable limits t book)) end) ∙ sym (rw all)
 
 -- ---- the case
@@ -120,7 +117,7 @@ module _ (limits : Limits) (case book : List ℕ) (count : ℕ) where
       ap Cards
       (cardWord-same (coversTable limits (normalFile limits case) book) (caseCovered limits case book) count
       (λ k l. normal-maps limits case (card book k) bounded few
-      (merged-decides limits (Card k) (card book k) .yes .0 (from-all (cardMerged limits book) count 0 e k (omega arith) (omega arith)))))
+      (merged-decides limits (Card k) (card book k) .yes .0 (yes-to (cardMerged limits book) count e k l))))
   by-cards bounded few (No r) e = refl
 
   pub case-tested : Bounded limits → mergedCount limits case ≤ limits .rows → (t : List ℕ) → t ≡ normalFile limits case → (r : Selected) →

@@ -21,7 +21,7 @@ ghost use Prim.Native.Nat.{ℕ, _+_, _≤_, _<_};
 ghost use lib.ListN.{length, take};
 ghost use Rattle.table.specs.Bounds.{Bounded, pictureSize};
 ghost use Rattle.table.specs.Layout.{endSize, «place»};
-ghost use Rattle.table.specs.Links.{Zeros};
+ghost use Rattle.table_rows.specs.Links.{Zeros};
 ghost use Rattle.picture.specs.Readable.{Readable};
 ghost use Rattle.row_sets.specs.Rows.{Checked};
 ghost use Rattle.homomorphism_search.specs.Search.{LinkedTable, rowMaps};

@@ -2,7 +2,7 @@
 --   within-most                        at no limits are there more individuals
 --   count-whole                        the individuals that are counted stand whole in the file
 --   form-asks                          what the form of a refutation asks
---   form-individuals, form-length      16: the individuals that a refutation has; the end field follows them, and the file stops
+--   form-length                        the end field follows the individuals, and the file stops
 --   root-ok, later-ok                  21: of individual 0, and of a later one
 --   individual-parent                  a parent stands before its individual
 --   individual-role                    and its role is one of the format's
@@ -34,7 +34,7 @@ use Rattle.table.specs.NameSet.{has}
 use Rattle.table.specs.Number.{Bytes}
 use Rattle.table.specs.Range.{each}
 use Rattle.table.specs.declared.layout.Limits.{Limits}
-use Rattle.countermodel.specs.Individual.{Individuals, individualHead, individualNames, individualOk, individualParent, individualRole, individualTable, individuals, refutationForm}
+use Rattle.countermodel.specs.Individual.{individualHead, individualNames, individualOk, individualParent, individualRole, individualTable, individuals, refutationForm}
 use Rattle.countermodel.specs.Layout.{individualCount, individualPlace, individualsWithin, mostIndividuals, individualNamesOffset}
 
 -- ---- 16: the form
@@ -58,17 +58,6 @@ module _ (limits : Limits) (e : List ℕ) where
       let (b, s) = both few (ends && heads) r in
       let (c, d) = both ends heads s in
       (ltb-true 0 n a, leb-true n (individualsWithin limits) b, c, d)
-
-  pub form-individuals : Bounded limits → refutationForm limits e ≡ true → Individuals e (individualCount e)
-  form-individuals bound h =
-      let n = individualCount e in
-      let (a, b, _, _) = form-asks h in
-      record {
-        counted = refl;
-        some = a;
-        most = omega (arith, b, within-most limits bound);
-        whole = count-whole e;
-      }
 
   pub form-length : refutationForm limits e ≡ true → length e ≡ individualPlace (individualCount e) endSize
   form-length h = omega (arith, ends-parts e (individualPlace (individualCount e) 0) (form-asks h .2) .0)

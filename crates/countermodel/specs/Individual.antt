@@ -5,18 +5,13 @@
 --   individualOk         21 of one individual
 --   individualTable      the individuals as a table: each hangs from its parent by its role, and its names hold of it
 --   individuals          the finite interpretation: an individual is reached from its parent by its role, and no other pairs exist
---   HasIndividual        an individual's field stands whole in the file
---   Individuals          so many do, all that the file has
---   Refutation           they also pass 21, and `links` has those that each one reaches
-use Prim.Native.Nat.{ℕ, _<_, _≤_}
+use Prim.Native.Nat.{ℕ, _<_}
 use lib.Dec.{eqb, leb, ltb}
-use lib.ListN.{getD, length}
-use mathlib.Core.Bool.{Bool, _&&_, false, true}
+use lib.ListN.{getD}
+use mathlib.Core.Bool.{Bool, _&&_, false}
 use mathlib.Core.List.{List}
-use mathlib.Core.Path.{_≡_}
 use Rattle.table.specs.Fields.{endsAt}
 use Rattle.table.specs.Layout.{lengthOffset, nameBytes, numberSize, roles}
-use Rattle.table.specs.Links.{Linked}
 use Rattle.table.specs.Number.{be}
 use Rattle.table.specs.Pick.{pick}
 use Rattle.table.specs.Range.{each}
@@ -27,7 +22,7 @@ use Rattle.ale.specs.PictureSignature.{pictureSignature}
 use Rattle.ale.specs.Table.{Table}
 use Rattle.ale.specs.Tree.{exists}
 use Rattle.meaning.specs.Meaning.{setAt}
-use Rattle.countermodel.specs.Layout.{individualCount, individualLength, individualPlace, individualSize, individualTag, individualsWithin, mostIndividuals, individualNamesOffset, individualParentOffset, individualRoleOffset}
+use Rattle.countermodel.specs.Layout.{individualCount, individualLength, individualPlace, individualTag, individualsWithin, individualNamesOffset, individualParentOffset, individualRoleOffset}
 
 abbrev pub individualParent : List ℕ → ℕ → ℕ
 individualParent e k = be e (individualPlace k individualParentOffset) numberSize
@@ -65,19 +60,3 @@ individualTable e =
 
 abbrev pub individuals : (e : List ℕ) → 0 < individualCount e → Interpretation pictureSignature
 individuals e some = interpretationOf pictureSignature (individualTable e) some
-
--- ---- what the code needs
-
-abbrev pub HasIndividual : List ℕ → ℕ → Type 0
-HasIndividual e k = (k < mostIndividuals) × (individualPlace k individualSize ≤ length e)
-
-pub record Individuals (e : List ℕ) (n : ℕ) : Type 0 where
-  pub counted : n ≡ individualCount e
-  pub some : 0 < n
-  pub most : n ≤ mostIndividuals
-  pub whole : individualPlace n 0 ≤ length e
-
-pub record Refutation (e : List ℕ) (n : ℕ) (links : List ℕ) : Type 0 where
-  pub all : Individuals e n
-  pub passed : each (individualOk e) n 0 ≡ true
-  pub linked : Linked (individualParent e) n mostIndividuals links

@@ -17,7 +17,8 @@ use Rattle.ale.proofs.TreeStructure.{treeStructure}
 use Rattle.ale.specs.Interpretation.{structureOf}
 use Rattle.ale.specs.ModelCheck.{fitsTest}
 use Rattle.ale.specs.PictureSignature.{pictureSignature}
-use Rattle.ale.specs.Structure.{Fits, SubsumedInAll}
+use Rattle.ale.specs.Structure.{Fits}
+use Rattle.ale.specs.Theory.{SubsumedInAll}
 use Rattle.ale.specs.Table.{ParentsFirst}
 use Rattle.ale.specs.Tree.{Tree}
 use Rattle.countermodel.specs.Individual.{individualOk, individualTable, individuals}

@@ -16,7 +16,7 @@ ghost use Prim.Native.Nat.{ℕ};
 ghost use Rattle.table.specs.Bounds.{Bounded};
 ghost use Rattle.meaning.specs.Meaning.{pictureTable};
 ghost use Rattle.row_sets.specs.Rows.{Checked};
-ghost use Rattle.countermodel.specs.Individual.{Individuals};
+ghost use Rattle.refutation_reader.specs.Individuals.{Individuals};
 ghost use Rattle.countermodel.specs.Model.{rowTree};
 ghost use Rattle.picture.specs.Asked.{onAsked};
 ghost use Rattle.evidence.specs.Check.{refutationAsked};

@@ -18,9 +18,10 @@ use mathlib.Core.Logic.{_⊎_, inl, inr}
 use mathlib.Core.Path.{_∙_, _≡_, ap, refl, sym}
 use native.Mathlib.Omega.{arith}
 use Rattle.table.proofs.Bools.{by-test}
-use Rattle.table.specs.Fields.{HasRow, impossibleOf, kindOf, parentOf, roleOf}
+use Rattle.table.specs.Fields.{impossibleOf, kindOf, parentOf, roleOf}
+use Rattle.table_rows.specs.Rows.{HasRow}
 use Rattle.table.specs.Layout.{kindExists, kindForAll}
-use Rattle.ale.proofs.LinkLists.{childOf}
+use Rattle.row_sets.proofs.LinkLists.{childOf}
 use Rattle.ale.proofs.RowLists.{filterBelow-out, member-head, member-tail}
 use Rattle.ale.proofs.TableLaws.{successor-nonzero}
 use Rattle.ale.specs.Homomorphism.{edgeServes, mapsAllTo, mapsTo, roleServes}

@@ -33,7 +33,7 @@ use native.Mathlib.Omega.{arith}
 use Rattle.table.proofs.Bools.{by-test}
 use Rattle.table.specs.Bounds.{maxRows}
 use Rattle.table.specs.Fields.{impossibleOf, parentOf}
-use Rattle.ale.proofs.LinkLists.{OnChain}
+use Rattle.row_sets.proofs.LinkLists.{OnChain}
 use Rattle.row_sets.specs.Rows.{Checked}
 use Rattle.homomorphism_search.proofs.Walks.{WalkAt, walk-end, walk-found, walk-next, walk-start}
 use Rattle.homomorphism_search.proofs.Searches.{image-none, image-some, lowest-along, noImage, takes, takes-not, takes-other, unserved-along}

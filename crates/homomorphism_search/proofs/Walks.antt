@@ -16,12 +16,12 @@ use mathlib.Core.List.{List, [], _∷_}
 use mathlib.Core.Path.{_∙_, _≡_, ap, refl, sym}
 use native.Mathlib.Omega.{arith}
 use Rattle.table.proofs.Bools.{by-test}
-use Rattle.table.proofs.Links as rising
+use Rattle.table_rows.proofs.Links as rising
 use Rattle.table.specs.Bounds.{maxRows}
 use Rattle.table.specs.Fields.{parentOf}
-use Rattle.table.specs.Links.{Linked}
+use Rattle.table_rows.specs.Links.{Linked}
 use Rattle.table.specs.Pick.{pick}
-use Rattle.ale.proofs.LinkLists.{OnChain, ahead, chain-first, chain-next, chain-on-first, chain-on-next, chain-rises, childOf}
+use Rattle.row_sets.proofs.LinkLists.{OnChain, ahead, chain-first, chain-next, chain-on-first, chain-on-next, chain-rises, childOf}
 use Rattle.ale.specs.PictureSignature.{pictureSignature}
 use Rattle.ale.specs.Rows.{filterBelow, filterFrom, firstFrom}
 use Rattle.ale.specs.Table.{ParentsFirst, successorRows}

@@ -29,7 +29,7 @@ use mathlib.Core.List.{List, [], _∷_}
 use mathlib.Core.Path.{_≡_}
 use Rattle.table.specs.Bounds.{maxRows}
 use Rattle.table.specs.Fields.{impossibleOf, parentOf}
-use Rattle.table.specs.Links.{Linked}
+use Rattle.table_rows.specs.Links.{Linked}
 use Rattle.table.specs.Pick.{pick}
 use Rattle.ale.proofs.Depths.{Ranked}
 use Rattle.ale.specs.Homomorphism.{edgeServes, labelWithin, mapsTo, roleServes}

@@ -6,7 +6,7 @@ use table_rows::row::wanted;
 ghost use mathlib.Core.List.{List};
 ghost use mathlib.Core.Path.{_≡_};
 ghost use Prim.Native.Nat.{ℕ};
-ghost use Rattle.table.specs.Fields.{HasRow};
+ghost use Rattle.table_rows.specs.Rows.{HasRow};
 ghost use Rattle.homomorphism_search.specs.Search.{RowLabel, labelCarried};
 
 // The label of row w.

@@ -25,7 +25,7 @@ use Rattle.ale.proofs.RoleLaws.{treeOf-rolesKnown}
 use Rattle.ale.specs.Concept.{Concept, Over, conceptOf}
 use Rattle.ale.specs.Encoding.{encode}
 use Rattle.ale.specs.Interpretation.{Subsumed}
-use Rattle.ale.specs.NormalForm.{Reduced}
+use Rattle.ale.specs.Theory.{Reduced}
 use Rattle.ale.specs.PictureSignature.{pictureSignature}
 use Rattle.ale.specs.Tree.{RolesKnown, Tree, exists, height}
 use Rattle.meaning.proofs.EncodedFiles.{encoded-bytes, encoded-meaning, encoded-reads}

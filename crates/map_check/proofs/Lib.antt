@@ -1,3 +1,2 @@
 -- The laws of 17 to 20 as the code asks them.
-pub mod Turns
 pub mod MapLaws

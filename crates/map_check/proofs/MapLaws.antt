@@ -34,7 +34,7 @@ use Rattle.table.proofs.Rows.{ends-parts}
 use Rattle.table.specs.Fields.{endsAt, impossibleOf, parentOf}
 use Rattle.table.specs.Layout.{numberSize}
 use Rattle.table.specs.Pick.{pick}
-use Rattle.map_check.proofs.Turns.{YesTo}
+use Rattle.picture.proofs.Orders.{YesTo}
 
 pub image-whole : (e : List ℕ) (m i : ℕ) → mapForm m e ≡ true → i < m → imagePlace i + numberSize ≤ length e
 unfolding mapForm

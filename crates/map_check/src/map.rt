@@ -10,7 +10,7 @@ use table_rows::row::parent;
 ghost use mathlib.Core.Path.{_≡_};
 ghost use mathlib.Core.Bool.{true};
 ghost use Prim.Native.Nat.{ℕ, _<_};
-ghost use Rattle.table.specs.Fields.{HasRow};
+ghost use Rattle.table_rows.specs.Rows.{HasRow};
 ghost use Rattle.ale.specs.PictureSignature.{pictureSignature};
 ghost use Rattle.ale.specs.RowMap.{edgeAgrees, edgeJoins, labelAgrees};
 ghost use Rattle.meaning.specs.Meaning.{pictureTable};

@@ -22,9 +22,8 @@ use Rattle.ale.proofs.Subsumption.{normal-tree, normalTree-normal, tree-normal}
 use Rattle.ale.specs.Encoding.{encode, encoded}
 use Rattle.ale.specs.Interpretation.{Equivalent}
 use Rattle.ale.specs.Merged.{merged}
-use Rattle.ale.specs.NormalForm.{Normal}
+use Rattle.ale.specs.Theory.{Normal, SubsumedInAll}
 use Rattle.ale.specs.PictureSignature.{pictureSignature}
-use Rattle.ale.specs.Structure.{SubsumedInAll}
 use Rattle.ale.specs.Table.{tree}
 use Rattle.ale.specs.Tree.{RolesKnown, exists, height, size}
 use Rattle.picture.specs.Read.{readingOf}

@@ -20,7 +20,7 @@ use mathlib.Core.Bool.{Bool, Bool·beq, _&&_, _||_, and-false, false, not, true}
 use mathlib.Core.List.{List}
 use mathlib.Core.Path.{_∙_, _≡_, ap, ap₂, refl, sym}
 use native.Mathlib.Omega.{arith}
-use Rattle.ale.proofs.LinkLists.{OnChain, ahead, chain-first, chain-next, chain-on-first, chain-on-next, childOf}
+use Rattle.row_sets.proofs.LinkLists.{OnChain, ahead, chain-first, chain-next, chain-on-first, chain-on-next, childOf}
 use Rattle.ale.proofs.WholeTrees.{whole-step}
 use Rattle.ale.specs.ModelCheck.{fitsAllTest, fitsTest, reachedTest, restrictionTest}
 use Rattle.ale.specs.PictureSignature.{pictureSignature}
@@ -33,11 +33,12 @@ use Rattle.row_sets.specs.Rows.{Checked}
 use Rattle.table.specs.Bounds.{maxRows}
 use Rattle.table.specs.Fields.{kindOf, parentOf, roleOf}
 use Rattle.table.specs.Layout.{kindForAll}
-use Rattle.table.specs.Links.{Linked}
+use Rattle.table_rows.specs.Links.{Linked}
 use Rattle.table.specs.Pick.{pick}
 use Rattle.homomorphism_search.proofs.Walks.{checked-parents}
 use Rattle.homomorphism_search.proofs.Walks.{chain-less}
-use Rattle.countermodel.specs.Individual.{HasIndividual, Refutation, individualParent, individualRole, individualTable}
+use Rattle.countermodel.specs.Individual.{individualParent, individualRole, individualTable}
+use Rattle.refutation_reader.specs.Individuals.{HasIndividual, Refutation}
 use Rattle.countermodel.specs.Layout.{mostIndividuals}
 use Rattle.countermodel.specs.Model.{modelTree, rowTree}
 use Rattle.model_check.specs.ModelRows.{belowFits, fitsRow, reachedFits, reachedForest, satisfiesRow}

@@ -18,10 +18,10 @@ ghost use mathlib.Core.Path.{_≡_};
 ghost use Prim.Native.Nat.{ℕ, _<_};
 ghost use Rattle.table.specs.Bounds.{maxRows};
 ghost use Rattle.table.specs.Fields.{parentOf};
-ghost use Rattle.table.specs.Links.{Linked};
+ghost use Rattle.table_rows.specs.Links.{Linked};
 ghost use Rattle.row_sets.specs.Rows.{Checked};
 ghost use Rattle.homomorphism_search.specs.Search.{RowLabel};
-ghost use Rattle.countermodel.specs.Individual.{HasIndividual, Refutation};
+ghost use Rattle.refutation_reader.specs.Individuals.{HasIndividual, Refutation};
 ghost use Rattle.model_check.specs.ModelRows.{belowFits, fitsRow, reachedFits, satisfiesRow};
 
 // A number of the links, with its range.

@@ -17,7 +17,7 @@ use mathlib.Core.Path.{_∙_, _≡_, ap, refl, subst, sym}
 use native.Mathlib.Decide.{ℕ-discrete}
 use native.Mathlib.Omega.{arith}
 use Rattle.picture.specs.Refusal.{shortBuffer}
-use Rattle.picture.proofs.Orders.{all-from, and-yes, from-all, given, no-from, read-decides, refused-by, refused-no, rows-yes}
+use Rattle.picture.proofs.Orders.{YesTo, and-yes, given, read-decides, refused-by, refused-no, rows-yes, to-no, to-yes, yes-on, yes-to}
 use Rattle.picture.specs.Asked.{andThen, askedFrom, kept}
 use Rattle.picture.specs.Read.{answerOf}
 use Rattle.picture.specs.Readable.{Readable}
@@ -51,7 +51,7 @@ use Rattle.book.proofs.CardWords.{has-cardWord, word-is}
 module _ (limits : Limits) (book : List ℕ) (count : ℕ) where
   pub record ReadTo (k : ℕ) : Type 0 where
     pub most : k ≤ count
-    pub passed : (j : ℕ) → j < k → cardRead limits book j ≡ Yes
+    pub passed : YesTo (cardRead limits book) k
 
   pub read-start : ReadTo 0
   read-start = record { most = omega arith; passed = λ j l. absurd (omega arith) }
@@ -61,19 +61,15 @@ module _ (limits : Limits) (book : List ℕ) (count : ℕ) where
     read-next n rows =
         record {
           most = omega arith;
-          passed = λ j b. elim (ℕ-discrete j k) [
-            | yes e ↦ ap (cardRead limits book) e ∙ rows-yes limits (Card k) (card book k) n (sym is ∙ rows)
-            | no u ↦ so .passed j (omega (arith, u))
-          ];
+          passed = yes-on (cardRead limits book) k (rows-yes limits (Card k) (card book k) n (sym is ∙ rows)) (so .passed);
         }
 
     pub read-refused : (r : Refusal) → a ≡ answer.Refused r → No r ≡ askedFrom (cardRead limits book) count 0
     read-refused r refused =
-        sym (no-from (cardRead limits book) count 0 r
-        (k, omega arith, omega arith, refused-no limits (Card k) (card book k) r (sym is ∙ refused), λ i b e. so .passed i e))
+        sym (to-no (cardRead limits book) count k r l (refused-no limits (Card k) (card book k) r (sym is ∙ refused)) (so .passed))
 
   pub read-all : (k : ℕ) → ReadTo k → count ≤ k → Yes ≡ askedFrom (cardRead limits book) count 0
-  read-all k so done = sym (all-from (cardRead limits book) count 0 (λ j b e. so .passed j (omega arith)))
+  read-all k so done = sym (to-yes (cardRead limits book) count k done (so .passed))
 
 -- ---- what is selected
 
@@ -152,7 +148,7 @@ module _ (limits : Limits) (case book : List ℕ) (count : ℕ) (counted : count
             cards-read = cards;
             few = λ k l.
                 let cards-merged = and-yes (mergedAsked limits First case) (askedFrom (cardMerged limits book) count 0) .0 (parts .0) .1 in
-                merged-decides limits (Card k) (card book k) .yes .0 (from-all (cardMerged limits book) count 0 cards-merged k (omega arith) (omega arith));
+                merged-decides limits (Card k) (card book k) .yes .0 (yes-to (cardMerged limits book) count cards-merged k l);
           }
 
 -- ---- 24, and 2 to 13 of the cards
@@ -176,7 +172,7 @@ module _ (limits : Limits) (case book : List ℕ) where
         record {
           places-are = placed;
           counted = counted;
-          readable = λ k l. read-decides limits (Card k) (card book k) .yes .0 (from-all (cardRead limits book) count 0 (sym is ∙ e) k (omega arith) (omega arith));
+          readable = λ k l. read-decides limits (Card k) (card book k) .yes .0 (yes-to (cardRead limits book) count (sym is ∙ e) k l);
         }
 
 -- ---- the call by its tests

@@ -17,7 +17,8 @@ use mathlib.Core.Path.{_≡_}
 use Rattle.table.specs.Bounds.{maxRows}
 use Rattle.table.specs.Fields.{rowOf}
 use Rattle.table.specs.Layout.{kindForAll, «place»}
-use Rattle.table.specs.NameSet.{none, overlap, setOf}
+use Rattle.table.specs.NameSet.{none}
+use Rattle.table.specs.Leaves.{overlap, setOf}
 use Rattle.table.specs.Pick.{pick}
 use Rattle.table.specs.Put.{put}
 use Rattle.ale.specs.Encoding.{encodeForest}

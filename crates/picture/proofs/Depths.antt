@@ -1,13 +1,8 @@
 -- Laws of the depth of a row.
-use mathlib.Core.Logic.{⊎-elim}
-use mathlib.Core.Path.{_≡_, refl, ap, sym, subst, _∙_}
-use mathlib.Core.List.{List}
+use mathlib.Core.Path.{_≡_, refl, ap, _∙_}
 use Prim.Native.Nat.{ℕ, zero, suc, _+_, _≤_, _<_}
-use native.Mathlib.Nat.{eq-or-lt-of-le}
 use native.Mathlib.Omega.{arith}
-use lib.ListN.{getD}
-use Rattle.table.specs.Fields.{parentOf}
-use Rattle.picture.specs.Depth.{depthIn, depth, Known}
+use Rattle.picture.specs.Depth.{depthIn, depth}
 
 -- rows up to n stand after their parents
 abbrev pub Ordered : (ℕ → ℕ) → ℕ → Type 0
@@ -50,13 +45,3 @@ steps-same p q (suc steps) (suc n) same o =
 pub depth-same : (p q : ℕ → ℕ) (n : ℕ) → ((k : ℕ) → k ≤ n → p k ≡ q k) → Ordered p n → depth p n ≡ depth q n
 unfolding depth
 depth-same p q n same o = steps-same p q n n same o
-
--- the rows before n are in order, and so is row n
-ordered-next : (s depths : List ℕ) (n : ℕ) → Known s n depths → parentOf s n < n → Ordered (parentOf s) n
-ordered-next s depths n known below k i j =
-    ⊎-elim (λ e. subst (λ (m : ℕ). parentOf s m < m) (sym e) below) (λ l. known .ordered k i l) (eq-or-lt-of-le {n = k} {m = n} j)
-
--- the depth of row n from the table of depths
-pub depth-known : (s depths : List ℕ) (n : ℕ) → Known s n depths → parentOf s n < n → depth (parentOf s) n ≡ getD depths (parentOf s n) 0 + 1
-depth-known s depths n known below =
-    depth-under (parentOf s) n (omega arith) (ordered-next s depths n known below) ∙ ap (λ (k : ℕ). k + 1) (sym (known .depths-hold (parentOf s n) below))

@@ -5,7 +5,8 @@
 --   asked-decides, test-decides   a question by its test; by a number that has a limit
 --   and-decides, and-yes          a question and those after it: the first no is its own, or it is a yes and theirs comes
 --   from-decides, from-yes        one question of each thing in turn; its first half;
---   all-from, from-all, no-from   by the answers alone
+--   YesTo, yes-on, to-yes,
+--   yes-to, to-no                 as a loop asks
 --   read-decides, unreadable-no   2 to 13 of a picture;
 --   rows-yes, refused-no          by the answer of reading it
 --   on-yes, on-no                 the answer where all is yes; where r is the first no
@@ -136,20 +137,32 @@ pub from-yes : (ask : ℕ → Asked) (Y : ℕ → Type 0) → ((j : ℕ) → (as
 from-yes ask Y d more k =
     from-decides ask Y (λ j r. ask j ≡ No r) more k (λ j a b. record { yes = d j; no = λ r. (λ e. e, λ e. e) }) .yes
 
--- the same by the answers alone: all are yes; j's is the first no
-module _ (ask : ℕ → Asked) (more k : ℕ) where
-  abbrev Said : ℕ → Type 0
-  Said j = ask j ≡ Yes
+-- as a loop asks: it is answered yes of the things before number i, and so of one more; then of all, or i's is the first no
+module _ (ask : ℕ → Asked) where
+  abbrev pub YesTo : ℕ → Type 0
+  YesTo i = (k : ℕ) → k < i → ask k ≡ Yes
 
-  pub all-from : AllFrom Said more k → askedFrom ask more k ≡ Yes
-  all-from = from-yes ask Said (λ j. (λ e. e, λ e. e)) more k .1
+  pub yes-on : (i : ℕ) → ask i ≡ Yes → YesTo i → YesTo (i + 1)
+  yes-on i here before k l =
+      ⊎-elim (λ (x : k ≡ i). rw x here) (λ (x : k < i). before k x) (eq-or-lt-of-le (omega arith))
 
-  pub from-all : askedFrom ask more k ≡ Yes → AllFrom Said more k
-  from-all = from-yes ask Said (λ j. (λ e. e, λ e. e)) more k .0
+  module _ (m : ℕ) where
+    abbrev Said : ℕ → Type 0
+    Said j = ask j ≡ Yes
 
-  pub no-from : (r : Refusal) → FirstFrom Said (λ j q. ask j ≡ No q) more k r → askedFrom ask more k ≡ No r
-  no-from r =
-      from-decides ask Said (λ j q. ask j ≡ No q) more k (λ j a b. record { yes = (λ e. e, λ e. e); no = λ q. (λ e. e, λ e. e) }) .no r .1
+    decided : Decides (askedFrom ask m 0) (AllFrom Said m 0) (FirstFrom Said (λ j r. ask j ≡ No r) m 0)
+    decided =
+        from-decides ask Said (λ j r. ask j ≡ No r) m 0
+        (λ j a b. record { yes = (λ e. e, λ e. e); no = λ r. (λ e. e, λ e. e) })
+
+    pub to-yes : (i : ℕ) → m ≤ i → YesTo i → askedFrom ask m 0 ≡ Yes
+    to-yes i l before = decided .yes .1 (λ k a b. before k (omega arith))
+
+    pub yes-to : askedFrom ask m 0 ≡ Yes → YesTo m
+    yes-to all k l = decided .yes .0 all k (omega arith) (omega arith)
+
+    pub to-no : (i : ℕ) (r : Refusal) → i < m → ask i ≡ No r → YesTo i → askedFrom ask m 0 ≡ No r
+    to-no i r l here before = decided .no r .1 (i, omega arith, omega arith, here, λ k a b. before k b)
 
 -- ---- 2 to 13 of a picture
 

@@ -21,9 +21,9 @@ use Prim.Native.Nat.{ℕ, zero, suc, _+_, _≤_, _<_}
 use native.Mathlib.Nat.{eq-or-lt-of-le}
 use native.Mathlib.Omega.{arith}
 use lib.ListN.{length}
-use Rattle.table.specs.Layout.{«place», endSize, kindRoot, kindExists, kindForAll, roles}
-use Rattle.table.specs.Bounds.{Bounded, pictureSize}
-use Rattle.table.specs.Fields.{parentOf, kindOf, roleOf, impossibleOf, HasRow}
+use Rattle.table.specs.Layout.{«place», endSize, rowSize, kindRoot, kindExists, kindForAll, roles}
+use Rattle.table.specs.Bounds.{Bounded, maxRows, pictureSize}
+use Rattle.table.specs.Fields.{parentOf, kindOf, roleOf, impossibleOf}
 use Rattle.table.specs.declared.layout.Limits.{Limits}
 use Rattle.picture.specs.declared.answer.Input.{Input}
 use Rattle.picture.specs.declared.answer.Answer.the-variants as answer
@@ -160,7 +160,7 @@ module _ (limits : Limits) (s : List ℕ) (readable : Readable limits s) where
   pub readable-row : (k : ℕ) → k < rowCount s → RowOk limits s k
   readable-row k h = formed .rows k (rw readable-count at h)
 
-  pub readable-has : Bounded limits → (k : ℕ) → k < rowCount s → HasRow s k
+  pub readable-has : Bounded limits → (k : ℕ) → k < rowCount s → (k < maxRows) × (place k rowSize ≤ length s)
   readable-has b k h = let r = readable-row k h in (omega (arith, r .few, b .0), r .whole)
 
   pub readable-root : kindOf s 0 ≡ kindRoot

@@ -15,8 +15,10 @@ use table_rows::row::parent;
 use table_rows::row::role;
 ghost use mathlib.Core.Path.{_≡_};
 ghost use mathlib.Core.Bool.{true};
-ghost use Rattle.table.specs.Fields.{parentOf, kindOf, roleOf, impossibleOf, HasRow};
-ghost use Rattle.picture.specs.Depth.{depth, Known};
+ghost use Rattle.table.specs.Fields.{parentOf, kindOf, roleOf, impossibleOf};
+ghost use Rattle.table_rows.specs.Rows.{HasRow};
+ghost use Rattle.picture.specs.Depth.{depth};
+ghost use Rattle.picture_questions.specs.Depths.{Known};
 ghost use Rattle.picture.specs.Questions.{tagOk, lengthFor, kindOk, roleOk, parentOk, impossibleOk};
 
 // 3

@@ -19,8 +19,8 @@ use table_rows::row::tag;
 ghost use mathlib.Core.Path.{_≡_};
 ghost use Prim.Native.Nat.{_≤_};
 ghost use Rattle.table.specs.Bounds.{maxRows, Bounded};
-ghost use Rattle.table.specs.Fields.{HasRow};
-ghost use Rattle.picture.specs.Depth.{Known};
+ghost use Rattle.table_rows.specs.Rows.{HasRow};
+ghost use Rattle.picture_questions.specs.Depths.{Known};
 ghost use Rattle.picture.specs.Questions.{valueField, rowField, endField, fieldAt};
 
 // Questions 9 to 13.

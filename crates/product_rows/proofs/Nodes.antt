@@ -19,7 +19,8 @@ use Rattle.table.proofs.Puts.{length-put}
 use Rattle.table.proofs.Rows.{length-rowOf}
 use Rattle.table.specs.Fields.{rowOf}
 use Rattle.table.specs.Layout.{kindForAll, kindRoot, «place», rowSize}
-use Rattle.table.specs.NameSet.{intersection, setOf}
+use Rattle.table.specs.NameSet.{intersection}
+use Rattle.table.specs.Leaves.{setOf}
 use Rattle.table.specs.Pick.{pick}
 use Rattle.table_rows.specs.declared.builder.Builder.{Builder}
 use Rattle.ale.specs.Encoding.{Row, encodeForest}

@@ -24,7 +24,7 @@ use Rattle.table.proofs.Bools.{by-test, is-false}
 use Rattle.table.specs.Bounds.{maxRows}
 use Rattle.table.specs.Fields.{parentOf}
 use Rattle.table.specs.Pick.{pick}
-use Rattle.ale.proofs.LinkLists.{ahead, chain-next, chain-on-first, chain-on-next}
+use Rattle.row_sets.proofs.LinkLists.{ahead, chain-next, chain-on-first, chain-on-next}
 use Rattle.ale.proofs.PairWalks.{KeysFrom, edgeKey, keys-lower, ordered-keys, pairWalk, picture-equal, walk-skip}
 use Rattle.ale.specs.Forest.{dropped}
 use Rattle.ale.specs.PictureSignature.{pictureSignature}

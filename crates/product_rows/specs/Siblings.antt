@@ -12,9 +12,9 @@ use lib.Dec.{leb}
 use mathlib.Core.List.{List, [], _∷_}
 use Rattle.table.specs.Fields.{kindOf, parentOf, roleOf}
 use Rattle.table.specs.Pick.{pick}
-use Rattle.ale.proofs.LinkLists.{ahead}
+use Rattle.row_sets.proofs.LinkLists.{ahead}
 use Rattle.ale.proofs.PairWalks.{edgeKey}
-use Rattle.ale.specs.NormalForm.{Ordered, OrderedAll, Reduced, ReducedAll}
+use Rattle.ale.specs.Theory.{Ordered, OrderedAll, Reduced, ReducedAll}
 use Rattle.ale.specs.PictureSignature.{pictureSignature}
 use Rattle.ale.specs.Table.{successors}
 use Rattle.ale.specs.Tree.{Forest, Kind, RolesKnown, RolesKnownAll, Tree}

@@ -7,7 +7,7 @@ use table_rows::row::kind;
 use table_rows::row::role;
 ghost use mathlib.Core.Path.{_≡_};
 ghost use Prim.Native.Nat.{ℕ, _<_};
-ghost use Rattle.table.specs.Fields.{HasRow};
+ghost use Rattle.table_rows.specs.Rows.{HasRow};
 ghost use Rattle.homomorphism_search.specs.Search.{LinkedTable};
 ghost use Rattle.product_rows.specs.Siblings.{dropLower, keyAt, siblings};
 

@@ -15,7 +15,8 @@ use mathlib.Core.List.{List}
 use mathlib.Core.Logic.{⊎-elim}
 use mathlib.Core.Path.{_∙_, _≡_, ap, refl, subst, sym}
 use Rattle.table.proofs.Bools.{either}
-use Rattle.table.specs.NameSet.{intersection, setOf}
+use Rattle.table.specs.NameSet.{intersection}
+use Rattle.table.specs.Leaves.{setOf}
 use Rattle.table.specs.Pick.{pick}
 use Rattle.table_rows.specs.declared.builder.Builder.{Builder}
 use Rattle.ale.proofs.PairWalks.{pairForest-walk, pairWalk, picture-equal}

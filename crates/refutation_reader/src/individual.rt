@@ -17,10 +17,11 @@ ghost use mathlib.Core.Path.{_≡_};
 ghost use Prim.Native.Nat.{ℕ, _^_, _≤_, _<_};
 ghost use Rattle.table.specs.Bounds.{Bounded};
 ghost use Rattle.table.specs.Layout.{numberSize, nameCount};
-ghost use Rattle.table.specs.NameSet.{setOf};
+ghost use Rattle.table.specs.Leaves.{setOf};
 ghost use Rattle.table.specs.Range.{each};
 ghost use Rattle.countermodel.specs.Layout.{individualCount};
-ghost use Rattle.countermodel.specs.Individual.{HasIndividual, Individuals, individualHead, individualNames, individualOk, individualParent, individualRole, refutationForm};
+ghost use Rattle.countermodel.specs.Individual.{individualHead, individualNames, individualOk, individualParent, individualRole, refutationForm};
+ghost use Rattle.refutation_reader.specs.Individuals.{HasIndividual, Individuals};
 
 pub fn count(e: &[u8]) -> usize
     ensures { λ r. ⌜ r ≡ individualCount (now (e .entry)) ⌝ }

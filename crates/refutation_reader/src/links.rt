@@ -4,10 +4,11 @@ use crate::layout::MAX_INDIVIDUALS;
 ghost use mathlib.Core.Path.{_≡_};
 ghost use mathlib.Core.Bool.{true};
 ghost use Prim.Native.Nat.{ℕ, _+_};
-ghost use Rattle.table.specs.Links.{Linked, Zeros};
+ghost use Rattle.table_rows.specs.Links.{Linked, Zeros};
 ghost use Rattle.table.specs.Range.{each};
 ghost use Rattle.countermodel.specs.Layout.{mostIndividuals};
-ghost use Rattle.countermodel.specs.Individual.{Individuals, individualOk, individualParent};
+ghost use Rattle.countermodel.specs.Individual.{individualOk, individualParent};
+ghost use Rattle.refutation_reader.specs.Individuals.{Individuals};
 
 // For each individual the lowest that is reached from it, and the next that is reached from the same one.
 pub const INDIVIDUAL_LINKS: usize = 2 * MAX_INDIVIDUALS;

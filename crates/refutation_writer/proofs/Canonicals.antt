@@ -31,9 +31,10 @@ use Rattle.table.specs.Layout.{kindExists}
 use Rattle.table.specs.Put.{put}
 use Rattle.countermodel.specs.Layout.{individualPlace, individualSize, mostIndividuals}
 use Rattle.refutation_writer.specs.Refuting.{canonicalBelow, canonicalTree, reachedAll, reachedTree}
-use Rattle.countermodel.specs.Writing.{Room, Written, individualBytes}
+use Rattle.countermodel.specs.Writing.{individualBytes}
+use Rattle.refutation_writer.specs.Writing.{Room, Written}
 use Rattle.refutation_writer.proofs.Walks.{Split, WalkAt, walk-end, walk-next, walk-room, walk-start}
-use Rattle.countermodel.proofs.Writings.{room-here, room-node, room-same, written-node, written-none, written-same}
+use Rattle.refutation_writer.proofs.Writings.{room-here, room-node, room-same, written-node, written-none, written-same}
 
 unfoldable pub canonicalRows : List ℕ → ℕ → List ℕ → Forest pictureSignature
 canonicalRows s depth vs = canonicalAll pictureSignature (successors pictureSignature (pictureTable s) (treeAt s depth) vs)

@@ -4,3 +4,4 @@ pub mod Canonicals
 pub mod Refutings
 pub mod Misses
 pub mod RefutingTurns
+pub mod Writings

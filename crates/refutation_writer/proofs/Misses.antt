@@ -15,7 +15,7 @@ use mathlib.Core.List.{List, [], _∷_}
 use mathlib.Core.Logic.{_⊎_, inl, inr, ⊎-elim}
 use mathlib.Core.Path.{_∙_, _≡_, refl, subst, sym}
 use native.Mathlib.Omega.{arith}
-use Rattle.ale.proofs.LinkLists.{OnChain}
+use Rattle.row_sets.proofs.LinkLists.{OnChain}
 use Rattle.ale.proofs.RowLists.{filterBelow-out, member-head, member-tail}
 use Rattle.ale.proofs.TableLaws.{successor-nonzero, successor-parent}
 use Rattle.ale.proofs.Tests.{chosen}

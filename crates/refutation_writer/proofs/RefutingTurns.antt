@@ -21,7 +21,7 @@ use mathlib.Core.Logic.{_⊎_, inl, inr}
 use mathlib.Core.Path.{_∙_, _≡_, ap, refl, subst, sym}
 use native.Mathlib.Omega.{arith}
 use Rattle.ale.proofs.Encodings.{encodeTree-length}
-use Rattle.ale.proofs.LinkLists.{OnChain, ahead, chain-next, chain-on-first, chain-on-next}
+use Rattle.row_sets.proofs.LinkLists.{OnChain, ahead, chain-next, chain-on-first, chain-on-next}
 use Rattle.ale.specs.Countermodel.{individual}
 use Rattle.ale.specs.Encoding.{encode}
 use Rattle.ale.specs.PictureSignature.{NameSet, pictureSignature}
@@ -40,11 +40,13 @@ use Rattle.table.specs.Pick.{pick}
 use Rattle.table.specs.Put.{put}
 use Rattle.countermodel.specs.Layout.{individualPlace, individualSize, mostIndividuals}
 use Rattle.refutation_writer.specs.Refuting.{againstTop, againstTree, canonicalBelow, falsifiedBelow, firstValue, reachedAll, reachedTree, realizedBelow, realizedRows, valueRow, wantedWithin}
-use Rattle.countermodel.specs.Writing.{RefutationRoom, Room, Written, individualBytes, individualsOf, refutationFile}
+use Rattle.countermodel.specs.Writing.{individualBytes, individualsOf, refutationFile}
+use Rattle.refutation_writer.specs.Writing.{RefutationRoom, Room, Written}
 use Rattle.homomorphism_search.proofs.Walks.{chain-less, successors-ahead}
 use Rattle.refutation_writer.proofs.Refutings.{against-below, against-holds, against-lacks, realized-split, top-below, top-holds, top-lacks, topBelow}
 use Rattle.refutation_writer.proofs.Walks.{WalkAt, walk-end, walk-start}
-use Rattle.countermodel.proofs.Writings.{length-individuals, room-here, room-left, room-node, room-right, room-same, written-append, written-node, written-none, written-same}
+use Rattle.countermodel.proofs.Writings.{length-individuals}
+use Rattle.refutation_writer.proofs.Writings.{room-here, room-left, room-node, room-right, room-same, written-append, written-node, written-none, written-same}
 
 -- ---- the same individuals
 

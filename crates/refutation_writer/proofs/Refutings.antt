@@ -23,12 +23,11 @@ use mathlib.Core.Bool.{Bool, and-false, and-true, false, not, true}
 use mathlib.Core.List.{List, [], _∷_}
 use mathlib.Core.Logic.{⊎-elim}
 use mathlib.Core.Path.{_∙_, _≡_, ap, ap₂, refl, sym}
-use Rattle.ale.proofs.LinkLists.{OnChain, ahead, chain-next, chain-on-first}
+use Rattle.row_sets.proofs.LinkLists.{OnChain, ahead, chain-next, chain-on-first}
 use Rattle.ale.proofs.RowLists.{filterBelow-out, member-head, member-tail}
 use Rattle.ale.proofs.TableLaws.{successor-nonzero, treeOf-node}
-use Rattle.ale.specs.Countermodel.{canonical, canonicalAll, countermodel, falsify, falsifyAll, individual, realize}
+use Rattle.ale.specs.Countermodel.{canonical, canonicalAll, countermodel, falsify, falsifyAll, individual, realize, valueOf}
 use Rattle.ale.specs.Forest.{append}
-use Rattle.ale.specs.NormalForm.{valueOf}
 use Rattle.ale.specs.PictureSignature.{pictureSignature}
 use Rattle.ale.specs.Rows.{member}
 use Rattle.ale.specs.Table.{successorOf, successorRows, successors}

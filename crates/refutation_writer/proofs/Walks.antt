@@ -13,7 +13,7 @@ use mathlib.Core.List.{List, [], _++_, _∷_}
 use mathlib.Core.Path.{_∙_, _≡_, ap, refl, sym}
 use Rattle.ale.proofs.Appends.{encodeForest-append}
 use Rattle.ale.proofs.Encodings.{encodeForest-length}
-use Rattle.ale.proofs.LinkLists.{OnChain, ahead, chain-next, chain-on-first, chain-on-next}
+use Rattle.row_sets.proofs.LinkLists.{OnChain, ahead, chain-next, chain-on-first, chain-on-next}
 use Rattle.ale.specs.Forest.{append}
 use Rattle.ale.specs.PictureSignature.{pictureSignature}
 use Rattle.ale.specs.Table.{successorRows}
@@ -24,9 +24,9 @@ use Rattle.table.specs.Bounds.{maxRows}
 use Rattle.table.specs.Fields.{parentOf}
 use Rattle.table.specs.Pick.{pick}
 use Rattle.refutation_writer.specs.Refuting.{reachedAll}
-use Rattle.countermodel.specs.Writing.{Room, Written}
+use Rattle.refutation_writer.specs.Writing.{Room, Written}
 use Rattle.homomorphism_search.proofs.Walks.{chain-less, successors-ahead}
-use Rattle.countermodel.proofs.Writings.{room-left, room-right, room-same, written-append, written-kept, written-none, written-same}
+use Rattle.refutation_writer.proofs.Writings.{room-left, room-right, room-same, written-append, written-kept, written-none, written-same}
 
 pub record Split (f : List ℕ → Forest pictureSignature) : Type 0 where
   pub none : f [] ≡ nil

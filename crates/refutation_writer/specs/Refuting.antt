@@ -16,9 +16,8 @@ use Rattle.table.specs.Fields.{impossibleOf, kindOf, roleOf, wantedOf}
 use Rattle.table.specs.Layout.{kindForAll}
 use Rattle.table.specs.NameSet.{subset}
 use Rattle.table.specs.Pick.{pick}
-use Rattle.ale.specs.Countermodel.{canonical, canonicalAll, countermodel, falsifyAll, realize}
+use Rattle.ale.specs.Countermodel.{canonical, canonicalAll, countermodel, falsifyAll, realize, valueOf}
 use Rattle.ale.specs.Encoding.{Row, encodeForest, encodeTree}
-use Rattle.ale.specs.NormalForm.{valueOf}
 use Rattle.ale.specs.PictureSignature.{pictureSignature}
 use Rattle.ale.specs.Table.{successorRows, successors}
 use Rattle.ale.specs.Tree.{Forest, Tree, exists, successorsOf, top}

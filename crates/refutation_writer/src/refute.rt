@@ -23,13 +23,15 @@ ghost use mathlib.Core.List.{[], _∷_};
 ghost use mathlib.Core.Path.{_≡_};
 ghost use Prim.Native.Nat.{ℕ, _<_};
 ghost use lib.ListN.{length};
-ghost use Rattle.table.specs.Fields.{HasRow, kindOf, roleOf};
+ghost use Rattle.table.specs.Fields.{kindOf, roleOf};
+ghost use Rattle.table_rows.specs.Rows.{HasRow};
 ghost use Rattle.table.specs.Layout.{kindExists, kindForAll};
-ghost use Rattle.table.specs.NameSet.{setOf};
+ghost use Rattle.table.specs.Leaves.{setOf};
 ghost use Rattle.table.specs.Put.{put};
 ghost use Rattle.homomorphism_search.specs.Search.{LinkedTable, Missed, MissedBelow, labelCarried, sameEdge};
 ghost use Rattle.refutation_writer.specs.Refuting.{againstTop, againstTree, againstValue, falsifiedBelow, reachedAll, reachedTree, realizedBelow, realizedRows, valueRow, wantedWithin};
-ghost use Rattle.countermodel.specs.Writing.{RefutationRoom, Room, Written, refutationFile};
+ghost use Rattle.countermodel.specs.Writing.{refutationFile};
+ghost use Rattle.refutation_writer.specs.Writing.{RefutationRoom, Room, Written};
 
 // The all-successor of row u by a role; 0 if there is none.
 fn value_row(first: &[u8], n: usize, links: &[u8; LINKS], u: usize, role: u8) -> usize

@@ -15,12 +15,13 @@ use table_rows::row::wanted;
 ghost use mathlib.Core.Path.{_≡_};
 ghost use Prim.Native.Nat.{ℕ, _<_, _≤_};
 ghost use lib.ListN.{length};
-ghost use Rattle.table.specs.NameSet.{setOf};
+ghost use Rattle.table.specs.Leaves.{setOf};
 ghost use Rattle.table.specs.Put.{put};
 ghost use Rattle.homomorphism_search.specs.Search.{LinkedTable};
 ghost use Rattle.countermodel.specs.Layout.{«individualPlace», individualSize, mostIndividuals};
 ghost use Rattle.refutation_writer.specs.Refuting.{canonicalBelow, canonicalTree, reachedAll, reachedTree};
-ghost use Rattle.countermodel.specs.Writing.{Room, Written, individualBytes};
+ghost use Rattle.countermodel.specs.Writing.{individualBytes};
+ghost use Rattle.refutation_writer.specs.Writing.{Room, Written};
 
 // Individual k.
 pub fn write_individual(out: &mut [u8], k: usize, parent: usize, role: u8, names: Names)

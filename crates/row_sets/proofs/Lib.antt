@@ -5,3 +5,4 @@ pub mod Masks
 pub mod LabelLaws
 pub mod Gathers
 pub mod Checks
+pub mod LinkLists

@@ -11,7 +11,7 @@ use native.Mathlib.Omega.{arith}
 use Rattle.table.proofs.Bools.{both, by-test}
 use Rattle.table.specs.Bounds.{maxRows}
 use Rattle.table.specs.Fields.{parentOf, roleOf}
-use Rattle.table.specs.Links.{Nearest}
+use Rattle.table_rows.specs.Links.{Nearest}
 use Rattle.table.specs.NameSet.{has}
 use Rattle.row_sets.specs.declared.rows.Successors.{Successors}
 use Rattle.row_sets.specs.Rows.{Hung, hangs, holds}

@@ -15,11 +15,11 @@ use Rattle.table.proofs.NameSets.{has-none}
 use Rattle.table.specs.Bounds.{maxRows}
 use Rattle.table.specs.Fields.{kindOf, roleOf}
 use Rattle.table.specs.Layout.{kindExists, kindForAll, roles}
-use Rattle.table.specs.Links.{Zeros}
+use Rattle.table_rows.specs.Links.{Zeros}
 use Rattle.table.specs.NameSet.{has}
 use Rattle.row_sets.specs.declared.rows.RowSet.{RowSet}
 use Rattle.row_sets.specs.Rows.{Checked, Masked, holds, ofKind, ofRole}
-use Rattle.table.proofs.Stores.{stored}
+use Rattle.table_rows.proofs.Stores.{stored}
 use Rattle.table.proofs.Tests.{and-comm, and-none-two, and-swap}
 use Rattle.table.proofs.Bools.{by-test}
 use Rattle.row_sets.proofs.Words.{bit-more, same-word}

@@ -10,7 +10,8 @@ use mathlib.Core.List.{List}
 use mathlib.Core.Path.{_≡_}
 use Rattle.table.specs.Fields.{excludedOf, impossibleOf, wantedOf}
 use Rattle.table.specs.Layout.{nameCount}
-use Rattle.table.specs.NameSet.{setOf, union}
+use Rattle.table.specs.NameSet.{union}
+use Rattle.table.specs.Leaves.{setOf}
 use Rattle.ale.specs.Merged.{labelOfSet}
 use Rattle.ale.specs.PictureSignature.{pictureSignature}
 use Rattle.ale.specs.Rows.{filterBelow}

@@ -20,7 +20,7 @@ use mathlib.Core.Path.{_≡_}
 use Rattle.table.specs.Bounds.{maxRows}
 use Rattle.table.specs.Fields.{kindOf, parentOf, roleOf}
 use Rattle.table.specs.Layout.{kindExists, kindForAll, «place», roles}
-use Rattle.table.specs.Links.{Linked}
+use Rattle.table_rows.specs.Links.{Linked}
 use Rattle.table.specs.NameSet.{has}
 use Rattle.table.specs.Pick.{pick}
 use Rattle.picture.specs.Readable.{rowCount}

@@ -13,7 +13,7 @@ ghost use lib.ListN.{getD};
 ghost use Rattle.table.specs.Bounds.{maxRows};
 ghost use Rattle.table.specs.Fields.{parentOf, roleOf};
 ghost use Rattle.table.specs.Layout.{roles};
-ghost use Rattle.table.specs.Links.{Linked, Zeros};
+ghost use Rattle.table_rows.specs.Links.{Linked, Zeros};
 ghost use Rattle.table.specs.NameSet.{has};
 ghost use Rattle.table.specs.Pick.{pick};
 ghost use Rattle.row_sets.specs.Rows.{Checked, Hung, Masked, Next, holds, wordOf};

@@ -9,7 +9,7 @@ ghost use mathlib.Core.Bool.{false};
 ghost use Prim.Native.Nat.{ℕ, _<_};
 ghost use Rattle.table.specs.Bounds.{maxRows};
 ghost use Rattle.table.specs.Fields.{parentOf};
-ghost use Rattle.table.specs.Links.{Linked};
+ghost use Rattle.table_rows.specs.Links.{Linked};
 ghost use Rattle.ale.specs.PictureSignature.{pictureSignature};
 ghost use Rattle.ale.specs.Tree.{emptyLabel};
 ghost use Rattle.row_sets.specs.Rows.{Checked, Found, holds};

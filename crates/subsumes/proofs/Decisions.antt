@@ -16,7 +16,8 @@ use Rattle.ale.specs.PictureSignature.{pictureSignature}
 use Rattle.ale.specs.RowMap.{image}
 use Rattle.countermodel.proofs.Individuals.{within-most}
 use Rattle.refutation_writer.specs.Refuting.{againstTree}
-use Rattle.countermodel.specs.Writing.{RefutationRoom, refutationFile}
+use Rattle.countermodel.specs.Writing.{refutationFile}
+use Rattle.refutation_writer.specs.Writing.{RefutationRoom}
 use Rattle.prepare_pair.proofs.TablesIn.{on-tables}
 use Rattle.prepare_pair.specs.Tables.{NormalTables}
 use Rattle.homomorphism.proofs.MapFiles.{length-mapFile}

@@ -12,7 +12,8 @@ use Rattle.homomorphism.specs.Layout.{imagePlace}
 use Rattle.homomorphism.specs.Map.{lowestMap}
 use Rattle.homomorphism_search.specs.Search.{Shallow, rowMaps}
 use Rattle.refutation_writer.specs.Refuting.{againstTree}
-use Rattle.countermodel.specs.Writing.{RefutationRoom, refutationFile}
+use Rattle.countermodel.specs.Writing.{refutationFile}
+use Rattle.refutation_writer.specs.Writing.{RefutationRoom}
 use Rattle.subsumption.specs.declared.verdict.Verdict.{Verdict}
 use Rattle.subsumption.specs.declared.verdict.Verdict.the-variants.{No, Yes}
 

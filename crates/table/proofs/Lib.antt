@@ -8,5 +8,3 @@ pub mod Ranges
 pub mod Bits
 pub mod NameSets
 pub mod Rows
-pub mod Stores
-pub mod Links

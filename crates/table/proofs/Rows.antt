@@ -1,26 +1,19 @@
--- Laws of the fields of a table: what was put reads back.
+-- Laws of the fields of a table.
 --   Same                                  the first k bytes of field m of s are those of field n of t
 --   number-same, tag-same, length-same,
 --   parent-same, kind-same, role-same,
 --   impossible-same, wanted-same,
 --   excluded-same                         fields with the same bytes have the same parts
 --   same-first, same-after                a list begins with its first part, and the rows of its last part come after those before
---   length-rowOf, length-rowBytes,
---   length-endBytes                       the sizes of a row and of the end field
+--   length-rowOf, length-endBytes         the sizes of a row and of the end field
 --   ends-parts, parts-ends                a file ends at a place exactly if tag 2F and length 0 stand there, and nothing after them
 --   HoldsRow, held-tag .. held-excluded   a field with the bytes of a row, and what it reads as
 --   held-end-tag, held-end-length         what a field with the bytes of the end field reads as
---   pushed, ended                         the table d with a row, or with the end field, put at n
---   row-put, row-tag, row-length,
---   row-parent, row-kind, row-role,
---   row-impossible, row-wanted,
---   row-excluded                          what the row that was put reads back as
---   end-put, end-tag, end-length          what the end field that was put reads back as
-use mathlib.Core.Path.{_≡_, refl, ap, sym, _∙_}
+use mathlib.Core.Path.{_≡_, refl, ap, _∙_}
 use mathlib.Core.Bool.{_&&_, true}
 use mathlib.Core.List.{List, [], _++_}
 use Prim.Native.Nat.{ℕ, _+_, _*_, _^_, _≤_, _<_}
-use native.Mathlib.Nat.{add-assoc, zero-add}
+use native.Mathlib.Nat.{add-assoc}
 use native.Mathlib.Omega.{arith}
 use borrow.Author.Tests.{eq-eqb, eqb-true}
 use lib.Dec.{eqb}
@@ -28,12 +21,8 @@ use lib.ListN.{length, take, getD, List·getD-append}
 use lib.Seq.{getD-append-add}
 use Rattle.table.specs.Layout.{numberSize, lengthOffset, «place», rowTag, endTag, endLength, endSize, headSize, nameBytes, nameCount, parentOffset, kindOffset, roleOffset, impossibleOffset, wantedOffset, excludedOffset, rowLength, rowSize}
 use Rattle.table.specs.Number.{be, beBytes}
-use Rattle.table.specs.NameSet.{setOf}
-use Rattle.table.specs.Put.{put}
-use Rattle.table.specs.Fields.{tagOf, lengthOf, parentOf, kindOf, roleOf, impossibleOf, wantedOf, excludedOf, rowOf, rowBytes, endBytes, endsAt}
-use Rattle.table.specs.declared.row.Row.{Row}
+use Rattle.table.specs.Fields.{tagOf, lengthOf, parentOf, kindOf, roleOf, impossibleOf, wantedOf, excludedOf, rowOf, endBytes, endsAt}
 use Rattle.table.proofs.Bools.{both}
-use Rattle.table.proofs.Puts.{put-in}
 use Rattle.table.proofs.Numbers.{be-same, be-inside}
 
 -- fields with the same bytes
@@ -83,21 +72,11 @@ same-after s {t} n {m} h e =
           ap (λ (a : ℕ). getD (s ++ t) a 0) j ∙ getD-append-add s t (place m i) 0 ∙ e .byte i l;
     }
 
--- bytes put at a row's place
-
-field-put : (d s : List ℕ) (n i : ℕ) → place n (length s) ≤ length d → i < length s → getD (put d (place n 0) s) (place n i) 0 ≡ getD s i 0
-field-put d s n i h l =
-    let e : place n i ≡ place n 0 + i = omega arith in
-    ap (λ (j : ℕ). getD (put d (place n 0) s) j 0) e ∙ put-in d (place n 0) s i (omega arith) l
-
 -- a row
 
 pub length-rowOf : (parent kind role impossible wanted excluded : ℕ) → length (rowOf parent kind role impossible wanted excluded) ≡ rowSize
 unfolding rowOf beBytes
 length-rowOf parent kind role impossible wanted excluded = refl
-
-pub length-rowBytes : (r : Row) → length (rowBytes r) ≡ rowSize
-length-rowBytes r = length-rowOf (r .parent) (r .kind) (r .role) (r .impossible) (setOf (r .wanted)) (setOf (r .excluded))
 
 -- field n of s has the bytes of a row, which are a table of one row
 pub record HoldsRow (s : List ℕ) (n parent kind role impossible wanted excluded : ℕ) : Type 0 where
@@ -136,40 +115,6 @@ module _ {s : List ℕ} {n parent kind role impossible wanted excluded : ℕ} (e
   unfolding rowOf beBytes
   held-excluded f = excluded-same (e .same) ∙ be-inside (take excludedOffset (rowOf parent kind role impossible wanted excluded)) [] nameBytes excluded f
 
-abbrev pub pushed : List ℕ → ℕ → Row → List ℕ
-pushed d n r = put d (place n 0) (rowBytes r)
-
-module _ (d : List ℕ) (n : ℕ) (r : Row) (h : place n rowSize ≤ length d) where
-  pub row-put : (i : ℕ) → i < rowSize → getD (pushed d n r) (place n i) 0 ≡ getD (rowBytes r) i 0
-  row-put i l = let w = length-rowBytes r in field-put d (rowBytes r) n i (omega arith) (omega arith)
-
-  row-held : HoldsRow (pushed d n r) n (r .parent) (r .kind) (r .role) (r .impossible) (setOf (r .wanted)) (setOf (r .excluded))
-  row-held = record { same = record { byte = λ i l. row-put i l ∙ ap (λ (j : ℕ). getD (rowBytes r) j 0) (sym (zero-add i)) } }
-
-  pub row-tag : tagOf (pushed d n r) n ≡ rowTag
-  row-tag = held-tag row-held
-
-  pub row-length : lengthOf (pushed d n r) n ≡ rowLength
-  row-length = held-length row-held
-
-  pub row-parent : r .parent < 256 ^ numberSize → parentOf (pushed d n r) n ≡ r .parent
-  row-parent = held-parent row-held
-
-  pub row-kind : kindOf (pushed d n r) n ≡ r .kind
-  row-kind = held-kind row-held
-
-  pub row-role : roleOf (pushed d n r) n ≡ r .role
-  row-role = held-role row-held
-
-  pub row-impossible : impossibleOf (pushed d n r) n ≡ r .impossible
-  row-impossible = held-impossible row-held
-
-  pub row-wanted : setOf (r .wanted) < 2 ^ nameCount → wantedOf (pushed d n r) n ≡ setOf (r .wanted)
-  row-wanted = held-wanted row-held
-
-  pub row-excluded : setOf (r .excluded) < 2 ^ nameCount → excludedOf (pushed d n r) n ≡ setOf (r .excluded)
-  row-excluded = held-excluded row-held
-
 -- the end field
 
 module _ (s : List ℕ) (at : ℕ) where
@@ -199,19 +144,3 @@ module _ {s : List ℕ} {n : ℕ} (e : Same endSize s n endBytes 0) where
   pub held-end-length : lengthOf s n ≡ endLength
   unfolding endBytes beBytes be
   held-end-length = length-same e (omega arith)
-
-abbrev pub ended : List ℕ → ℕ → List ℕ
-ended d n = put d (place n 0) endBytes
-
-module _ (d : List ℕ) (n : ℕ) (h : place n endSize ≤ length d) where
-  pub end-put : (i : ℕ) → i < endSize → getD (ended d n) (place n i) 0 ≡ getD endBytes i 0
-  end-put i l = let w = length-endBytes in field-put d endBytes n i (omega arith) (omega arith)
-
-  end-same : Same endSize (ended d n) n endBytes 0
-  end-same = record { byte = λ i l. end-put i l ∙ ap (λ (j : ℕ). getD endBytes j 0) (sym (zero-add i)) }
-
-  pub end-tag : tagOf (ended d n) n ≡ endTag
-  end-tag = held-end-tag end-same
-
-  pub end-length : lengthOf (ended d n) n ≡ endLength
-  end-length = held-end-length end-same

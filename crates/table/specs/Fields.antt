@@ -4,19 +4,13 @@
 --   rowOf                                                          the bytes of a row, from its parts
 --   endBytes                                                       the bytes of the end field
 --   endsAt                                                         the end field stands at a place, and the file stops there
--- and what the code needs:
---   HasRow                                                         whether row n stands in the table s
---   rowBytes                                                       the bytes of a row that the code has by value
 use mathlib.Core.Bool.{Bool, _&&_}
 use mathlib.Core.List.{List, [], _∷_, _++_}
-use Prim.Native.Nat.{ℕ, _+_, _≤_, _<_}
+use Prim.Native.Nat.{ℕ, _+_}
 use lib.Dec.{eqb}
 use lib.ListN.{length, getD}
-use Rattle.table.specs.Layout.{«place», numberSize, lengthOffset, rowTag, endTag, endLength, endSize, nameBytes, parentOffset, kindOffset, roleOffset, impossibleOffset, wantedOffset, excludedOffset, rowLength, rowSize}
-use Rattle.table.specs.Bounds.{maxRows}
+use Rattle.table.specs.Layout.{«place», numberSize, lengthOffset, rowTag, endTag, endLength, endSize, nameBytes, parentOffset, kindOffset, roleOffset, impossibleOffset, wantedOffset, excludedOffset, rowLength}
 use Rattle.table.specs.Number.{be, beBytes}
-use Rattle.table.specs.NameSet.{setOf}
-use Rattle.table.specs.declared.row.Row.{Row}
 
 abbrev pub tagOf : List ℕ → ℕ → ℕ
 tagOf s n = getD s (place n 0) 0
@@ -56,13 +50,3 @@ endBytes = (endTag ∷ []) ++ beBytes numberSize endLength
 
 unfoldable pub endsAt : List ℕ → ℕ → Bool
 endsAt s at = eqb (length s) (at + endSize) && (eqb (getD s at 0) endTag && eqb (be s (at + lengthOffset) numberSize) endLength)
-
--- ---- what the code needs
-
--- row n stands whole in the table
-abbrev pub HasRow : List ℕ → ℕ → Type 0
-HasRow s n = (n < maxRows) × (place n rowSize ≤ length s)
-
--- of a row that the code has by value
-abbrev pub rowBytes : Row → List ℕ
-rowBytes r = rowOf (r .parent) (r .kind) (r .role) (r .impossible) (setOf (r .wanted)) (setOf (r .excluded))

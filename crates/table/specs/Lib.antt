@@ -1,4 +1,4 @@
--- The definitions of the byte form. A reader has to believe them, but for Links and what stands under `what the code needs`.
+-- The definitions of the byte form. A reader has to believe them, but for Leaves.
 pub mod Pick
 pub mod Range
 pub mod Layout
@@ -7,4 +7,4 @@ pub mod Put
 pub mod Number
 pub mod NameSet
 pub mod Fields
-pub mod Links
+pub mod Leaves

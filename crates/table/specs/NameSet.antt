@@ -6,15 +6,11 @@
 --   intersection a b  the names in both
 --   complement a      the names that are not in a
 --   subset a b        whether every name of a is in b
--- and what the code needs:
---   overlap a b       whether some name is in both
---   setOf             the set that a value of the code stands for
-use mathlib.Core.Bool.{Bool, not}
+use mathlib.Core.Bool.{Bool}
 use Prim.Native.Nat.{ℕ, _-_, _/_, _%_, _^_}
 use lib.Bits.{bitAnd, bitOr}
 use lib.Dec.{eqb}
 use Rattle.table.specs.Layout.{nameCount}
-use Rattle.table.specs.declared.names.Names.{Names}
 
 abbrev pub bit : ℕ → ℕ → ℕ
 bit a n = a / 2 ^ n % 2
@@ -36,11 +32,3 @@ complement a = 2 ^ nameCount - 1 - a
 
 abbrev pub subset : ℕ → ℕ → Bool
 subset a b = eqb (bitAnd a b) a
-
--- ---- what the code needs
-
-abbrev pub overlap : ℕ → ℕ → Bool
-overlap a b = not (eqb (bitAnd a b) 0)
-
-abbrev pub setOf : Names → ℕ
-setOf a = a .word

@@ -9,7 +9,8 @@ ghost use lib.Dec.{eqb};
 ghost use Rattle.table.specs.Layout.{nameBytes, nameCount};
 ghost use Rattle.table.specs.Number.{be, beBytes};
 ghost use Rattle.table.specs.Put.{put};
-ghost use Rattle.table.specs.NameSet.{setOf, none, union, intersection, complement, subset, overlap};
+ghost use Rattle.table.specs.NameSet.{none, union, intersection, complement, subset};
+ghost use Rattle.table.specs.Leaves.{setOf, overlap};
 
 pub struct Names {
     word: u64,

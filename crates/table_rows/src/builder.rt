@@ -14,7 +14,8 @@ ghost use lib.ListN.{length};
 ghost use Rattle.table.specs.Layout.{«place», rowSize, endSize};
 ghost use Rattle.table.specs.Bounds.{maxRows};
 ghost use Rattle.table.specs.Put.{put};
-ghost use Rattle.table.specs.Fields.{rowBytes, endBytes};
+ghost use Rattle.table.specs.Fields.{endBytes};
+ghost use Rattle.table_rows.specs.Rows.{rowBytes};
 
 pub struct Builder {
     pub rows: usize,

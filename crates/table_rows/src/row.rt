@@ -21,8 +21,9 @@ ghost use Rattle.table.specs.Layout.{«place», numberSize, nameBytes, nameCoun
 ghost use Rattle.table.specs.Number.{be};
 ghost use Rattle.table.specs.Bounds.{maxRows};
 ghost use Rattle.table.specs.Put.{put};
-ghost use Rattle.table.specs.NameSet.{setOf};
-ghost use Rattle.table.specs.Fields.{tagOf, lengthOf, parentOf, kindOf, roleOf, impossibleOf, wantedOf, excludedOf, HasRow, endBytes, endsAt};
+ghost use Rattle.table.specs.Leaves.{setOf};
+ghost use Rattle.table.specs.Fields.{tagOf, lengthOf, parentOf, kindOf, roleOf, impossibleOf, wantedOf, excludedOf, endBytes, endsAt};
+ghost use Rattle.table_rows.specs.Rows.{HasRow};
 
 // One byte, a number of two bytes and a set of names at an offset of a row.
 fn byte(s: &[u8], row: usize, offset: usize) -> u8

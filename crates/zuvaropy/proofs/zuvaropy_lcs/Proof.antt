@@ -3,7 +3,7 @@ use mathlib.Core.Path.{_∙_, sym}
 use denote.Ref.{now}
 use lib.ListN.{length}
 use Rattle.interface.specs.Calls.{lcsWord}
-use Rattle.interface.proofs.LcsWords.{length-small}
+use Rattle.interface.proofs.Values.{common-small}
 use borrow.Author.Needs.{needs}
 use Rattle.zuvaropy.proofs.zuvaropy_lcs.Statement.{statement}
 use Rattle.zuvaropy.proofs.zuvaropy_lcs.Tie as tie
@@ -20,8 +20,8 @@ common-word-requires c κs =
     let limits = c .before .before .before .before .before .before .before .bench in
     let lcs = c .before .before .before .before .lcs in
     λ n e.
-    length-small (limits .result) (now (a .first)) (now (a .second)) (length (now (a .work))) (length (now (a .result)))
-    (limits .ensures .1) n (sym (lcs .ensures .0) ∙ e)
+    common-small (limits .result) (limits .ensures .1) (now (a .first)) (now (a .second)) (length (now (a .work))) (length (now (a .result)))
+    n (sym (lcs .ensures .0) ∙ e)
 
 same-length : tie.Need-same-length
 same-length c = search needs

@@ -3,7 +3,7 @@ use mathlib.Core.Path.{_∙_, sym}
 use denote.Ref.{now}
 use lib.ListN.{length}
 use Rattle.interface.specs.Calls.{subsumesWord}
-use Rattle.interface.proofs.SubsumesWords.{no-small, yes-small}
+use Rattle.interface.proofs.Values.{verdict-small}
 use borrow.Author.Needs.{needs}
 use Rattle.zuvaropy.proofs.zuvaropy_subsumes.Statement.{statement}
 use Rattle.zuvaropy.proofs.zuvaropy_subsumes.Tie as tie
@@ -20,12 +20,8 @@ verdict-word-requires c κs =
     let limits = c .before .before .before .before .before .before .before .bench in
     let subsumes = c .before .before .before .before .subsumes in
     let given = sym (subsumes .ensures .0) in
-    λ n. (
-      λ e. yes-small (limits .result) (now (a .first)) (now (a .second)) (length (now (a .work))) (length (now (a .result)))
-          (limits .ensures .1) n (given ∙ e),
-      λ e. no-small (limits .result) (now (a .first)) (now (a .second)) (length (now (a .work))) (length (now (a .result)))
-          (limits .ensures .1) n (given ∙ e),
-    )
+    let small = verdict-small (limits .result) (limits .ensures .1) (now (a .first)) (now (a .second)) (length (now (a .work))) (length (now (a .result))) in
+    λ n. (λ e. small n .0 (given ∙ e), λ e. small n .1 (given ∙ e))
 
 same-length : tie.Need-same-length
 same-length c = search needs

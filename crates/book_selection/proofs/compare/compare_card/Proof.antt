@@ -5,7 +5,7 @@ use borrow.Author.Tests.{not-false, not-true}
 use denote.Ref.{now}
 use lib.Seq.{length-take-le}
 use mathlib.Core.Path.{_∙_, refl, subst, sym}
-use Rattle.table.proofs.Stores.{blank}
+use Rattle.table_rows.proofs.Stores.{blank}
 use Rattle.book_selection.specs.Comparing.{ComparedTo}
 use Rattle.book_selection.proofs.Comparisons.{row-ended, row-left, row-skipped}
 use Rattle.book_selection.proofs.HalfTables.{lower-checked, lower-fits, lower-length, lower-half}

@@ -1,7 +1,7 @@
 -- Each card is redundant if its table covers the other's.
 use denote.Ref.{now}
 use mathlib.Core.Path.{refl}
-use Rattle.table.proofs.Stores.{blank}
+use Rattle.table_rows.proofs.Stores.{blank}
 use Rattle.homomorphism_search.specs.Search.{rowMaps}
 use Rattle.book_selection.proofs.HalfTables.{with-each}
 use Rattle.book_selection.proofs.compare.compare_tables.Statement.{statement}

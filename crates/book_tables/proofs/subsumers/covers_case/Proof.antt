@@ -5,7 +5,7 @@ use denote.Ref.{now}
 use mathlib.Core.List.{List}
 use mathlib.Core.Path.{_∙_, ap, refl, subst, sym}
 use Prim.Native.Nat.{ℕ}
-use Rattle.table.proofs.Stores.{blank}
+use Rattle.table_rows.proofs.Stores.{blank}
 use Rattle.row_sets.specs.Rows.{Checked}
 use Rattle.homomorphism_search.specs.Search.{rowMaps}
 use Rattle.book_tables.proofs.subsumers.covers_case.Statement.{statement}

@@ -4,7 +4,7 @@ use denote.Ref.{now}
 use mathlib.Core.Bool.{false}
 use mathlib.Core.Path.{_∙_, _≡_, ap, sym}
 use Rattle.picture.specs.Asked.{onAsked}
-use Rattle.countermodel.proofs.Individuals.{form-individuals}
+use Rattle.refutation_reader.proofs.Individuals.{form-individuals}
 use Rattle.evidence.specs.Form.{mapForm}
 use Rattle.evidence.specs.declared.check.Verified.the-variants.{MapTaken, Refused, RefutationTaken}
 use Rattle.evidence_check.proofs.CheckLaws.{check-map, check-neither, check-refutation}

@@ -4,7 +4,7 @@ use borrow.Author.Tests.{not-false, not-true}
 use denote.Ref.{now}
 use mathlib.Core.Bool.{not, true}
 use mathlib.Core.Path.{_∙_, _≡_, ap, refl, sym}
-use Rattle.table.proofs.Stores.{blank}
+use Rattle.table_rows.proofs.Stores.{blank}
 use Rattle.picture.specs.Asked.{asked}
 use Rattle.picture.specs.declared.answer.Asked.the-variants.{No}
 use Rattle.meaning.specs.Meaning.{pictureTable}

@@ -6,7 +6,7 @@ use denote.Ref.{now}
 use mathlib.Core.Path.{_∙_, sym}
 use native.Mathlib.Omega.{arith}
 use Rattle.map_check.proofs.MapLaws.{asks, images-inside, map-rows}
-use Rattle.map_check.proofs.Turns.{YesTo, to-no, to-yes, yes-on}
+use Rattle.picture.proofs.Orders.{YesTo, to-no, to-yes, yes-on}
 use Rattle.map_check.proofs.map.map_asked.Statement.{statement}
 use Rattle.map_check.proofs.map.map_asked.Tie as tie
 

@@ -3,7 +3,7 @@ use mathlib.Core.Path.{refl, sym}
 use borrow.Author.Tests.{not-true, not-false}
 use borrow.Author.Needs.{needs}
 use denote.Ref.{now}
-use Rattle.table.proofs.Stores.{blank}
+use Rattle.table_rows.proofs.Stores.{blank}
 use Rattle.model_check.proofs.Models.{fits-satisfied, fits-unsatisfied}
 use Rattle.model_check.proofs.model.fits_table.Statement.{statement}
 use Rattle.model_check.proofs.model.fits_table.Tie as tie

@@ -6,7 +6,7 @@ use lib.Seq.{length-take-le}
 use lib.ListN.{drop}
 use mathlib.Core.List.{_++_}
 use mathlib.Core.Path.{_∙_, ap, refl, subst, sym}
-use Rattle.table.proofs.Stores.{blank}
+use Rattle.table_rows.proofs.Stores.{blank}
 use Rattle.workspace.specs.Prepare.{workSize}
 use Rattle.book.specs.Selection.{mostSpecificCards}
 use Rattle.book_tables.specs.Cache.{CachedAfter}

@@ -6,7 +6,7 @@ use denote.Ref.{now}
 use Rattle.row_sets.specs.Rows.{also}
 use Rattle.row_sets.proofs.LabelLaws.{valued-none, valued-with}
 use Rattle.normal_writer.proofs.Roots.{grown-built}
-use Rattle.table.proofs.Stores.{blank}
+use Rattle.table_rows.proofs.Stores.{blank}
 use borrow.Author.Needs.{needs}
 use Rattle.normal_writer.proofs.grow.build.Statement.{statement}
 use Rattle.normal_writer.proofs.grow.build.Tie as tie

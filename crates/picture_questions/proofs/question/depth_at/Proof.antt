@@ -4,7 +4,8 @@ use Prim.Native.Nat.{_<_}
 use native.Mathlib.Omega.{arith}
 use denote.Ref.{now}
 use Rattle.table.specs.Fields.{parentOf}
-use Rattle.picture.proofs.Depths.{depth-root, depth-known}
+use Rattle.picture.proofs.Depths.{depth-root}
+use Rattle.picture_questions.proofs.Depths.{depth-known}
 use Rattle.picture.proofs.Questions.{parent-below}
 use borrow.Author.Needs.{needs}
 use Rattle.picture_questions.proofs.question.depth_at.Statement.{statement}

@@ -5,7 +5,8 @@ use native.Mathlib.Omega.{arith}
 use denote.Ref.{now}
 use Rattle.picture.specs.Questions.{fieldAt}
 use Rattle.picture.specs.declared.read.Reading.the-variants.{Rows}
-use Rattle.picture.proofs.Scans.{known-root, reading-first, reading-second, rest-same}
+use Rattle.picture.proofs.Scans.{reading-first, reading-second, rest-same}
+use Rattle.picture_questions.proofs.Depths.{known-root}
 use borrow.Author.Needs.{needs}
 use Rattle.picture_reader.proofs.read.scan_one.Statement.{statement}
 use Rattle.picture_reader.proofs.read.scan_one.Tie as tie

@@ -9,10 +9,12 @@ use borrow.Author.Needs.{needs}
 use denote.Ref.{now}
 use Rattle.table.specs.Bounds.{maxRows}
 use Rattle.table.specs.Fields.{parentOf}
-use Rattle.picture.specs.Depth.{depth, Known}
+use Rattle.picture.specs.Depth.{depth}
+use Rattle.picture_questions.specs.Depths.{Known}
 use Rattle.picture.specs.Read.{scanFrom, readingOf}
 use Rattle.picture.proofs.Fields.{RowOk, row-ok}
-use Rattle.picture.proofs.Scans.{scan-step, known-none, known-next}
+use Rattle.picture.proofs.Scans.{scan-step}
+use Rattle.picture_questions.proofs.Depths.{known-none, known-next}
 use Rattle.picture_reader.proofs.read.scan_rows.Statement.{statement}
 use Rattle.picture_reader.proofs.read.scan_rows.Tie as tie
 

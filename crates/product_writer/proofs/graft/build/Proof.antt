@@ -2,7 +2,7 @@
 use mathlib.Core.Path.{refl}
 use native.Mathlib.Omega.{arith}
 use denote.Ref.{now}
-use Rattle.table.proofs.Stores.{blank}
+use Rattle.table_rows.proofs.Stores.{blank}
 use Rattle.product_writer.specs.Tables.{productAt}
 use Rattle.product_rows.proofs.Growth.{built-root}
 use borrow.Author.Needs.{needs}

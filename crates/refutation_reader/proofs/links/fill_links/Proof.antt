@@ -2,7 +2,7 @@
 use Prim.Native.Nat.{_≤_, _<_, _-_}
 use native.Mathlib.Omega.{arith}
 use denote.Ref.{now}
-use Rattle.table.proofs.Links.{LinkedFrom, link-done, link-next, link-none}
+use Rattle.table_rows.proofs.Links.{LinkedFrom, link-done, link-next, link-none}
 use Rattle.table.proofs.Ranges.{each-at}
 use Rattle.countermodel.specs.Individual.{individualOk, individualParent}
 use Rattle.countermodel.specs.Layout.{mostIndividuals}

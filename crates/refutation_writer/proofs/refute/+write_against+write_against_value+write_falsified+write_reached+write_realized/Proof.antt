@@ -10,7 +10,7 @@ use borrow.Author.Tests.{eqb-false, eqb-true, not-false, not-true}
 use denote.Ref.{now}
 use lib.Dec.{eqb}
 use Rattle.table.specs.Fields.{roleOf}
-use Rattle.table.specs.NameSet.{setOf}
+use Rattle.table.specs.Leaves.{setOf}
 use Rattle.table.specs.Pick.{pick}
 use Rattle.ale.specs.Tree.{nil}
 use Rattle.refutation_writer.specs.Refuting.{againstTop, againstTree, againstValue, canonicalBelow, canonicalTree, falsifiedBelow, realizedBelow, realizedRows}
@@ -19,7 +19,7 @@ use Rattle.homomorphism_search.proofs.Searches.{checked-has}
 use Rattle.refutation_writer.proofs.Refutings.{against-carried, falsified-realized, falsified-value, realized-all, realized-other, realized-same, realized-split, value-row-is, value-top}
 use Rattle.refutation_writer.proofs.RefutingTurns.{begun-below, begun-holds, begun-lacks, edge-room, edge-written, edges-room, edges-written, forest-room, forest-written, realized-end, realized-start, tree-here, tree-room, tree-written}
 use Rattle.refutation_writer.proofs.Walks.{WalkAt, walk-next, walk-room, walk-shorter}
-use Rattle.countermodel.proofs.Writings.{written-none}
+use Rattle.refutation_writer.proofs.Writings.{written-none}
 use Prim.Native.Nat.{ℕ, _<_, _*_, _+_, _-_}
 use borrow.Fn.Kinds.{In}
 use borrow.Fn.PlainCycle.{Measures, is, falls, and}

@@ -3,7 +3,8 @@ use Prim.Native.Nat.{_<_, _^_}
 use mathlib.Core.Path.{subst, ap, _∙_}
 use borrow.Author.Needs.{needs}
 use Rattle.table.specs.Layout.{nameCount}
-use Rattle.table.specs.NameSet.{setOf, union}
+use Rattle.table.specs.NameSet.{union}
+use Rattle.table.specs.Leaves.{setOf}
 use Rattle.row_sets.proofs.label.join.Statement.{statement}
 use Rattle.row_sets.proofs.label.join.Tie as tie
 

@@ -4,7 +4,7 @@ use native.Mathlib.Omega.{arith}
 use denote.Ref.{now}
 use Rattle.table.specs.Bounds.{maxRows}
 use Rattle.table.specs.Fields.{parentOf}
-use Rattle.table.proofs.Links.{LinkedFrom, link-done, link-next, link-none}
+use Rattle.table_rows.proofs.Links.{LinkedFrom, link-done, link-next, link-none}
 use Rattle.row_sets.proofs.rows.fill_links.Statement.{statement}
 use Rattle.row_sets.proofs.rows.fill_links.Tie as tie
 

@@ -2,7 +2,7 @@
 use mathlib.Core.Path.{refl}
 use denote.Ref.{now}
 use lib.ListN.{length}
-use Rattle.table.proofs.Stores.{blank}
+use Rattle.table_rows.proofs.Stores.{blank}
 use Rattle.subsumes.proofs.Decisions.{decided-no, decided-yes, map-fits, mapped}
 use borrow.Author.Needs.{needs}
 use Rattle.subsumes.proofs.verdict.decide.Statement.{statement}

@@ -9,8 +9,8 @@ use lib.ListN.{getD}
 use Rattle.table.specs.Bounds.{maxRows}
 use Rattle.table.specs.Pick.{pick}
 use Rattle.table.specs.Fields.{parentOf}
-use Rattle.table.specs.Links.{Nearest}
-use Rattle.table.proofs.Links.{walk-less}
+use Rattle.table_rows.specs.Links.{Nearest}
+use Rattle.table_rows.proofs.Links.{walk-less}
 use Rattle.row_sets.proofs.Links.{Walked, walk-done, walk-next, walk-none}
 use Rattle.row_sets.proofs.rows.Successors.add.Statement.{statement}
 use Rattle.row_sets.proofs.rows.Successors.add.Tie as tie

@@ -1,25 +1,38 @@
+-- Only in theorems about the definitions: no call and no condition is said by these. Nobody has to believe them.
+--   SubsumedInAll        whatever fits the first fits the second, in every structure, of any size
 -- 003, Definition 34 and Lemma 35: what it is for a tree to be normal. No rule would add to what is said:
---   NodeSaturated     P ⊓ ¬P is only in ⊥; what an all-successor says is said by the some- and all-successors that it binds
---   Saturated         that, and no some-successor is ⊥, at every node
---   Reduced           no successor is one that is dropped: no all-successor is ⊤, at every node
---   CanonicalBottom   a node that is ⊥ has no names and no successors, at every node
---   Ordered           successors by role, all before some, and at most one all-successor to a role, at every node (01)
---   Normal            all of these
--- and used in saying it:
+--   NodeSaturated        P ⊓ ¬P is only in ⊥; what an all-successor says is said by the some- and all-successors that it binds
+--   Saturated            that, and no some-successor is ⊥, at every node
+--   Reduced              no successor is one that is dropped: no all-successor is ⊤, at every node
+--   CanonicalBottom      a node that is ⊥ has no names and no successors, at every node
+--   Ordered              successors by role, all before some, and at most one all-successor to a role, at every node (01)
+--   Normal               all of these
 --   IfExists, IfForAll   a property asked of the successors of one kind
---   valueOf              the all-successor of a role, or ⊤
 --   Before               a successor by a role, of a kind, may stand after one by role r
 --   Propagated           whatever fits t fits the all-successors of every role including r
+-- The common picture of two tables (003, Definition 2), and of tables folded two at a time: any order, grouping and repetition.
+--   lcs, lcsTable        the product of the normal trees, and its table
+--   Folding              one of the numbered tables, or two foldings put together
+--   Uses                 the tables that a folding uses
+--   fold                 the common picture, of depth n
 use Prim.Native.Nat.{_<_, _≤_, ℕ}
-use lib.Dec.{T, eqb}
+use lib.Dec.{T}
 use mathlib.Core.Bool.{not}
+use mathlib.Core.Logic.{_⊎_}
 use mathlib.Core.Path.{_≡_}
-use Rattle.table.specs.Pick.{pick}
+use Rattle.ale.specs.Countermodel.{valueOf}
+use Rattle.ale.specs.Encoding.{encoded}
 use Rattle.ale.specs.Forest.{dropped}
-use Rattle.ale.specs.Normal.{bottomExists}
+use Rattle.ale.specs.Normal.{bottomExists, normalTree}
+use Rattle.ale.specs.Product.{product}
 use Rattle.ale.specs.Signature.{Signature}
-use Rattle.ale.specs.Structure.{SubsumedInAll}
-use Rattle.ale.specs.Tree.{All, Forest, Kind, Label, Tree, bottomLabel, cons, exists, forAll, nil, node, top}
+use Rattle.ale.specs.Structure.{Fits, Structure}
+use Rattle.ale.specs.Table.{Table}
+use Rattle.ale.specs.Tree.{All, Forest, Kind, Label, Tree, bottomLabel, cons, exists, forAll, nil, node}
+
+module _ (S : Signature) where
+  abbrev pub SubsumedInAll : Tree S → Tree S → Type 1
+  SubsumedInAll t u = (M : Structure S) (x : M .Element) → Fits S M t x → Fits S M u x
 
 module _ (S : Signature) where
   abbrev pub IfExists {ℓ} : (ℕ → Tree S → Type ℓ) → Kind → ℕ → Tree S → Type ℓ
@@ -30,18 +43,13 @@ module _ (S : Signature) where
   IfForAll P exists r t = Unit
   IfForAll P forAll r t = P r t
 
-  abbrev pub valueOf : ℕ → Forest S → Tree S
-  valueOf r nil = top S
-  valueOf r (cons exists s t f) = valueOf r f
-  valueOf r (cons forAll s t f) = pick (eqb s r) t (valueOf r f)
-
   abbrev pub Propagated : Forest S → ℕ → Tree S → Type 1
   Propagated f r t = All S (IfForAll (λ s b. T (S .subrole r s) → SubsumedInAll S t b)) f
 
   pub record NodeSaturated (l : Label S) (f : Forest S) : Type 1 where
     pub consistent : T (not (l .bottom)) → (n : ℕ) → T (S .has (l .wanted) n) → T (S .has (l .excluded) n) → ⊥
     pub into-exists : All S (IfExists (λ r c. Propagated f r c)) f
-    pub into-forAll : (r : ℕ) → Propagated f r (valueOf r f)
+    pub into-forAll : (r : ℕ) → Propagated f r (valueOf S r f)
 
   abbrev mutual
     pub Saturated : Tree S → Type 1
@@ -85,3 +93,23 @@ module _ (S : Signature) where
     pub reduced : Reduced t
     pub canonicalBottom : CanonicalBottom t
     pub ordered : Ordered t
+
+module _ (S : Signature) (p q : Table S) where
+  abbrev pub lcs : ℕ → ℕ → Tree S
+  lcs n m = product S (normalTree S p n) (normalTree S q m)
+
+  abbrev pub lcsTable : ℕ → Table S
+  lcsTable n = encoded S (lcs n n)
+
+pub data Folding : Type 0 where
+  one : ℕ → Folding
+  two : Folding → Folding → Folding
+
+abbrev pub Uses : Folding → ℕ → Type 0
+Uses (one j) i = i ≡ j
+Uses (two a b) i = Uses a i ⊎ Uses b i
+
+module _ (S : Signature) (n : ℕ) (tables : ℕ → Table S) where
+  abbrev pub fold : Folding → Table S
+  fold (one i) = tables i
+  fold (two a b) = lcsTable S (fold a) (fold b) n

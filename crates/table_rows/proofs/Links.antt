@@ -9,10 +9,10 @@ use lib.ListN.{getD, length, length-set, set}
 use mathlib.Core.List.{List}
 use mathlib.Core.Path.{_∙_, _≡_, ap, subst, sym}
 use native.Mathlib.Omega.{arith}
-use Rattle.table.specs.Links.{Linked, Nearest, Zeros}
 use Rattle.table.specs.Pick.{pick}
 use Rattle.table.proofs.Bools.{by-test}
-use Rattle.table.proofs.Stores.{stored}
+use Rattle.table_rows.specs.Links.{Linked, Nearest, Zeros}
+use Rattle.table_rows.proofs.Stores.{stored}
 
 pub record LinkedFrom (parent : ℕ → ℕ) (rows width j : ℕ) (links : List ℕ) : Type 0 where
   pub size : length links ≡ width + width

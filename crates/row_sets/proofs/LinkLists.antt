@@ -14,13 +14,13 @@ use mathlib.Core.Bool.{Bool, _&&_, not}
 use mathlib.Core.List.{List, [], _++_, _∷_}
 use mathlib.Core.Path.{_∙_, _≡_, ap, subst, sym}
 use native.Mathlib.Omega.{arith}
-use Rattle.table.proofs.Bools.{by-test}
-use Rattle.table.specs.Links.{Linked, Nearest}
+use Rattle.ale.specs.Rows.{filterBelow, filterFrom}
 use Rattle.table.specs.Pick.{pick}
-use Rattle.ale.specs.Rows.{filterBelow, filterFrom}
+use Rattle.table_rows.specs.Links.{Linked, Nearest}
 use Rattle.ale.proofs.RowLists.{filterFrom-none, filterFrom-split}
 use Rattle.ale.proofs.TableLaws.{not-zero}
 use Rattle.ale.proofs.Tests.{and-left, and-right, refute}
+use Rattle.table.proofs.Bools.{by-test}
 
 abbrev pub childOf : (ℕ → ℕ) → ℕ → ℕ → Bool
 childOf parent c j = not (eqb j 0) && eqb (parent j) c

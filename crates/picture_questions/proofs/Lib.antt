@@ -1,0 +1,2 @@
+-- The laws of depths.
+pub mod Depths

@@ -1,0 +1,2 @@
+-- What the questions of a row know of the rows before it.
+pub mod Depths

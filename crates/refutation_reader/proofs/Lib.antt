@@ -1,0 +1,2 @@
+-- The laws of individuals.
+pub mod Individuals

@@ -1,0 +1,2 @@
+-- What the code has of a refutation file.
+pub mod Individuals
