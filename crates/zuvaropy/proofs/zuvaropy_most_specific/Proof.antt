@@ -24,7 +24,7 @@ returns c =
     let found = c .before .before .before .most-specific in
     record {
       word-is = rw (sym (limits .ensures .0), sym (found .ensures .0)) (c .selected-word .ensures);
-      buffer-is = rw (sym (limits .ensures .0)) (found .ensures .1);
+      buffer-is = rw (limits .ensures .0) at (found .ensures .1);
     }
 
 pub zuvaropy-most-specific-spec : {M : Type 1} → statement M

@@ -24,7 +24,7 @@ returns c =
     let verify = c .before .before .before .verify in
     record {
       word-is = rw (sym (limits .ensures .0), sym (verify .ensures .0)) (c .verified-word .ensures);
-      buffer-is = rw (sym (limits .ensures .0)) (verify .ensures .1);
+      buffer-is = rw (limits .ensures .0) at (verify .ensures .1);
     }
 
 pub zuvaropy-verify-spec : {M : Type 1} → statement M
