@@ -3,7 +3,8 @@
 --   structureOf      the same as a structure. Its elements are all numbers, but its edges end at individuals: so "some" and "all" range over these.
 --                    A role is a set of pairs of individuals: `edge` below `count` on both sides, of x by `Subsumed`, of y by `structureOf`
 --   Subsumed         `Subsumed v d`: v ⊑ d, d covers v: every individual that fits v fits d, in every interpretation
---                    (over all structures: Theory, `SubsumedInAll`; for pictures the same, Subsumption: `subsumed-inAll`)
+--                    (over all structures: Theory, `SubsumedInAll`; for pictures the same, Subsumption:
+--                    `subsumed-inAll`)
 --   Equivalent       each subsumes the other
 use Prim.Native.Nat.{_<_, ℕ}
 use lib.Dec.{T}
@@ -18,7 +19,7 @@ module _ (S : Signature) where
     pub inhabited : 0 < count
     pub holds : ℕ → ℕ → Bool
     pub edge : ℕ → ℕ → ℕ → Bool
-    -- asks nothing where inclusion is equality, as in 01 (subsumption/proofs/Conditions: `any-interpretation`)
+    -- asks nothing where inclusion is equality, as in 01 (meaning/proofs/Coverings: `any-interpretation`)
     pub respects : (r s x y : ℕ) → T (S .subrole r s) → T (edge r x y) → T (edge s x y)
 
   abbrev pub structureOf : Interpretation → Structure S

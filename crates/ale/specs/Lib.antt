@@ -1,5 +1,6 @@
 -- The definitions of ALE, in the order of paper 01 and source 003. Ten of them carry the rest: Tree, Fits, Subsumed, Concept, Table, merged, normalTree,
--- mapsTo, countermodel, product. A reader has to believe what the calls and the conditions cite; Theory is only in theorems.
+-- mapsTo, countermodel, product. A reader has to believe what the calls and the conditions cite; Theory is only in
+-- theorems.
 
 -- what everything is over
 pub mod Signature

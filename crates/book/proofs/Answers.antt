@@ -15,8 +15,10 @@ use Rattle.book.specs.Refusals.{FirstNo}
 use Rattle.book.proofs.Orders.{book-decides}
 
 module _ (limits : Limits) (case book : List ℕ) (room : ℕ) where
-  pub ask-decides : Decides (mostSpecificAsked limits case book room) ((workSize limits ≤ room) × AcceptableBook limits case book)
+  pub ask-decides : Decides (mostSpecificAsked limits case book room) ((workSize limits ≤ room)
+      × AcceptableBook limits case book)
       (λ r. ((room < workSize limits) × (r ≡ shortBuffer)) ⊎ ((workSize limits ≤ room) × FirstNo limits case book r))
   ask-decides =
-      and-decides (roomAsked (leb (workSize limits) room)) (bookAsked limits case book) (test-decides (workSize limits) room shortBuffer)
+      and-decides (roomAsked (leb (workSize limits) room)) (bookAsked limits case book)
+      (test-decides (workSize limits) room shortBuffer)
       (λ long. book-decides limits case book)

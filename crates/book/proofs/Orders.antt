@@ -1,5 +1,5 @@
--- The questions about a case and a book, in their order: all are answered yes exactly of an acceptable book, and else the
--- first no is the refusal.
+-- The questions about a case and a book, in their order: all are answered yes exactly of an acceptable book, and else
+-- the first no is the refusal.
 --   book-refuses   every refusal is 2 to 14 of the case or of a card, or 24
 --   book-decides   all yes exactly of an acceptable book; the first no is r exactly if `FirstNo` says so
 use Prim.Native.Nat.{_<_, _≤_, ℕ}
@@ -35,7 +35,8 @@ module _ (limits : Limits) (case book : List ℕ) where
   abbrev MergedNo : Refusal → Type 0
   MergedNo r =
       TooMany limits First case r
-      ⊎ ((mergedCount limits case ≤ limits .rows) × FirstFrom Few (λ k. TooMany limits (Card k) (card book k)) (cardCount book) 0 r)
+      ⊎ ((mergedCount limits case ≤ limits .rows) × FirstFrom Few (λ k. TooMany limits (Card k) (card book k))
+      (cardCount book) 0 r)
 
   abbrev CardsNo : Refusal → Type 0
   CardsNo r =
@@ -57,10 +58,12 @@ module _ (limits : Limits) (case book : List ℕ) where
   below all j l = all j (omega arith) (omega arith)
 
   module _ (r : Refusal) where
-    merged-first : Readable limits case → bookForm book ≡ true → AllFrom Reads (cardCount book) 0 → MergedNo r → FirstNo limits case book r
+    merged-first : Readable limits case → bookForm book ≡ true → AllFrom Reads (cardCount book) 0 → MergedNo r →
+        FirstNo limits case book r
     merged-first c f cards (inl (many, is)) = as-named (tooMany First) r is (case-many c f (below cards) many)
     merged-first c f cards (inr (few, (k, a, b, (many, is), before))) =
-        as-named (tooMany (Card k)) r is (card-many c f (below cards) few k (omega arith) (λ j l. before j (omega arith) l) many)
+        as-named (tooMany (Card k)) r is (card-many c f (below cards) few k (omega arith)
+        (λ j l. before j (omega arith) l) many)
 
     cards-first : Readable limits case → bookForm book ≡ true → CardsNo r → FirstNo limits case book r
     cards-first c f (inl (k, a, b, (q, e, is), before)) =
@@ -82,7 +85,17 @@ module _ (limits : Limits) (case book : List ℕ) where
       inr (c, inr (f, inl (k, omega arith, omega arith, (q, e, refl), λ j a b. before j b)))
   from-first r (case-many c f cards many) = inr (c, inr (f, inr (λ j a b. cards j (omega arith), inl (many, refl))))
   from-first r (card-many c f cards few k l before many) =
-      inr (c, inr (f, inr (λ j a b. cards j (omega arith), inr (few, (k, omega arith, omega arith, (many, refl), λ j a b. before j b)))))
+      inr (
+        c,
+        inr (
+          f,
+          inr (
+            λ j a b. cards j (omega arith),
+            inr
+                (few, (k, omega arith, omega arith, (many, refl), λ j a b. before j b)),
+          ),
+        ),
+      )
 
   -- ---- the questions
 
@@ -94,7 +107,8 @@ module _ (limits : Limits) (case book : List ℕ) where
       let merged = mergedAsked limits First case in
       let rest = askedFrom (cardMerged limits book) (cardCount book) 0 in
       said-so (andThen read (andThen (formAsked book) (andThen cards (andThen merged rest))))
-      (and-decides read (andThen (formAsked book) (andThen cards (andThen merged rest))) (read-decides limits First case)
+      (and-decides read (andThen (formAsked book) (andThen cards (andThen merged rest)))
+      (read-decides limits First case)
       (λ c. and-decides (formAsked book) (andThen cards (andThen merged rest)) (asked-decides (bookForm book) noBook)
       (λ f. and-decides cards (andThen merged rest)
       (from-decides (cardRead limits book) Reads (λ k. Unreadable limits (Card k) (card book k)) (cardCount book) 0
@@ -118,7 +132,8 @@ module _ (limits : Limits) (case book : List ℕ) where
 
   -- 2 to 14 of the case and of the cards, 24
   pub book-refuses : (P : Refusal → Type 0) → ((q : ℕ) → 2 ≤ q → q ≤ 14 → P (refusal q First)) → P noBook →
-      ((k q : ℕ) → k < cardCount book → 2 ≤ q → q ≤ 14 → P (refusal q (Card k))) → Refuses P (bookAsked limits case book)
+      ((k q : ℕ) → k < cardCount book → 2 ≤ q → q ≤ 14 → P (refusal q (Card k))) →
+      Refuses P (bookAsked limits case book)
   unfolding bookAsked
   book-refuses P named none card-named =
       let read = readAsked limits First case in
@@ -127,10 +142,12 @@ module _ (limits : Limits) (case book : List ℕ) where
       let rest = askedFrom (cardMerged limits book) (cardCount book) 0 in
       and-refuses P read (andThen (formAsked book) (andThen cards (andThen merged rest)))
       (read-refuses P limits First case (λ q a b. named q a (omega arith)))
-      (and-refuses P (formAsked book) (andThen cards (andThen merged rest)) (asked-refuses P (bookForm book) noBook none)
+      (and-refuses P (formAsked book) (andThen cards (andThen merged rest))
+      (asked-refuses P (bookForm book) noBook none)
       (and-refuses P cards (andThen merged rest)
       (from-refuses P (cardRead limits book) (cardCount book) 0
       (λ k a b. read-refuses P limits (Card k) (card book k) (λ q c d. card-named k q (omega arith) c (omega arith))))
       (and-refuses P merged rest (merged-refuses limits First case P (named 14 (omega arith) (omega arith)))
       (from-refuses P (cardMerged limits book) (cardCount book) 0
-      (λ k a b. merged-refuses limits (Card k) (card book k) P (card-named k 14 (omega arith) (omega arith) (omega arith)))))))
+      (λ k a b. merged-refuses limits (Card k) (card book k) P (card-named k 14 (omega arith) (omega arith)
+      (omega arith)))))))

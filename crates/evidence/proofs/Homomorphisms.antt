@@ -54,7 +54,8 @@ module _ (p q : Table pictureSignature) (im : ℕ → ℕ) where
             inside = ltb-true (im i) (p .rows) in-range;
             root = λ z. eqb-true (im i) 0 (rw (eq-eqb i 0 z) at at-root);
             label = true-is labelled same;
-            edge = λ z. true-is (edgeAgrees pictureSignature p q i (im (q .parent i)) (im i)) (rw (ne-eqb i 0 z) at edge);
+            edge = λ z. true-is (edgeAgrees pictureSignature p q i (im (q .parent i)) (im i))
+                (rw (ne-eqb i 0 z) at edge);
           },
           λ ok. (
             lt-ltb (im i) (p .rows) (ok .inside),
@@ -63,7 +64,8 @@ module _ (p q : Table pictureSignature) (im : ℕ → ℕ) where
               (
                 is-true labelled (ok .label),
                 by-test (eqb i 0) (λ z. rw z)
-                    (λ z. rw z (is-true (edgeAgrees pictureSignature p q i (im (q .parent i)) (im i)) (ok .edge (eqb-false i 0 z)))),
+                    (λ z. rw z (is-true (edgeAgrees pictureSignature p q i (im (q .parent i)) (im i))
+                    (ok .edge (eqb-false i 0 z)))),
               ),
             ),
           ),

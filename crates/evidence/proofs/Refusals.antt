@@ -1,5 +1,6 @@
 -- Which refusals the questions about evidence give: 16 to 23, of the evidence; there is no other.
---   row-refuses, map-refuses, refutation-refuses, evidence-refuses   every refusal has a property that those numbers have
+--   row-refuses, map-refuses,
+--   refutation-refuses, evidence-refuses   every refusal has a property that those numbers have
 use Prim.Native.Nat.{ℕ, _≤_}
 use native.Mathlib.Omega.{arith}
 use lib.Dec.{eqb, ltb}
@@ -77,5 +78,6 @@ module _ (P : Refusal → Type 0) (by : (n : ℕ) → 16 ≤ n → n ≤ 23 → 
         let formed = mapForm (q .rows) e || refutationForm limits e in
         and-refuses P (asked formed (refusalBy 16)) (pick (mapForm (q .rows) e) m n)
         (asked-refuses P formed (refusalBy 16) (by 16 (omega arith) (omega arith)))
-        (form-refuses m n (map-refuses p q (imageOf e)) (refutation-refuses (pictureTree limits first) (pictureTree limits second) e)
+        (form-refuses m n (map-refuses p q (imageOf e)) (refutation-refuses (pictureTree limits first)
+        (pictureTree limits second) e)
         (mapForm (q .rows) e))

@@ -61,7 +61,8 @@ module _ (t u : Tree pictureSignature) (e : List ℕ) where
       let c = asked (not (fitted u e)) (refusalBy 23) in
       yes-so (andThen a (andThen b c))
       (and-decides a (andThen b c) (asked-decides passing (refusalBy 21))
-      (λ h. and-decides b c (asked-decides (fitted t e) (refusalBy 22)) (λ h. asked-decides (not (fitted u e)) (refusalBy 23)))) (
+      (λ h. and-decides b c (asked-decides (fitted t e) (refusalBy 22))
+      (λ h. asked-decides (not (fitted u e)) (refusalBy 23)))) (
         λ (passed, (fits, fails)). (passed, (true-is (fitted t e) fits, true-is (not (fitted u e)) fails)),
         λ (passed, (fits, fails)). (passed, (is-true (fitted t e) fits, is-true (not (fitted u e)) fails)),
       )

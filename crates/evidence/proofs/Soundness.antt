@@ -84,7 +84,8 @@ forms-apart limits rows e h k = omega (arith, map-tag rows e h, refutation-tag l
 other-taken : MapTaken ≡ RefutationTaken → ⊥
 other-taken h = let z : _≡_ {A = ℕ} 0 1 = cc in omega arith
 
--- b says whether it has the form of a map, c whether that of a refutation; m and n are what the questions of each answer
+-- b says whether it has the form of a map, c whether that of a refutation; m and n are what the questions of each
+-- answer
 module _ (m n : Asked) where
   abbrev checks : Bool → Bool → Asked
   checks b c = andThen (asked (b || c) (refusalBy 16)) (pick b m n)
@@ -93,16 +94,19 @@ module _ (m n : Asked) where
   by-map true c h k = (refl, h)
   by-map false c h k = absurd (other-taken (sym k))
 
-  by-refutation : (b c : Bool) → checks b c ≡ Yes → pick b MapTaken RefutationTaken ≡ RefutationTaken → (c ≡ true) × (n ≡ Yes)
+  by-refutation : (b c : Bool) → checks b c ≡ Yes → pick b MapTaken RefutationTaken ≡ RefutationTaken →
+      (c ≡ true) × (n ≡ Yes)
   by-refutation true c h k = absurd (other-taken k)
   by-refutation false true h k = (refl, h)
   by-refutation false false h k = absurd (let z : _≡_ {A = ℕ} 0 1 = cc in omega arith)
 
 module _ (p q : Table pictureSignature) (t u : Tree pictureSignature) (limits : Limits) (e : List ℕ) where
-  pub asked-map : ((checkAsked limits p q t u e ≡ Yes) × (takenAs (q .rows) e ≡ MapTaken)) ↔ ((mapForm (q .rows) e ≡ true) × (mapAsked p q (imageOf e) ≡ Yes))
+  pub asked-map : ((checkAsked limits p q t u e ≡ Yes) × (takenAs (q .rows) e ≡ MapTaken)) ↔
+      ((mapForm (q .rows) e ≡ true) × (mapAsked p q (imageOf e) ≡ Yes))
   unfolding checkAsked
   asked-map = (
-    λ (all, kind). by-map (mapAsked p q (imageOf e)) (refutationAsked t u e) (mapForm (q .rows) e) (refutationForm limits e) all kind,
+    λ (all, kind). by-map (mapAsked p q (imageOf e)) (refutationAsked t u e) (mapForm (q .rows) e)
+        (refutationForm limits e) all kind,
     λ (form, all). (rw (form, all), rw form),
   )
 
@@ -110,12 +114,14 @@ module _ (p q : Table pictureSignature) (t u : Tree pictureSignature) (limits : 
       ((refutationForm limits e ≡ true) × (refutationAsked t u e ≡ Yes))
   unfolding checkAsked
   asked-refutation = (
-    λ (all, kind). by-refutation (mapAsked p q (imageOf e)) (refutationAsked t u e) (mapForm (q .rows) e) (refutationForm limits e) all kind,
+    λ (all, kind). by-refutation (mapAsked p q (imageOf e)) (refutationAsked t u e) (mapForm (q .rows) e)
+        (refutationForm limits e) all kind,
     λ (form, all). let none = no-map form in (rw (none, form, all), rw none),
   )
     where
       no-map : refutationForm limits e ≡ true → mapForm (q .rows) e ≡ false
-      no-map form = by-test (mapForm (q .rows) e) (λ map. absurd (forms-apart limits (q .rows) e map form)) (λ none. none)
+      no-map form = by-test (mapForm (q .rows) e) (λ map. absurd (forms-apart limits (q .rows) e map form))
+          (λ none. none)
 
 -- ---- what is taken
 
@@ -134,7 +140,11 @@ module _ (limits : Limits) (first second e : List ℕ) (bounded : Bounded limits
   map-taken =
       let (to, from) = asked-map p q (pictureTree limits first) (pictureTree limits second) limits e in (
         λ h. let (form, all) = to h in
-            record { form = form; maps = map-yes p q (imageOf e) (normal-some limits second bounded (pair .second-few)) all },
+            record {
+              form = form;
+              maps = map-yes p q (imageOf e) (normal-some limits second bounded (pair .second-few))
+                  all;
+            },
         λ m. from (m .form, yes-map p q (imageOf e) (m .maps)),
       )
 
@@ -162,16 +172,19 @@ module _ (limits : Limits) (first second e : List ℕ) (bounded : Bounded limits
                 r .passed,
                 (
                   question-fits e (r .some) up t .0 (r .fits),
-                  refute (fitsTest pictureSignature u (modelTree e 0)) (λ f. r .fails (question-fits e (r .some) up u .1 f)),
+                  refute (fitsTest pictureSignature u (modelTree e 0))
+                      (λ f. r .fails (question-fits e (r .some) up u .1 f)),
                 ),
               ),
             ),
       )
 
   -- all is answered yes exactly of one or the other
-  pub evidence-taken : (evidenceAsked limits first second e ≡ Yes) ↔ (MapOf limits first second e ⊎ RefutationOf limits first second e)
+  pub evidence-taken : (evidenceAsked limits first second e ≡ Yes) ↔ (MapOf limits first second e
+      ⊎ RefutationOf limits first second e)
   evidence-taken = (
-    λ all. by-test (mapForm (q .rows) e) (λ form. inl (map-taken .0 (all, rw form))) (λ none. inr (refutation-taken .0 (all, rw none))),
+    λ all. by-test (mapForm (q .rows) e) (λ form. inl (map-taken .0 (all, rw form)))
+        (λ none. inr (refutation-taken .0 (all, rw none))),
     ⊎-elim (λ m. map-taken .1 m .0) (λ r. refutation-taken .1 r .0),
   )
 
@@ -187,7 +200,8 @@ module _ (limits : Limits) (first second e : List ℕ) (bounded : Bounded limits
       (subst (λ d. T (mapsTo pictureSignature (rowTree q 0) d)) (normal-rowTree limits first bounded (pair .first-few)) t) in
       covers-fits limits first second .0
       (subsumption-homomorphism pictureSignature (pictureTable first) (pictureTable second)
-      (picture-known limits first (pair .first-readable)) (picture-known limits second (pair .second-readable)) (limits .depth) (limits .depth) .1 v)
+      (picture-known limits first (pair .first-readable)) (picture-known limits second (pair .second-readable))
+      (limits .depth) (limits .depth) .1 v)
 
   pub refutation-fails : RefutationOf limits first second e → Covers limits second first → ⊥
   refutation-fails r c = r .fails (covers-fits limits first second .1 c (individuals e (r .some)) 0 (r .some) (r .fits))

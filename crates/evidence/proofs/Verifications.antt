@@ -35,7 +35,8 @@ module _ (limits : Limits) (first second : List ℕ) (room : ℕ) where
 -- 1 to 14 are answered yes: with room, and of an acceptable pair; 16 to 23: of a map or a refutation of it
 module _ (limits : Limits) (first second e : List ℕ) (room : ℕ) (bounded : Bounded limits) where
   pub verify-yes : (verifyAsked limits first second e room ≡ Yes) ↔
-      ((workSize limits ≤ room) × Acceptable limits first second × (MapOf limits first second e ⊎ RefutationOf limits first second e))
+      ((workSize limits ≤ room) × Acceptable limits first second
+      × (MapOf limits first second e ⊎ RefutationOf limits first second e))
   verify-yes =
       let both = and-yes (verifyLent limits first second room) (evidenceAsked limits first second e) in (
         λ all.
@@ -43,5 +44,9 @@ module _ (limits : Limits) (first second e : List ℕ) (room : ℕ) (bounded : B
             let (enough, pair) = lent-decides limits first second room .yes .0 lent in
             (enough, pair, evidence-taken limits first second e bounded pair .0 taken),
         λ (enough, pair, taken).
-            both .1 (lent-decides limits first second room .yes .1 (enough, pair), evidence-taken limits first second e bounded pair .1 taken),
+            both .1 (
+              lent-decides limits first second room .yes .1 (enough, pair),
+              evidence-taken limits first second e
+                  bounded pair .1 taken,
+            ),
       )

@@ -4,8 +4,8 @@
 --   verifyAsked     those; 16 to 23
 --   evidenceKind    a map or a refutation
 --   verifyAnswer    that is taken, after these
---   verifyWork      the work space: both tables once 14 is answered yes for both, whatever 16 to 23 answer; else nothing
---                   written
+--   verifyWork      the work space: both tables once 14 is answered yes for both, whatever 16 to 23 answer; else
+--                   nothing written
 use Prim.Native.Nat.{ℕ}
 use lib.Dec.{leb}
 use lib.ListN.{length}

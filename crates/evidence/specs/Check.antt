@@ -1,5 +1,5 @@
--- 01, questions 16 to 23, for evidence e. p and q are the normal tables, of which a map speaks; t and u the pictures' trees,
--- which individual 0 of a refutation fits or not.
+-- 01, questions 16 to 23, for evidence e. p and q are the normal tables, of which a map speaks; t and u the pictures'
+-- trees, which individual 0 of a refutation fits or not.
 --   refutationAsked   21 of every individual, then 22, 23
 --   checkAsked        16; then the questions of the form that it has
 --   takenAs           what is taken: a map, by its form, or else a refutation
@@ -32,7 +32,8 @@ refutationAsked t u e =
     (andThen (asked (fitsTest pictureSignature t (modelTree e 0)) (refusalBy 22))
     (asked (not (fitsTest pictureSignature u (modelTree e 0))) (refusalBy 23)))
 
-unfoldable pub checkAsked : Limits → Table pictureSignature → Table pictureSignature → Tree pictureSignature → Tree pictureSignature → List ℕ → Asked
+unfoldable pub checkAsked : Limits → Table pictureSignature → Table pictureSignature →
+    Tree pictureSignature → Tree pictureSignature → List ℕ → Asked
 checkAsked limits p q t u e =
     andThen (asked (mapForm (q .rows) e || refutationForm limits e) (refusalBy 16))
     (pick (mapForm (q .rows) e) (mapAsked p q (imageOf e)) (refutationAsked t u e))

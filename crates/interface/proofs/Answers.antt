@@ -73,10 +73,12 @@ use Rattle.interface.proofs.Shapes.{Early, Late, Shape, is-early, is-la
 
 -- ---- lists
 
-early : (c : Call) (r : Refusal) → Listed (c .refusals) (r .number) (r .input) → r .number < 15 → cardOf (r .input) < partRange → Early c r
+early : (c : Call) (r : Refusal) → Listed (c .refusals) (r .number) (r .input) → r .number < 15 →
+    cardOf (r .input) < partRange → Early c r
 early c r on l few = (record { listed = on; fits = (omega arith, few) }, is-early (r .number) (inl l))
 
-late : (c : Call) (r : Refusal) → Listed (c .refusals) (r .number) (r .input) → 15 ≤ r .number → r .number ≤ 23 → cardOf (r .input) < partRange → Late c r
+late : (c : Call) (r : Refusal) → Listed (c .refusals) (r .number) (r .input) → 15 ≤ r .number → r .number ≤ 23 →
+    cardOf (r .input) < partRange → Late c r
 late c r on least most few = (record { listed = on; fits = (omega arith, few) }, is-late (r .number) least most)
 
 -- a buffer that is not lent
@@ -87,7 +89,8 @@ not-lent (No r) = refl
 
 -- ---- one picture
 
-validate-word : (limits : Limits) (s : List ℕ) → validateWord limits s ≡ onAsked refusalWord (readAsked limits First s) (valueWord outcomeYes (rowCount s))
+validate-word : (limits : Limits) (s : List ℕ) → validateWord limits s ≡ onAsked refusalWord (readAsked limits First s)
+    (valueWord outcomeYes (rowCount s))
 unfolding validateWord answerOf readAsked
 validate-word limits s = by (readingOf limits s) refl
   where
@@ -106,7 +109,8 @@ validate-shape limits bounded picture =
       all = asks;
       all-is = then-yes asks;
       early = read-refuses (Early (validateCall limits picture)) limits First picture
-          (λ q a b. early (validateCall limits picture) (refusal q First) (inl (a, b, refl)) (omega arith) (omega arith));
+          (λ q a b. early (validateCall limits picture) (refusal q First) (inl (a, b, refl)) (omega arith)
+          (omega arith));
       late = tt;
       passes = (
         λ e. (omega arith, omega arith, read-decides limits First picture .yes .0 e),
@@ -122,7 +126,8 @@ validate-shape limits bounded picture =
       result-by = not-lent asks;
     }
 
-pub normalize-shape : (limits : Limits) → Bounded limits → (picture result : List ℕ) (word : ℕ) (left : List ℕ) → NormalizeGives limits picture result word left →
+pub normalize-shape : (limits : Limits) → Bounded limits → (picture result : List ℕ) (word : ℕ) (left : List ℕ) →
+    NormalizeGives limits picture result word left →
     Shape (normalizeCall limits picture) (buffers [] result) (buffers [] left) word outcomeYes
 unfolding normalizeWord normalizeAnswer normalizeResult
 normalize-shape limits bounded picture result word left gives =
@@ -145,7 +150,8 @@ normalize-shape limits bounded picture result word left gives =
       outcome-is = λ p. refl;
       in-range = λ (none, enough, (readable, few)). normal-size limits picture few;
       small = λ (none, enough, (readable, few)). omega (arith, normal-size limits picture few, bounded .0);
-      word-by = gives .word-is ∙ word-on normalizedWord normalized.Refused (λ r. refl) asks (normalized.Length (length (normalFile limits picture))) _ refl;
+      word-by = gives .word-is ∙ word-on normalizedWord normalized.Refused (λ r. refl) asks
+          (normalized.Length (length (normalFile limits picture))) _ refl;
       work-fits = λ e. omega arith;
       work-by = not-lent asks;
       result-fits = λ (none, enough, (readable, few)). omega (arith, normal-size limits picture few);
@@ -154,7 +160,8 @@ normalize-shape limits bounded picture result word left gives =
 
 -- ---- two pictures
 
-pub length-tables : (limits : Limits) (first second : List ℕ) → Acceptable limits first second → length (tables limits first second) ≡ workSize limits
+pub length-tables : (limits : Limits) (first second : List ℕ) → Acceptable limits first second →
+    length (tables limits first second) ≡ workSize limits
 length-tables limits first second pair =
     let lower = length-half limits (normalFile limits first) (normal-size limits first (pair .first-few)) in
     let upper = length-half limits (normalFile limits second) (normal-size limits second (pair .second-few)) in
@@ -166,22 +173,29 @@ pair-early : (c : Call) (more : List Line) →
     (limits : Limits) (enough : Bool) (first second : List ℕ) → Refuses (Early c) (lentAsked limits enough first second)
 pair-early c more list limits enough first second =
     lent-refuses limits first second (Early c)
-    (λ q a b. early c (refusal q First) (subst (λ l. Listed l q First) (sym list) (inr (inl (a, b, refl)))) (omega arith) (omega arith))
-    (λ q a b. early c (refusal q Second) (subst (λ l. Listed l q Second) (sym list) (inr (inr (inl (a, b, refl))))) (omega arith) (omega arith))
-    (early c shortBuffer (subst (λ l. Listed l 1 Buffer) (sym list) (inl (omega arith, omega arith, refl))) (omega arith) (omega arith)) enough
+    (λ q a b. early c (refusal q First) (subst (λ l. Listed l q First) (sym list) (inr (inl (a, b, refl))))
+    (omega arith) (omega arith))
+    (λ q a b. early c (refusal q Second) (subst (λ l. Listed l q Second) (sym list) (inr (inr (inl (a, b, refl)))))
+    (omega arith) (omega arith))
+    (early c shortBuffer (subst (λ l. Listed l 1 Buffer) (sym list) (inl (omega arith, omega arith, refl)))
+    (omega arith) (omega arith)) enough
 
 -- yes or no, and so the word
-verdict-by : (v : Bool) (n : ℕ) → verdictWord (pick v (verdict.Yes n) (verdict.No n)) ≡ valueWord (pick v outcomeYes outcomeNo) n
+verdict-by : (v : Bool) (n : ℕ) → verdictWord (pick v (verdict.Yes n) (verdict.No n))
+    ≡ valueWord (pick v outcomeYes outcomeNo) n
 verdict-by true n = refl
 verdict-by false n = refl
 
-kind-by : (b : Bool) → verifiedWord (pick b verified.MapTaken verified.RefutationTaken) ≡ valueWord (pick b outcomeYes outcomeNo) 0
+kind-by : (b : Bool) → verifiedWord (pick b verified.MapTaken verified.RefutationTaken)
+    ≡ valueWord (pick b outcomeYes outcomeNo) 0
 kind-by true = refl
 kind-by false = refl
 
-module _ (limits : Limits) (bounded : Bounded limits) (first second work result : List ℕ) (word : ℕ) (workLeft left : List ℕ) where
+module _ (limits : Limits) (bounded : Bounded limits) (first second work result : List ℕ) (word : ℕ)
+    (workLeft left : List ℕ) where
   pub subsumes-shape : SubsumesGives limits first second work result word workLeft left →
-      Shape (subsumesCall limits first second) (buffers work result) (buffers workLeft left) word (pick (verdictOf limits first second) outcomeYes outcomeNo)
+      Shape (subsumesCall limits first second) (buffers work result) (buffers workLeft left) word
+      (pick (verdictOf limits first second) outcomeYes outcomeNo)
   unfolding subsumesWord subsumesAnswer verdictAnswer halvesPut
   subsumes-shape gives =
       let asks = subsumesAsked limits first second (length work) (length result) in
@@ -192,7 +206,8 @@ module _ (limits : Limits) (bounded : Bounded limits) (first second work result 
         after = Yes;
         all = asks;
         all-is = then-yes asks;
-        early = pair-early (subsumesCall limits first second) [] refl limits (roomy limits (evidenceSize limits) (length work) (length result)) first second;
+        early = pair-early (subsumesCall limits first second) [] refl limits
+            (roomy limits (evidenceSize limits) (length work) (length result)) first second;
         late = tt;
         passes = (
           λ e. let l = decides .yes .0 e in (l .work-long, l .result-long, l .pair),
@@ -206,7 +221,12 @@ module _ (limits : Limits) (bounded : Bounded limits) (first second work result 
         word-by = gives .word-is
             ∙ word-on verdictWord verdict.Refused (λ r. refl) asks (verdictAnswer limits first second) _
             (verdict-by (verdictOf limits first second) (length (evidenceOf limits first second)));
-        work-fits = λ e. let l = decides .yes .0 e in omega (arith, l .work-long, length-tables limits first second (l .pair));
+        work-fits = λ e. let l = decides .yes .0 e in omega (
+          arith,
+          l .work-long,
+          length-tables limits first second
+              (l .pair),
+        );
         work-by = gives .work-is;
         result-fits = λ (enough, long, pair). omega (arith, size pair);
         result-by = gives .result-is;
@@ -224,17 +244,21 @@ module _ (limits : Limits) (bounded : Bounded limits) (first second work result 
         after = largeAsked limits first second;
         all = asks;
         all-is = refl;
-        early = pair-early c (questions 15 15 (the Second) ∷ []) refl limits (roomy limits (pictureSize limits) (length work) (length result)) first second;
+        early = pair-early c (questions 15 15 (the Second) ∷ []) refl limits
+            (roomy limits (pictureSize limits) (length work) (length result)) first second;
         late = asked-refuses (Late c) (leb (lcsCount limits first second) (limits .rows)) tooLarge
-            (late c tooLarge (inr (inr (inr (inl (omega arith, omega arith, refl))))) (omega arith) (omega arith) (omega arith));
+            (late c tooLarge (inr (inr (inr (inl (omega arith, omega arith, refl))))) (omega arith) (omega arith)
+            (omega arith));
         passes = (
           λ e. let (l, few) = decides .yes .0 e in (l .work-long, l .result-long, (l .pair, few)),
-          λ (enough, long, (pair, few)). decides .yes .1 (record { work-long = enough; result-long = long; pair = pair }, few),
+          λ (enough, long, (pair, few)). decides .yes .1
+              (record { work-long = enough; result-long = long; pair = pair }, few),
         );
         outcome-is = λ p. refl;
         in-range = λ (enough, long, (pair, few)). lcs-size limits first second few;
         small = λ (enough, long, (pair, few)). omega (arith, lcs-size limits first second few, bounded .0);
-        word-by = gives .word-is ∙ word-on commonWord common.Refused (λ r. refl) asks (common.Length (length (lcsFile limits first second))) _ refl;
+        word-by = gives .word-is ∙ word-on commonWord common.Refused (λ r. refl) asks
+            (common.Length (length (lcsFile limits first second))) _ refl;
         work-fits = λ e.
             let l = lent-decides limits first second (length work) (length result) .yes .0 e in
             omega (arith, l .work-long, length-tables limits first second (l .pair));
@@ -243,7 +267,8 @@ module _ (limits : Limits) (bounded : Bounded limits) (first second work result 
         result-by = gives .result-is;
       }
 
-module _ (limits : Limits) (bounded : Bounded limits) (first second evidence work : List ℕ) (word : ℕ) (left : List ℕ) where
+module _ (limits : Limits) (bounded : Bounded limits) (first second evidence work : List ℕ) (word : ℕ)
+    (left : List ℕ) where
   pub verify-shape : VerifyGives limits first second evidence work word left →
       Shape (verifyCall limits first second evidence) (buffers work []) (buffers left []) word
       (pick (mapForm ((pictureTable (normalFile limits second)) .rows) evidence) outcomeYes outcomeNo)
@@ -258,7 +283,8 @@ module _ (limits : Limits) (bounded : Bounded limits) (first second evidence wor
         after = evidenceAsked limits first second evidence;
         all = asks;
         all-is = refl;
-        early = pair-early c (questions 16 23 (the Evidence) ∷ []) refl limits (leb (workSize limits) (length work)) first second;
+        early = pair-early c (questions 16 23 (the Evidence) ∷ []) refl limits (leb (workSize limits) (length work))
+            first second;
         late = evidence-refuses (Late c)
             (λ n a b. late c (refusal n Evidence) (inr (inr (inr (inl (a, b, refl))))) (omega arith) b (omega arith))
             limits first second evidence;
@@ -272,7 +298,8 @@ module _ (limits : Limits) (bounded : Bounded limits) (first second evidence wor
         in-range = λ p. omega arith;
         small = λ p. omega arith;
         word-by = gives .word-is
-            ∙ word-on verifiedWord verified.Refused (λ r. refl) asks (evidenceKind limits second evidence) _ (kind-by (mapForm rows evidence));
+            ∙ word-on verifiedWord verified.Refused (λ r. refl) asks (evidenceKind limits second evidence) _
+            (kind-by (mapForm rows evidence));
         work-fits = λ e.
             let (enough, pair) = verifications.lent-decides limits first second (length work) .yes .0 e in
             omega (arith, enough, length-tables limits first second pair);
@@ -282,7 +309,8 @@ module _ (limits : Limits) (bounded : Bounded limits) (first second evidence wor
       }
     where
       no-map : (rows : ℕ) → refutationForm limits evidence ≡ true → mapForm rows evidence ≡ false
-      no-map rows form = by-test (mapForm rows evidence) (λ map. absurd (forms-apart limits rows evidence map form)) (λ none. none)
+      no-map rows form = by-test (mapForm rows evidence) (λ map. absurd (forms-apart limits rows evidence map form))
+          (λ none. none)
 
 -- ---- a case and a book
 
@@ -304,9 +332,12 @@ module _ (limits : Limits) (case book work : List ℕ) (word : ℕ) (left : List
             (asked-refuses (Early c) (leb (workSize limits) (length work)) shortBuffer
             (early c shortBuffer (inl (omega arith, omega arith, refl)) (omega arith) (omega arith)))
             (book-refuses limits case book (Early c)
-            (λ q a b. early c (refusal q First) (inr (inl (a, b, refl))) (omega arith) (omega arith))
-            (record { listed = inr (inr (inl (omega arith, omega arith, refl))); fits = (omega arith, omega arith) }, refl)
-            (λ k q l a b. early c (refusal q (Card k)) (inr (inr (inr (inl (a, b, (k, l, refl)))))) (omega arith) (omega (arith, l, count-most book))));
+            (λ q a b. early c (refusal q First) (inr (inl (a, b, refl))) (omega arith) (omega arith)) (
+              record { listed = inr (inr (inl (omega arith, omega arith, refl))); fits = (omega arith, omega arith) },
+              refl,
+            )
+            (λ k q l a b. early c (refusal q (Card k)) (inr (inr (inr (inl (a, b, (k, l, refl)))))) (omega arith)
+            (omega (arith, l, count-most book))));
         late = tt;
         passes = (
           λ e. let (enough, acceptable) = decides .yes .0 e in (enough, omega arith, acceptable),
@@ -315,8 +346,10 @@ module _ (limits : Limits) (case book work : List ℕ) (word : ℕ) (left : List
         outcome-is = λ p. refl;
         in-range = λ p. omega (arith, below);
         small = λ p. omega (arith, below);
-        word-by = gives .word-is ∙ word-on selectedWord selected.Refused (λ r. refl) asks (selected.Cards (mostSpecificCards limits case book)) _ refl;
-        work-fits = λ e. let (enough, acceptable) = decides .yes .0 e in omega (arith, enough, length-zeros (workSize limits));
+        word-by = gives .word-is ∙ word-on selectedWord selected.Refused (λ r. refl) asks
+            (selected.Cards (mostSpecificCards limits case book)) _ refl;
+        work-fits = λ e. let (enough, acceptable) = decides .yes .0 e in omega
+            (arith, enough, length-zeros (workSize limits));
         work-by = gives .buffer-is;
         result-fits = λ p. omega arith;
         result-by = not-lent asks;

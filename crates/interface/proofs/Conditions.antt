@@ -1,4 +1,5 @@
--- The customer's conditions hold (specs/Conditions): what every call answers, by its shape (Shapes, Answers), put together.
+-- The customer's conditions hold (specs/Conditions): what every call answers, by its shape (Shapes, Answers), put
+-- together.
 --   condition-1-words    condition 1
 --   condition-2-words    condition 2
 --   condition-3-words    condition 3, the writer's evidence by `writes-taken`
@@ -56,48 +57,60 @@ module _ (limits : Limits) (bounded : Bounded limits) where
   pub condition-1-words : Condition1Words limits
   condition-1-words = record {
     validate = λ picture. shape-answers _ _ _ _ _ (validate-shape limits bounded picture);
-    normalize = λ picture result word left gives. shape-answers _ _ _ _ _ (normalize-shape limits bounded picture result word left gives);
+    normalize = λ picture result word left gives. shape-answers _ _ _ _ _
+        (normalize-shape limits bounded picture result word left gives);
     subsumes = λ first second work result word workLeft left gives.
         shape-answers _ _ _ _ _ (subsumes-shape limits bounded first second work result word workLeft left gives);
     lcs = λ first second work result word workLeft left gives.
         shape-answers _ _ _ _ _ (lcs-shape limits bounded first second work result word workLeft left gives);
     verify = λ first second evidence work word left gives.
         shape-answers _ _ _ _ _ (verify-shape limits bounded first second evidence work word left gives);
-    most-specific = λ case book work word left gives. shape-answers _ _ _ _ _ (cards-shape limits case book work word left gives);
+    most-specific = λ case book work word left gives. shape-answers _ _ _ _ _
+        (cards-shape limits case book work word left gives);
   }
 
   -- ---- the verdict and the common picture
 
   module _ (first second work result : List ℕ) where
     verdict-answers : Answers (subsumesCall limits first second) (buffers work result)
-        (buffers (subsumesWork limits first second work (length result)) (subsumesResult limits first second (length work) result))
+        (buffers (subsumesWork limits first second work (length result))
+        (subsumesResult limits first second (length work) result))
         (verdict limits first second work result)
-    verdict-answers = condition-1-words .subsumes first second work result _ _ _ (record { word-is = refl; work-is = refl; result-is = refl })
+    verdict-answers = condition-1-words .subsumes first second work result _ _ _
+        (record { word-is = refl; work-is = refl; result-is = refl })
 
     common-answers : Answers (lcsCall limits first second) (buffers work result)
-        (buffers (lcsWork limits first second work (length result)) (lcsResult limits first second (length work) result))
+        (buffers (lcsWork limits first second work (length result))
+        (lcsResult limits first second (length work) result))
         (common limits first second work result)
-    common-answers = condition-1-words .lcs first second work result _ _ _ (record { word-is = refl; work-is = refl; result-is = refl })
+    common-answers = condition-1-words .lcs first second work result _ _ _
+        (record { word-is = refl; work-is = refl; result-is = refl })
 
-    pub common-shown : outcome (common limits first second work result) ≡ outcomeYes → Passes (lcsCall limits first second) (buffers work result)
+    pub common-shown : outcome (common limits first second work result) ≡ outcomeYes →
+        Passes (lcsCall limits first second) (buffers work result)
     common-shown h = result-shown _ _ _ _ common-answers (omega (arith, h)) .passes
 
     common-is : outcome (common limits first second work result) ≡ outcomeYes →
-        LeastCommon limits first second (value (common limits first second work result)) (pictureWritten limits first second work result)
+        LeastCommon limits first second (value (common limits first second work result))
+        (pictureWritten limits first second work result)
     common-is h =
         let g = result-shown _ _ _ _ common-answers (omega (arith, h)) in
         let (enough, long, (pair, few)) = g .passes in
         subst (λ l. LeastCommon limits first second (value (common limits first second work result)) l)
-        (sym (ap (λ (n : ℕ). take n (lcsResult limits first second (length work) result)) (g .value-is) ∙ g .leaves .result .holds))
-        (common-least limits bounded first second pair few (value (common limits first second work result)) (g .value-is))
+        (sym (ap (λ (n : ℕ). take n (lcsResult limits first second (length work) result)) (g .value-is)
+        ∙ g .leaves .result .holds))
+        (common-least limits bounded first second pair few (value (common limits first second work result))
+        (g .value-is))
 
   module _ (first second : List ℕ) (pair : Acceptable limits first second) where
     -- yes or no, and so covering or not
     module _ (work result : List ℕ) (long : Lengths limits (evidenceSize limits) work result) where
-      decided : EitherOutcome (Covers limits second first) (Covers limits second first → ⊥) (outcome (verdict limits first second work result))
+      decided : EitherOutcome (Covers limits second first) (Covers limits second first → ⊥)
+          (outcome (verdict limits first second work result))
       decided = result-when _ _ _ _ (verdict-answers first second work result) (long .0, long .1, pair) .outcome-is
 
-    large : (work result : List ℕ) → Lengths limits (pictureSize limits) work result → limits .rows < lcsCount limits first second →
+    large : (work result : List ℕ) → Lengths limits (pictureSize limits) work result →
+        limits .rows < lcsCount limits first second →
         common limits first second work result ≡ refused 15 Second
     unfolding lcsWord lcsAnswer
     large work result long many =
@@ -130,16 +143,19 @@ module _ (limits : Limits) (bounded : Bounded limits) where
   module _ (first second evidence work : List ℕ) where
     check-answers : Answers (verifyCall limits first second evidence) (buffers work [])
         (buffers (verifyWork limits first second work) []) (check limits first second evidence work)
-    check-answers = condition-1-words .verify first second evidence work _ _ (record { word-is = refl; buffer-is = refl })
+    check-answers = condition-1-words .verify first second evidence work _ _
+        (record { word-is = refl; buffer-is = refl })
 
     -- outcome 1 is given only to a map of an acceptable pair, 2 only to a refutation of one
-    pub map-shown : outcome (check limits first second evidence work) ≡ outcomeYes → Acceptable limits first second × MapOf limits first second evidence
+    pub map-shown : outcome (check limits first second evidence work) ≡ outcomeYes → Acceptable limits first second
+        × MapOf limits first second evidence
     map-shown h =
         let g = result-shown _ _ _ _ check-answers (omega (arith, h)) in
         let (enough, none, (pair, taken)) = g .passes in
         (pair, ⊎-elim (λ (o, m). m) (λ (o, r). absurd (omega (arith, h, o))) (g .outcome-is))
 
-    pub refutation-shown : outcome (check limits first second evidence work) ≡ outcomeNo → Acceptable limits first second × RefutationOf limits first second evidence
+    pub refutation-shown : outcome (check limits first second evidence work) ≡ outcomeNo →
+        Acceptable limits first second × RefutationOf limits first second evidence
     refutation-shown h =
         let g = result-shown _ _ _ _ check-answers (omega (arith, h)) in
         let (enough, none, (pair, taken)) = g .passes in
@@ -149,19 +165,22 @@ module _ (limits : Limits) (bounded : Bounded limits) where
     map-only h = let (pair, m) = map-shown h in map-covers limits first second evidence bounded pair m
 
     refutation-only : outcome (check limits first second evidence work) ≡ outcomeNo → Covers limits second first → ⊥
-    refutation-only h = let (pair, r) = refutation-shown h in refutation-fails limits first second evidence bounded pair r
+    refutation-only h = let (pair, r) = refutation-shown h in refutation-fails limits first second evidence bounded
+        pair r
 
     module _ (enough : workSize limits ≤ length work) (pair : Acceptable limits first second) where
       abbrev rows : ℕ
       rows = (pictureTable (normalFile limits second)) .rows
 
-      pub map-taken : MapOf limits first second evidence → check limits first second evidence work ≡ valueWord outcomeYes 0
+      pub map-taken : MapOf limits first second evidence → check limits first second evidence work
+          ≡ valueWord outcomeYes 0
       map-taken m =
           let g = result-when _ _ _ _ check-answers (enough, omega arith, (pair, inl m)) in
           ⊎-elim (λ (o, n). omega (arith, o, g .value-is, g .word-is))
           (λ (o, r). absurd (forms-apart limits rows evidence (m .form) (r .form))) (g .outcome-is)
 
-      pub refutation-taken : RefutationOf limits first second evidence → check limits first second evidence work ≡ valueWord outcomeNo 0
+      pub refutation-taken : RefutationOf limits first second evidence → check limits first second evidence work
+          ≡ valueWord outcomeNo 0
       refutation-taken r =
           let g = result-when _ _ _ _ check-answers (enough, omega arith, (pair, inr r)) in
           ⊎-elim (λ (o, m). absurd (forms-apart limits rows evidence (m .form) (r .form)))
@@ -174,17 +193,31 @@ module _ (limits : Limits) (bounded : Bounded limits) where
     -- our own evidence is taken
     yes-taken : verdictOf limits first second ≡ true → (work : List ℕ) → workSize limits ≤ length work →
         check limits first second evidence work ≡ valueWord outcomeYes 0
-    yes-taken e work enough = map-taken first second evidence work enough pair (yes-written limits first second bounded pair e)
+    yes-taken e work enough = map-taken first second evidence work enough pair
+        (yes-written limits first second bounded pair e)
 
     no-taken : verdictOf limits first second ≡ false → (work : List ℕ) → workSize limits ≤ length work →
         check limits first second evidence work ≡ valueWord outcomeNo 0
-    no-taken e work enough = refutation-taken first second evidence work enough pair (no-written limits first second bounded pair e)
+    no-taken e work enough = refutation-taken first second evidence work enough pair
+        (no-written limits first second bounded pair e)
 
-    some-yes : verdictOf limits first second ≡ true → (work : List ℕ) → workSize limits ≤ length work → Taken limits first second work outcomeYes
-    some-yes e work enough = (evidence, evidence-bytes limits first second bounded pair, ap outcome (yes-taken e work enough))
+    some-yes : verdictOf limits first second ≡ true → (work : List ℕ) → workSize limits ≤ length work →
+        Taken limits first second work outcomeYes
+    some-yes e work enough = (
+      evidence,
+      evidence-bytes limits first second bounded pair,
+      ap outcome
+          (yes-taken e work enough),
+    )
 
-    some-no : verdictOf limits first second ≡ false → (work : List ℕ) → workSize limits ≤ length work → Taken limits first second work outcomeNo
-    some-no e work enough = (evidence, evidence-bytes limits first second bounded pair, ap outcome (no-taken e work enough))
+    some-no : verdictOf limits first second ≡ false → (work : List ℕ) → workSize limits ≤ length work →
+        Taken limits first second work outcomeNo
+    some-no e work enough = (
+      evidence,
+      evidence-bytes limits first second bounded pair,
+      ap outcome
+          (no-taken e work enough),
+    )
 
     module _ (work result : List ℕ) (long : Lengths limits (evidenceSize limits) work result) where
       abbrev word : ℕ
@@ -196,7 +229,8 @@ module _ (limits : Limits) (bounded : Bounded limits) where
       is-written : (written ≡ evidence) × (value word ≡ length evidence)
       is-written =
           let g = result-when _ _ _ _ (verdict-answers first second work result) (long .0, long .1, pair) in (
-            ap (λ (n : ℕ). take n (subsumesResult limits first second (length work) result)) (g .value-is) ∙ g .leaves .result .holds,
+            ap (λ (n : ℕ). take n (subsumesResult limits first second (length work) result)) (g .value-is)
+                ∙ g .leaves .result .holds,
             g .value-is,
           )
 
@@ -209,9 +243,11 @@ module _ (limits : Limits) (bounded : Bounded limits) where
           let by-verdict = verdict-covers limits first second bounded pair in
           let by-no = verdict-fails limits first second bounded pair in
           let yes-form : outcome word ≡ outcomeYes → mapForm rows written ≡ true =
-          λ h. rw is (yes-written limits first second bounded pair (by-verdict .0 (c .verdict-yes work result long .0 h)) .form) in
+          λ h. rw is (yes-written limits first second bounded pair
+          (by-verdict .0 (c .verdict-yes work result long .0 h)) .form) in
           let no-form : outcome word ≡ outcomeNo → refutationForm limits written ≡ true =
-          λ h. rw is (no-written limits first second bounded pair (by-no .1 (c .verdict-no work result long .0 h)) .form) in
+          λ h. rw is (no-written limits first second bounded pair
+          (by-no .1 (c .verdict-no work result long .0 h)) .form) in
           let one = c .verdict-one work result long in
           record {
             bytes = rw is (evidence-bytes limits first second bounded pair);
@@ -225,11 +261,13 @@ module _ (limits : Limits) (bounded : Bounded limits) where
           }
 
     -- the word has the verdict and the evidence's length; the result buffer holds the evidence
-    pub writes-evidence : (e : List ℕ) → evidenceOf limits first second ≡ e → (v : Bool) → verdictOf limits first second ≡ v →
+    pub writes-evidence : (e : List ℕ) → evidenceOf limits first second ≡ e → (v : Bool) →
+        verdictOf limits first second ≡ v →
         WritesEvidence limits first second (pick v outcomeYes outcomeNo) e
     writes-evidence e is v decided work result enough long =
         let (told, space, left) = shape-given _ _ _ _ _
-        (subsumes-shape limits bounded first second work result _ _ _ (record { word-is = refl; work-is = refl; result-is = refl }))
+        (subsumes-shape limits bounded first second work result _ _ _
+        (record { word-is = refl; work-is = refl; result-is = refl }))
         (enough, long, pair) in (
           told ∙ ap (λ b. valueWord (pick b outcomeYes outcomeNo) (length evidence)) decided
               ∙ ap (λ (l : List ℕ). valueWord (pick v outcomeYes outcomeNo) (length l)) is,
@@ -246,7 +284,8 @@ module _ (limits : Limits) (bounded : Bounded limits) where
         λ (e, bytes, h). refutation-only first second e work h,
         λ u. some-no (verdict-fails limits first second bounded pair .1 u) work enough,
       );
-      one = λ work enough. by-test (verdictOf limits first second) (λ e. inl (some-yes e work enough)) (λ e. inr (some-no e work enough));
+      one = λ work enough. by-test (verdictOf limits first second) (λ e. inl (some-yes e work enough))
+          (λ e. inr (some-no e work enough));
       not-both = λ work (d, b, h) (e, c, k). refutation-only first second e work k (map-only first second d work h);
       writer = writes-taken;
     }
@@ -256,18 +295,21 @@ module _ (limits : Limits) (bounded : Bounded limits) where
   module _ (case book : List ℕ) where
     cards-answers : (work : List ℕ) → Answers (mostSpecificCall limits case book) (buffers work [])
         (buffers (mostSpecificWork limits case book work) []) (nearestCards limits case book work)
-    cards-answers work = condition-1-words .most-specific case book work _ _ (record { word-is = refl; buffer-is = refl })
+    cards-answers work = condition-1-words .most-specific case book work _ _
+        (record { word-is = refl; buffer-is = refl })
 
     pub nearest-words : NearestWords limits case book
     nearest-words = record {
       given-exactly = λ work. (
-        λ h. let (enough, none, acceptable) = result-shown _ _ _ _ (cards-answers work) (omega (arith, h)) .passes in (enough, acceptable),
+        λ h. let (enough, none, acceptable) = result-shown _ _ _ _ (cards-answers work) (omega (arith, h)) .passes in
+            (enough, acceptable),
         λ (enough, acceptable). result-when _ _ _ _ (cards-answers work) (enough, omega arith, acceptable) .outcome-is,
       );
       nearest = λ work h n.
           let g = result-shown _ _ _ _ (cards-answers work) (omega (arith, h)) in
           let (enough, none, acceptable) = g .passes in
-          subst (λ w. (has w n ≡ true) ↔ MostSpecific limits case book n) (sym (g .value-is)) (most-specific-exactly limits case book acceptable n);
+          subst (λ w. (has w n ≡ true) ↔ MostSpecific limits case book n) (sym (g .value-is))
+          (most-specific-exactly limits case book acceptable n);
     }
 
   pub conditions-bounded : Conditions limits

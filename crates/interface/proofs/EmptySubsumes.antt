@@ -121,7 +121,8 @@ module _ (first : List ℕ) (few : mergedCount benchLimits first ≤ maxRows) wh
 
     empty-taken : TakesEvidence benchLimits first empty outcomeYes k1-map
     empty-taken work enough =
-        map-taken benchLimits bench-bounded first empty k1-map work enough pair (record { form = empty-form; maps = empty-map })
+        map-taken benchLimits bench-bounded first empty k1-map work enough pair
+        (record { form = empty-form; maps = empty-map })
 
 -- whatever fits a picture fits the empty row
 empty-covers : (first : List ℕ) → Covers benchLimits empty first

@@ -1,5 +1,6 @@
--- What every call answers, by its questions, said once (specs/Answers: `Answers`): a call is its questions in order, those
--- that leave everything as it was lent and then those that leave the work space as a success does, and what is written.
+-- What every call answers, by its questions, said once (specs/Answers: `Answers`): a call is its questions in order,
+-- those that leave everything as it was lent and then those that leave the work space as a success does, and what is
+-- written.
 --   then-yes                       nothing asked after a question
 --   word-on                        the word of an answer, by its questions
 --   Fits                           a refusal whose number and card fit their parts of the word
@@ -106,7 +107,8 @@ module _ (c : Call) (lent left : Buffers) (word o : ℕ) (s : Shape c lent left 
   shape-given p =
       let e = s .passes .1 p in (
         s .word-by ∙ ap (λ a. onAsked refusalWord a (valueWord o (c .given))) e,
-        s .work-by ∙ ap (λ a. kept a (put (lent .work) 0 (c .bytes .work)) (lent .work)) (first (s .before) (s .after) (sym (s .all-is) ∙ e)),
+        s .work-by ∙ ap (λ a. kept a (put (lent .work) 0 (c .bytes .work)) (lent .work))
+            (first (s .before) (s .after) (sym (s .all-is) ∙ e)),
         s .result-by ∙ ap (λ a. kept a (put (lent .result) 0 (c .bytes .result)) (lent .result)) e,
       )
     where
@@ -115,7 +117,8 @@ module _ (c : Call) (lent left : Buffers) (word o : ℕ) (s : Shape c lent left 
       first (No r) b e = e
 
   -- the first no, which is `all`'s
-  refuses : (r : Refusal) → s .all ≡ No r → OnList c r → Leaves lent (refusalBytes (r .number) (c .bytes)) left → Answers c lent left word
+  refuses : (r : Refusal) → s .all ≡ No r → OnList c r → Leaves lent (refusalBytes (r .number) (c .bytes)) left →
+      Answers c lent left word
   refuses r e on leaves =
       let told : word ≡ refusalWord r = s .word-by ∙ ap (λ a. onAsked refusalWord a (valueWord o (c .given))) e in
       let (number, few) = on .fits in
@@ -141,7 +144,11 @@ module _ (c : Call) (lent left : Buffers) (word o : ℕ) (s : Shape c lent left 
       let is : s .all ≡ No r = s .all-is ∙ ap (λ q. andThen q (s .after)) e in
       let same = s .work-by ∙ ap (λ a. kept a (put (lent .work) 0 (c .bytes .work)) (lent .work)) e in
       refuses r is on
-      (rw early (record { work = filled-nothing (lent .work) (left .work) same; result = filled-nothing (lent .result) (left .result) (unwritten r is) }))
+      (rw early (record {
+        work = filled-nothing (lent .work) (left .work) same;
+        result = filled-nothing (lent .result)
+            (left .result) (unwritten r is);
+      }))
   by-questions Yes (No r) e f =
       let (on, late) = refuses-no (Late c) (s .after) (s .late) r f in
       let is : s .all ≡ No r = s .all-is ∙ ap (λ q. andThen q (s .after)) e ∙ f in

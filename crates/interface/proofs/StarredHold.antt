@@ -76,7 +76,8 @@ module _ (limits : Limits) (bounded : Bounded limits) (first second e : List ℕ
       )
 
 -- a normal table that is computed stands in any result buffer that is long enough
-shown-normal : (limits : Limits) → Bounded limits → (first table : List ℕ) → outcome (validateWord limits first) ≡ outcomeYes →
+shown-normal : (limits : Limits) → Bounded limits → (first table : List ℕ) → outcome (validateWord limits first)
+    ≡ outcomeYes →
     leb (mergedCount limits first) (limits .rows) ≡ true → normalFile limits first ≡ table →
     WritesNormal limits first table
 shown-normal limits bounded first table opened few is result long =
@@ -86,19 +87,25 @@ shown-normal limits bounded first table opened few is result long =
     (omega arith, long, (validate-readable limits first opened, small)) in
     (told ∙ ap (λ (e : List ℕ). valueWord outcomeYes (length e)) is, left ∙ ap (λ (e : List ℕ). put result 0 e) is)
 
--- a common picture that is given with buffers of the lengths laid down stands in any result buffer that is long enough, and
--- covers both
+-- a common picture that is given with buffers of the lengths laid down stands in any result buffer that is long enough,
+-- and covers both
 module _ (limits : Limits) (bounded : Bounded limits) (first second table : List ℕ)
     (is : lcsFile limits first second ≡ table) where
-  shown-common : outcome (common limits first second (zeros (workSize limits)) (zeros (pictureSize limits))) ≡ outcomeYes →
+  shown-common : outcome (common limits first second (zeros (workSize limits)) (zeros (pictureSize limits)))
+      ≡ outcomeYes →
       WritesCommon limits first second table × Covers limits table first × Covers limits table second
   shown-common told =
-      let (a, b, (pair, few)) = common-shown limits bounded first second (zeros (workSize limits)) (zeros (pictureSize limits)) told in (
+      let (a, b, (pair, few)) = common-shown limits bounded first second (zeros (workSize limits))
+      (zeros (pictureSize limits)) told in (
         λ work result enough long.
             let (told, space, left) = shape-given _ _ _ _ _
-            (lcs-shape limits bounded first second work result _ _ _ (record { word-is = refl; work-is = refl; result-is = refl }))
-            (enough, long, (pair, few)) in
-            (told ∙ ap (λ (e : List ℕ). valueWord outcomeYes (length e)) is, left ∙ ap (λ (e : List ℕ). put result 0 e) is),
+            (lcs-shape limits bounded first second work result _ _ _
+            (record { word-is = refl; work-is = refl; result-is = refl }))
+            (enough, long, (pair, few)) in (
+              told ∙ ap (λ (e : List ℕ). valueWord outcomeYes (length e)) is,
+              left
+                  ∙ ap (λ (e : List ℕ). put result 0 e) is,
+            ),
         subst (λ e. Covers limits e first) is (lcs-covers-first limits first second few bounded),
         subst (λ e. Covers limits e second) is (lcs-covers-second limits first second few bounded),
       )
@@ -139,7 +146,12 @@ starred-hold = (
                             (
                               (refl, refl, shown-normal benchLimits bench-bounded k12-first k12-normal refl refl refl),
                               (
-                                (refl, refl, shown-normal benchLimits bench-bounded k12-normal k12-normal-again refl refl refl),
+                                (
+                                  refl,
+                                  refl,
+                                  shown-normal benchLimits bench-bounded k12-normal k12-normal-again refl
+                                      refl refl,
+                                ),
                                 tt,
                               ),
                             ),

@@ -34,18 +34,30 @@ abbrev SmallCommon : Common → Type 0
 SmallCommon v = (n : ℕ) → v ≡ common.Length n → n < valueRange
 
 either-small : (v : Bool) (m : ℕ) → m < valueRange → SmallVerdict (pick v (verdict.Yes m) (verdict.No m))
-either-small true m l n = (λ e. let is : m ≡ n = cc in omega arith, λ e. absurd (let z : _≡_ {A = ℕ} 0 1 = cc in omega arith))
-either-small false m l n = (λ e. absurd (let z : _≡_ {A = ℕ} 0 1 = cc in omega arith), λ e. let is : m ≡ n = cc in omega arith)
+either-small true m l n = (
+  λ e. let is : m ≡ n = cc in omega arith,
+  λ e. absurd
+      (let z : _≡_ {A = ℕ} 0 1 = cc in omega arith),
+)
+either-small false m l n = (
+  λ e. absurd (let z : _≡_ {A = ℕ} 0 1 = cc in omega arith),
+  λ e. let is : m
+      ≡ n = cc in omega arith,
+)
 
 refused-small : (r : Refusal) → SmallVerdict (verdict.Refused r)
-refused-small r n =
-    (λ e. absurd (let z : _≡_ {A = ℕ} 0 1 = cc in omega arith), λ e. absurd (let z : _≡_ {A = ℕ} 0 1 = cc in omega arith))
+refused-small r n = (
+  λ e. absurd (let z : _≡_ {A = ℕ} 0 1 = cc in omega arith),
+  λ e. absurd
+      (let z : _≡_ {A = ℕ} 0 1 = cc in omega arith),
+)
 
 module _ (limits : Limits) (bounded : Bounded limits) (first second : List ℕ) (work result : ℕ) where
   pub verdict-small : SmallVerdict (subsumesAnswer limits first second work result)
   unfolding subsumesAnswer verdictAnswer
   verdict-small =
-      on-by verdict.Refused (verdictAnswer limits first second) SmallVerdict (subsumesAsked limits first second work result)
+      on-by verdict.Refused (verdictAnswer limits first second) SmallVerdict
+      (subsumesAsked limits first second work result)
       (λ all.
       let lent = two-decides limits first second (evidenceSize limits) work result .yes .0 all in
       either-small (verdictOf limits first second) (length (evidenceOf limits first second))
@@ -55,7 +67,8 @@ module _ (limits : Limits) (bounded : Bounded limits) (first second : List ℕ) 
   pub common-small : SmallCommon (lcsAnswer limits first second work result)
   unfolding lcsAnswer
   common-small =
-      on-by common.Refused (common.Length (length (lcsFile limits first second))) SmallCommon (lcsAsked limits first second work result)
+      on-by common.Refused (common.Length (length (lcsFile limits first second))) SmallCommon
+      (lcsAsked limits first second work result)
       (λ all n e.
       let (lent, few) = lcs-decides limits first second work result .yes .0 all in
       let is : length (lcsFile limits first second) ≡ n = cc in

@@ -11,8 +11,8 @@
 --
 --   Condition1Words                                condition 1, by what is laid down for each call (Answers)
 --   Lengths, verdict, common, check, nearestCards,
---   evidenceWritten, pictureWritten                buffers of the lengths laid down; the words with given buffers; what is
---                                                  written
+--   evidenceWritten, pictureWritten                buffers of the lengths laid down; the words with given buffers;
+--                                                  what is written
 --   Condition2Words                                condition 2
 --   Taken, WritesTaken, Condition3Words            condition 3 (its first sentence in `Conditions`)
 --   NearestWords                                   the nearest cards
@@ -164,9 +164,9 @@ pub record NearestWords (limits : Limits) (case book : List ℕ) : Type 0 where
 pub record Conditions (limits : Limits) : Type 0 where
   pub one : Condition1Words limits
   pub two : (first second : List ℕ) → Acceptable limits first second → Condition2Words limits first second
-  -- "3. Whatever bytes reach the check as evidence for two such pictures, from whatever writer, again with such buffers,
-  -- a map is taken only if the second covers the first, and a refutation only if it does not." So it is of any bytes in
-  -- the place of the pictures, and with any work space
+  -- "3. Whatever bytes reach the check as evidence for two such pictures, from whatever writer, again with such
+  -- buffers, a map is taken only if the second covers the first, and a refutation only if it does not." So it is of any
+  -- bytes in the place of the pictures, and with any work space
   pub three-map : (first second evidence work : List ℕ) →
       outcome (check limits first second evidence work) ≡ outcomeYes → Covers limits second first
   pub three-refutation : (first second evidence work : List ℕ) →

@@ -29,7 +29,8 @@ module _ (limits : Limits) (first second : List ℕ) (work result : ℕ) where
   pub lent-decides : Decides (lcsLent limits first second work result) lent LentNo
   lent-decides = two-decides limits first second (pictureSize limits) work result
 
-  pub lcs-decides : Decides (lcsAsked limits first second work result) (lent × (lcsCount limits first second ≤ limits .rows))
+  pub lcs-decides : Decides (lcsAsked limits first second work result)
+      (lent × (lcsCount limits first second ≤ limits .rows))
       (λ r. LentNo r ⊎ (lent × ((limits .rows < lcsCount limits first second) × (r ≡ tooLarge))))
   lcs-decides =
       and-decides (lcsLent limits first second work result) (largeAsked limits first second) lent-decides

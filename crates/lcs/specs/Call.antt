@@ -34,7 +34,8 @@ abbrev pub lcsLent : Limits → List ℕ → List ℕ → ℕ → ℕ → Asked
 lcsLent limits first second work result = lentAsked limits (roomy limits (pictureSize limits) work result) first second
 
 abbrev pub lcsAsked : Limits → List ℕ → List ℕ → ℕ → ℕ → Asked
-lcsAsked limits first second work result = andThen (lcsLent limits first second work result) (largeAsked limits first second)
+lcsAsked limits first second work result =
+    andThen (lcsLent limits first second work result) (largeAsked limits first second)
 
 unfoldable pub lcsAnswer : Limits → List ℕ → List ℕ → ℕ → ℕ → Common
 lcsAnswer limits first second work result =

@@ -1,8 +1,8 @@
 -- 003, Definition 2: what the common picture of two pictures has to be. It speaks of all concept descriptions, of which
 -- pictures, by rows and depth, are only some.
 --   DescriptionCovers   a concept covers a picture: `Covers` (meaning, specs/Covering) with any concept for the second
---   LeastCommon         a picture file of n bytes is the least common subsumer of two pictures, with a row for each node
---                       of the product
+--   LeastCommon         a picture file of n bytes is the least common subsumer of two pictures, with a row for each
+--                       node of the product
 use Prim.Native.Nat.{_≤_, ℕ}
 use lib.ListN.{length}
 use mathlib.Core.List.{List}

@@ -58,12 +58,15 @@ module _ (limits : Limits) (s t : List ℕ) (b : Builder) (scratch mid : List �
   file = commonFileIn limits s t
 
   pub made-many : (out : List ℕ) → limits .rows < b .rows →
-      (Refused tooLarge ≡ onAsked Refused (largeIn limits s t) (Length (length file))) × (out ≡ kept (largeIn limits s t) (put out 0 file) out)
+      (Refused tooLarge ≡ onAsked Refused (largeIn limits s t) (Length (length file)))
+      × (out ≡ kept (largeIn limits s t) (put out 0 file) out)
   unfolding largeIn
-  made-many out many = let e = lt-leb (size pictureSignature made) (limits .rows) (omega (arith, built .count)) in (rw e, rw e)
+  made-many out many = let e = lt-leb (size pictureSignature made) (limits .rows) (omega (arith, built .count)) in
+      (rw e, rw e)
 
   pub made-few : (n : ℕ) (out end : List ℕ) → b .rows ≤ limits .rows → n ≡ place (b .rows) endSize → end ≡ put out 0 (prefix (b .rows) mid ++ endBytes) →
-      (Length n ≡ onAsked Refused (largeIn limits s t) (Length (length file))) × (end ≡ kept (largeIn limits s t) (put out 0 file) out)
+      (Length n ≡ onAsked Refused (largeIn limits s t) (Length (length file)))
+      × (end ≡ kept (largeIn limits s t) (put out 0 file) out)
   unfolding largeIn commonFileIn
   made-few n out end few long written =
       let within : size pictureSignature made ≤ limits .rows = omega (arith, built .count) in
@@ -122,20 +125,25 @@ module _ (limits : Limits) (first second work result : List ℕ) where
   -- what the questions before 15 answer, a
   by-asked : (a : Asked) → lcsLent limits first second (length work) (length result) ≡ a →
       Gives (onAsked Refused (andThen a (largeAsked limits first second)) (Length (length file-of)))
-      (kept a (halvesPut limits first second work) work) (kept (andThen a (largeAsked limits first second)) (put result 0 file-of) result)
+      (kept a (halvesPut limits first second work) work) (kept (andThen a (largeAsked limits first second))
+      (put result 0 file-of) result)
   unfolding lcsAnswer
   by-asked a e = (rw e, (rw e, rw e))
 
   pub short-call : roomy limits (pictureSize limits) (length work) (length result) ≡ false → Gives (Refused shortBuffer) work result
-  short-call h = by-asked (No shortBuffer) (lent-short limits first second (roomy limits (pictureSize limits) (length work) (length result)) h)
+  short-call h = by-asked (No shortBuffer)
+      (lent-short limits first second (roomy limits (pictureSize limits) (length work) (length result)) h)
 
   -- a is what the questions of the pair answer, `space` what `prepare` has left
-  pub prepared-call : roomy limits (pictureSize limits) (length work) (length result) ≡ true → (a : Asked) (space : List ℕ) →
-      pairAsked limits first second ≡ a → space ≡ kept (pairAsked limits first second) (halvesPut limits first second work) work →
+  pub prepared-call : roomy limits (pictureSize limits) (length work) (length result) ≡ true →
+      (a : Asked) (space : List ℕ) →
+      pairAsked limits first second ≡ a → space ≡ kept (pairAsked limits first second)
+      (halvesPut limits first second work) work →
       Gives (onAsked Refused (andThen a (largeAsked limits first second)) (Length (length file-of))) space
       (kept (andThen a (largeAsked limits first second)) (put result 0 file-of) result)
   prepared-call h a space is written =
-      let (answer, (left, buffer)) = by-asked a (lent-pair limits first second (roomy limits (pictureSize limits) (length work) (length result)) h ∙ is) in
+      let (answer, (left, buffer)) = by-asked a
+      (lent-pair limits first second (roomy limits (pictureSize limits) (length work) (length result)) h ∙ is) in
       (answer, (written ∙ ap (λ q. kept q (halvesPut limits first second work) work) is ∙ left, buffer))
 
 -- ---- the parts of the work space that are the normal tables
@@ -158,7 +166,8 @@ module _ {limits : Limits} {first second s t : List ℕ} {pair : Pair} (bounded 
       (large-in limits first second bounded (tables .accepted)) in
       let is = on-tables tables (λ s t. commonFileIn limits s t ≡ lcsFile limits first second)
       (common-file-in limits first second bounded (tables .accepted)) in (
-        answers ∙ ap (λ a. AnswerOn a (commonFileIn limits s t)) asks ∙ ap (λ f. AnswerOn (largeAsked limits first second) f) is,
+        answers ∙ ap (λ a. AnswerOn a (commonFileIn limits s t)) asks
+            ∙ ap (λ f. AnswerOn (largeAsked limits first second) f) is,
         writes
             ∙ ap (λ a. kept a (put out 0 (commonFileIn limits s t)) out) asks
             ∙ ap (λ f. kept (largeAsked limits first second) (put out 0 f) out) is,

@@ -37,7 +37,8 @@ fn write_common(
     ensures { λ r. ⌜ (r ≡ onAsked Common.Refused (largeIn limits (now (first .entry)) (now (second .entry)))
         (Common.Length (length (commonFileIn limits (now (first .entry)) (now (second .entry))))))
         × (now (result .exit) ≡ kept (largeIn limits (now (first .entry)) (now (second .entry)))
-        (put (now (result .entry)) 0 (commonFileIn limits (now (first .entry)) (now (second .entry)))) (now (result .entry))) ⌝ }
+        (put (now (result .entry)) 0 (commonFileIn limits (now (first .entry)) (now (second .entry))))
+        (now (result .entry))) ⌝ }
 {
     let mut scratch = [0u8; SCRATCH];
     let table = build(first, n, second, m, limits, &mut scratch);

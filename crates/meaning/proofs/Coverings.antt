@@ -2,10 +2,10 @@
 --   covers-exactly   the test answers yes exactly if the second picture covers the first
 --   covers-not       and no exactly if it does not
 --   covers-fits      covering by 01's own words, "every individual fitting the first root fits the second", is the same
---   any-interpretation   a positive count and any tables for names and roles are an interpretation: what else the record
---                    asks, that roles respect their inclusion, asks nothing where inclusion is equality
---   nothing-cut      a readable picture has no row below the depth limit: its tree, and the rows that 14 counts, are the
---                    same at any greater depth
+--   any-interpretation   a positive count and any tables for names and roles are an interpretation: what else the
+--                    record asks, that roles respect their inclusion, asks nothing where inclusion is equality
+--   nothing-cut      a readable picture has no row below the depth limit: its tree, and the rows that 14 counts, are
+--                    the same at any greater depth
 use Prim.Native.Nat.{_+_, _<_, ℕ}
 use lib.Dec.{T, eqb→eq}
 use mathlib.Core.Bool.{Bool, false, false≢true, true}

@@ -1,7 +1,7 @@
 -- Laws of the second call at any limits: which answer is given for which picture and result buffer.
 --   merged-decides, merged-many,
 --   merged-refuses                   14 of a picture
---   Accepted                         the buffer is long enough, the picture readable, and its merged rows are few enough
+--   Accepted                         the buffer is long enough, the picture readable, and its merged rows are few
 --   OneNo                            the first no: the buffer is short; else a question from 2 to 13; else 14
 --   one-decides, one-refuses         the questions of the call: all yes exactly if accepted, the first no exactly that
 --   one-long, one-read               a long buffer leaves 2 to 13, and 14; and the reading, 14
@@ -81,18 +81,21 @@ module _ (limits : Limits) (s : List ℕ) (room : ℕ) where
       Refuses P (oneAsked limits s room)
   unfolding oneAsked
   one-refuses P short named =
-      and-refuses P (roomAsked (leb (pictureSize limits) room)) (andThen (readAsked limits First s) (mergedAsked limits First s))
+      and-refuses P (roomAsked (leb (pictureSize limits) room))
+      (andThen (readAsked limits First s) (mergedAsked limits First s))
       (asked-refuses P (leb (pictureSize limits) room) shortBuffer short)
       (and-refuses P (readAsked limits First s) (mergedAsked limits First s)
       (read-refuses P limits First s (λ q a b. named q a (omega arith)))
       (merged-refuses limits First s P (named 14 (omega arith) (omega arith))))
 
-  pub one-long : pictureSize limits ≤ room → oneAsked limits s room ≡ andThen (readAsked limits First s) (mergedAsked limits First s)
+  pub one-long : pictureSize limits ≤ room → oneAsked limits s room ≡ andThen (readAsked limits First s)
+      (mergedAsked limits First s)
   unfolding oneAsked
   one-long long = rw (le-leb (pictureSize limits) room long)
 
   -- after the reading
-  pub one-read : pictureSize limits ≤ room → (a : Asked) → readAsked limits First s ≡ a → oneAsked limits s room ≡ andThen a (mergedAsked limits First s)
+  pub one-read : pictureSize limits ≤ room → (a : Asked) → readAsked limits First s ≡ a → oneAsked limits s room
+      ≡ andThen a (mergedAsked limits First s)
   one-read long a e = one-long long ∙ ap (λ q. andThen q (mergedAsked limits First s)) e
 
   pub length-accepted : (n : ℕ) → normalizeAnswer limits s room ≡ Length n → Accepted × (n ≡ length (normalFile limits s))

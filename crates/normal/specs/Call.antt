@@ -1,5 +1,5 @@
--- 01, "Write its normal table and give its length in bytes (buffer 6,147)": the answer, and what the result buffer holds
--- then.
+-- 01, "Write its normal table and give its length in bytes (buffer 6,147)": the answer, and what the result buffer
+-- holds then.
 --   mergedAsked       14 of a picture
 --   oneAsked          1; 2 to 13; 14
 --   normalizeAnswer   the length of the normal table

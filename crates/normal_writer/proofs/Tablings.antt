@@ -92,9 +92,11 @@ module _ (limits : Limits) (s out : List ℕ) where
     pub rows-few : mergedCount limits s ≤ limits .rows → r ≡ size pictureSignature (normalTreeOf limits s)
     rows-few few = tabled .rows-are ∙ ap rowsOf (le-leb (mergedCount limits s) (limits .rows) few)
 
-    normal-checked : mergedCount limits s ≤ limits .rows → Checked (normalFile limits s) (size pictureSignature (normalTreeOf limits s))
+    normal-checked : mergedCount limits s ≤ limits .rows →
+        Checked (normalFile limits s) (size pictureSignature (normalTreeOf limits s))
     normal-checked few =
-        readable-checked limits (normalFile limits s) (size pictureSignature (normalTreeOf limits s)) (normal-reads limits s few bounded) bounded
+        readable-checked limits (normalFile limits s) (size pictureSignature (normalTreeOf limits s))
+        (normal-reads limits s few bounded) bounded
 
     pub none-many : r ≡ 0 → leb (mergedCount limits s) (limits .rows) ≡ false
     none-many none =

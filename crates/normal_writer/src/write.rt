@@ -1,4 +1,5 @@
-// Whole tables: the normal table of a picture, with its end field, at the start of a lent part; and a finished table in a half of the work space.
+// Whole tables: the normal table of a picture, with its end field, at the start of a lent part; and a finished table in
+// a half of the work space.
 use crate::grow::build;
 use table::layout::END_SIZE;
 use table::layout::Limits;

@@ -3,7 +3,7 @@
 --   Decides                       all yes exactly if .., and the first no is r exactly if ..
 --   said-so, yes-so               the same in other words; its first half
 --   asked-decides, test-decides   a question by its test; by a number that has a limit
---   and-decides, and-yes          a question and those after it: the first no is its own, or it is a yes and theirs comes
+--   and-decides, and-yes          a question and those after it: the first no is its own, or else theirs; its first half
 --   from-decides, from-yes        one question of each thing in turn; its first half;
 --   YesTo, yes-on, to-yes,
 --   yes-to, to-no                 as a loop asks
@@ -49,7 +49,8 @@ pub record Decides (a : Asked) (Y : Type 0) (N : Refusal → Type 0) : Type 0 wh
   pub yes : (a ≡ Yes) ↔ Y
   pub no : (r : Refusal) → (a ≡ No r) ↔ N r
 
-pub said-so : {Y Z : Type 0} {N M : Refusal → Type 0} (a : Asked) → Decides a Y N → Y ↔ Z → ((r : Refusal) → N r ↔ M r) → Decides a Z M
+pub said-so : {Y Z : Type 0} {N M : Refusal → Type 0} (a : Asked) → Decides a Y N → Y ↔ Z →
+    ((r : Refusal) → N r ↔ M r) → Decides a Z M
 said-so a d y n = record {
   yes = (λ e. y .0 (d .yes .0 e), λ z. d .yes .1 (y .1 z));
   no = λ r. (λ e. n r .0 (d .no r .0 e), λ m. d .no r .1 (n r .1 m));
@@ -77,7 +78,8 @@ test-decides n most q =
     (λ r. (λ (e, is). (leb-false n most e, is), λ (l, is). (lt-leb n most l, is)))
 
 module _ {Y Z : Type 0} {N M : Refusal → Type 0} where
-  pub and-decides : (a b : Asked) → Decides a Y N → (Y → Decides b Z M) → Decides (andThen a b) (Y × Z) (λ r. N r ⊎ (Y × M r))
+  pub and-decides : (a b : Asked) → Decides a Y N → (Y → Decides b Z M) →
+      Decides (andThen a b) (Y × Z) (λ r. N r ⊎ (Y × M r))
   and-decides Yes b d after =
       let y = d .yes .0 refl in
       let e = after y in
@@ -117,17 +119,34 @@ module _ (ask : ℕ → Asked) (Y : ℕ → Type 0) (N : ℕ → Refusal → Typ
       said-so (andThen (ask k) (askedFrom ask more (k + 1)))
       (and-decides (ask k) (askedFrom ask more (k + 1)) (d k (omega arith) (omega arith))
       (λ here. from-decides more (k + 1) (λ j a b. d j (omega arith) (omega arith)))) (
-        λ (here, rest) j a b. ⊎-elim (λ (z : k ≡ j). subst Y z here) (λ (l : k < j). rest j (omega arith) (omega arith)) (eq-or-lt-of-le a),
+        λ (here, rest) j a b. ⊎-elim (λ (z : k ≡ j). subst Y z here)
+            (λ (l : k < j). rest j (omega arith) (omega arith)) (eq-or-lt-of-le a),
         λ all. (all k (omega arith) (omega arith), λ j a b. all j (omega arith) (omega arith)),
       )
       (λ r. (
         ⊎-elim
             (λ n. (k, omega arith, omega arith, n, λ i a b. absurd (omega arith)))
-            (λ (here, (j, a, b, n, before)).
-            (j, omega arith, omega arith, n, λ i c e. ⊎-elim (λ (z : k ≡ i). subst Y z here) (λ (l : k < i). before i (omega arith) e) (eq-or-lt-of-le c))),
+            (λ (here, (j, a, b, n, before)). (
+              j,
+              omega arith,
+              omega arith,
+              n,
+              λ i c e. ⊎-elim (λ (z : k ≡ i). subst Y z here)
+                  (λ (l : k < i). before i (omega arith) e) (eq-or-lt-of-le c),
+            )),
         λ (j, a, b, n, before). ⊎-elim
             (λ (z : k ≡ j). inl (subst (λ i. N i r) (sym z) n))
-            (λ (l : k < j). inr (before k (omega arith) l, (j, omega arith, omega arith, n, λ i c e. before i (omega arith) e)))
+            (λ (l : k < j). inr (
+              before k (omega arith) l,
+              (
+                j,
+                omega arith,
+                omega arith,
+                n,
+                λ i c e. before i
+                    (omega arith) e,
+              ),
+            ))
             (eq-or-lt-of-le a),
       ))
 
@@ -137,7 +156,8 @@ pub from-yes : (ask : ℕ → Asked) (Y : ℕ → Type 0) → ((j : ℕ) → (as
 from-yes ask Y d more k =
     from-decides ask Y (λ j r. ask j ≡ No r) more k (λ j a b. record { yes = d j; no = λ r. (λ e. e, λ e. e) }) .yes
 
--- as a loop asks: it is answered yes of the things before number i, and so of one more; then of all, or i's is the first no
+-- as a loop asks: it is answered yes of the things before number i, and so of one more; then of all, or i's is the
+-- first no
 module _ (ask : ℕ → Asked) where
   abbrev pub YesTo : ℕ → Type 0
   YesTo i = (k : ℕ) → k < i → ask k ≡ Yes
@@ -176,8 +196,16 @@ module _ (limits : Limits) (input : Input) (s : List ℕ) where
     no = λ r. (λ h. absurd (clash r (sym h)), λ (q, f, is). absurd (let z : _≡_ {A = ℕ} 0 1 = cc in omega arith));
   }
   by-reading (reading.Failed q) e = record {
-    yes = (λ h. absurd (clash (refusal q input) h), λ h. let f = h .reads in absurd (let z : _≡_ {A = ℕ} 0 1 = cc in omega arith));
-    no = λ r. (λ h. (q, e, cc), λ (n, f, is). let same : reading.Failed n ≡ reading.Failed q = sym f ∙ e in ap No (let z : n ≡ q = cc in rw (← z) (sym is)));
+    yes = (
+      λ h. absurd (clash (refusal q input) h),
+      λ h. let f = h .reads in absurd
+          (let z : _≡_ {A = ℕ} 0 1 = cc in omega arith),
+    );
+    no = λ r. (
+      λ h. (q, e, cc),
+      λ (n, f, is). let same : reading.Failed n ≡ reading.Failed q = sym f
+          ∙ e in ap No (let z : n ≡ q = cc in rw (← z) (sym is)),
+    );
   }
 
   abbrev answerAsked : Answer → Asked
@@ -213,7 +241,8 @@ module _ {A : Type 0} (no : Refusal → A) (value : A) where
   pub on-no : (a : Asked) (r : Refusal) → a ≡ No r → onAsked no a value ≡ no r
   on-no a r e = rw e
 
-  pub on-by : (P : A → Type 0) (a : Asked) → (a ≡ Yes → P value) → ((r : Refusal) → a ≡ No r → P (no r)) → P (onAsked no a value)
+  pub on-by : (P : A → Type 0) (a : Asked) → (a ≡ Yes → P value) → ((r : Refusal) → a ≡ No r → P (no r)) →
+      P (onAsked no a value)
   on-by P Yes y n = y refl
   on-by P (No r) y n = n r refl
 
@@ -241,7 +270,8 @@ module _ (P : Refusal → Type 0) where
   and-refuses Yes b h k = k
   and-refuses (No r) b h k = h
 
-  pub from-refuses : (ask : ℕ → Asked) (more k : ℕ) → ((j : ℕ) → k ≤ j → j < k + more → Refuses (ask j)) → Refuses (askedFrom ask more k)
+  pub from-refuses : (ask : ℕ → Asked) (more k : ℕ) → ((j : ℕ) → k ≤ j → j < k + more → Refuses (ask j)) →
+      Refuses (askedFrom ask more k)
   unfolding askedFrom
   from-refuses ask zero k h = tt
   from-refuses ask (suc more) k h =

@@ -1,6 +1,6 @@
 -- 01, "Order: 1; first (or case); second, or 24 and the cards in turn; 14 for each in that order; then 15 or 16 to 23":
--- the questions of a call one after the other, all answered yes or the first that is answered no; what is answered then,
--- and what a buffer lent for writing holds.
+-- the questions of a call one after the other, all answered yes or the first that is answered no; what is answered
+-- then, and what a buffer lent for writing holds.
 --   asked       a question by its test, and what it refuses
 --   andThen     a question, and those after it
 --   askedFrom   one question of `more` things in turn, from number k on

@@ -29,40 +29,60 @@ use Rattle.workspace.specs.Prepare.{halvesPut, pairAsked}
 use Rattle.prepare_pair.specs.Tables.{bothMerged, tablesOf}
 
 module _ (limits : Limits) (first second : List ℕ) where
-  pub many-first : leb (mergedCount limits first) (limits .rows) ≡ false → bothMerged limits first second ≡ No (tooMany First)
+  pub many-first : leb (mergedCount limits first) (limits .rows) ≡ false → bothMerged limits first second
+      ≡ No (tooMany First)
   unfolding mergedAsked
   many-first e = rw e
 
   module _ (few : mergedCount limits first ≤ limits .rows) where
-    pub many-second : leb (mergedCount limits second) (limits .rows) ≡ false → bothMerged limits first second ≡ No (tooMany Second)
+    pub many-second : leb (mergedCount limits second) (limits .rows) ≡ false → bothMerged limits first second
+        ≡ No (tooMany Second)
     unfolding mergedAsked
     many-second e = rw (le-leb (mergedCount limits first) (limits .rows) few, e)
 
     pub both-few : mergedCount limits second ≤ limits .rows → bothMerged limits first second ≡ Yes
     unfolding mergedAsked
-    both-few few-second = rw (le-leb (mergedCount limits first) (limits .rows) few, le-leb (mergedCount limits second) (limits .rows) few-second)
+    both-few few-second = rw (
+      le-leb (mergedCount limits first) (limits .rows) few,
+      le-leb (mergedCount limits second)
+          (limits .rows) few-second,
+    )
 
   -- ---- after the readings
 
   module _ (n : ℕ) (read : answerOf limits First first ≡ answer.Rows n) where
-    pub pair-answers : (m : ℕ) → answerOf limits Second second ≡ answer.Rows m → pairAsked limits first second ≡ bothMerged limits first second
+    pub pair-answers : (m : ℕ) → answerOf limits Second second ≡ answer.Rows m → pairAsked limits first second
+        ≡ bothMerged limits first second
     unfolding pairAsked
     pair-answers m read-second = rw (rows-yes limits First first n read, rows-yes limits Second second m read-second)
 
-    pub refused-second : (r : Refusal) → answerOf limits Second second ≡ answer.Refused r → pairAsked limits first second ≡ No r
+    pub refused-second : (r : Refusal) → answerOf limits Second second ≡ answer.Refused r →
+        pairAsked limits first second ≡ No r
     unfolding pairAsked
-    refused-second r read-second = rw (rows-yes limits First first n read, refused-no limits Second second r read-second)
+    refused-second r read-second = rw (
+      rows-yes limits First first n read,
+      refused-no limits Second second r
+          read-second,
+    )
 
-  pub refused-first : (r : Refusal) → answerOf limits First first ≡ answer.Refused r → pairAsked limits first second ≡ No r
+  pub refused-first : (r : Refusal) → answerOf limits First first ≡ answer.Refused r → pairAsked limits first second
+      ≡ No r
   unfolding pairAsked
   refused-first r read = rw (refused-no limits First first r read)
 
-pub tabled-pair : {limits : Limits} {first second out out₂ end end₂ : List ℕ} {n m : ℕ} → Bounded limits → Tabled limits first out n end → Tabled limits second out₂ m end₂ →
-    mergedCount limits first ≤ limits .rows → mergedCount limits second ≤ limits .rows → record { first = n; second = m } ≡ tablesOf limits first second
+pub tabled-pair : {limits : Limits} {first second out out₂ end end₂ : List ℕ} {n m : ℕ} → Bounded limits →
+    Tabled limits first out n end → Tabled limits second out₂ m end₂ →
+    mergedCount limits first ≤ limits .rows → mergedCount limits second ≤ limits .rows →
+    record { first = n; second = m } ≡ tablesOf limits first second
 tabled-pair {limits} {first} {second} {out} {out₂} {end} {end₂} {n} {m} bounded tabled tabled-second few few-second =
-    rw (rows-few limits first out n end bounded tabled few, rows-few limits second out₂ m end₂ bounded tabled-second few-second)
+    rw (
+      rows-few limits first out n end bounded tabled few,
+      rows-few limits second out₂ m end₂ bounded tabled-second
+          few-second,
+    )
 
-pub halves-files : (limits : Limits) (first second t u work end : List ℕ) → t ≡ normalFile limits first → u ≡ normalFile limits second →
+pub halves-files : (limits : Limits) (first second t u work end : List ℕ) → t ≡ normalFile limits first →
+    u ≡ normalFile limits second →
     end ≡ put work 0 (halfOf limits t ++ halfOf limits u) → end ≡ halvesPut limits first second work
 unfolding halvesPut
 halves-files limits first second t u work end is is-second written = written ∙ rw (is, is-second)

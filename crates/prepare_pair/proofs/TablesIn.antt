@@ -70,10 +70,12 @@ module _ (limits : Limits) (first second work : List ℕ) (bounded : Bounded lim
 module _ (limits : Limits) (first second old : List ℕ) {work : List ℕ} {answer : Prepared} {pair : Pair}
     (bounded : Bounded limits) (enough : workSize limits ≤ length old)
     (is : answer ≡ onAsked Refused (pairAsked limits first second) (Tables (tablesOf limits first second)))
-    (written : work ≡ kept (pairAsked limits first second) (halvesPut limits first second old) old) (tables : answer ≡ Tables pair) where
+    (written : work ≡ kept (pairAsked limits first second) (halvesPut limits first second old) old)
+    (tables : answer ≡ Tables pair) where
   pub prepared-yes : (pairAsked limits first second ≡ Yes) × (Tables (tablesOf limits first second) ≡ Tables pair)
   prepared-yes =
-      given Refused (Tables (tablesOf limits first second)) (Tables pair) (λ r e. let z : _≡_ {A = ℕ} 0 1 = cc in omega arith)
+      given Refused (Tables (tablesOf limits first second)) (Tables pair)
+      (λ r e. let z : _≡_ {A = ℕ} 0 1 = cc in omega arith)
       (pairAsked limits first second) (sym is ∙ tables)
 
   accepted : Acceptable limits first second × (pair ≡ tablesOf limits first second)
@@ -82,7 +84,8 @@ module _ (limits : Limits) (first second old : List ℕ) {work : List ℕ} {answ
   -- what is true of both tables once they are written
   as-written : (P : Pair → List ℕ → Type 0) → P (tablesOf limits first second) (halvesPut limits first second old) → P pair work
   as-written P h =
-      let halves : work ≡ halvesPut limits first second old = written ∙ kept-yes (halvesPut limits first second old) old (pairAsked limits first second) (prepared-yes .0) in
+      let halves : work ≡ halvesPut limits first second old = written
+      ∙ kept-yes (halvesPut limits first second old) old (pairAsked limits first second) (prepared-yes .0) in
       subst (λ q. P q work) (sym (accepted .1)) (subst (λ w. P (tablesOf limits first second) w) (sym halves) h)
 
   pub prepared-in : TablesIn limits work pair
@@ -105,5 +108,6 @@ pub prepared-no : (limits : Limits) (first second : List ℕ) {answer : Prepared
     answer ≡ onAsked Refused (pairAsked limits first second) (Tables (tablesOf limits first second)) →
     (r : Refusal) → answer ≡ Refused r → pairAsked limits first second ≡ No r
 prepared-no limits first second is r refused =
-    refused-by Refused (Tables (tablesOf limits first second)) (λ q s e. cc) r (λ e. let z : _≡_ {A = ℕ} 0 1 = cc in omega arith)
+    refused-by Refused (Tables (tablesOf limits first second)) (λ q s e. cc) r
+    (λ e. let z : _≡_ {A = ℕ} 0 1 = cc in omega arith)
     (pairAsked limits first second) (sym is ∙ refused)

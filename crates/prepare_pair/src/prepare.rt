@@ -55,7 +55,8 @@ pub fn has_room(limits: Limits, size: usize, work: usize, result: usize) -> bool
 // A finished table into each half: the lower part of the work space is lent, then the upper one.
 fn write_halves(first: &[u8], second: &[u8], limits: Limits, work: &mut [u8])
     requires { ⌜ HalvesRoom limits (now first) (now second) (now work) ⌝ }
-    ensures { λ _. ⌜ now (work .exit) ≡ put (now (work .entry)) 0 (halfOf limits (now (first .entry)) ++ halfOf limits (now (second .entry))) ⌝ }
+    ensures { λ _. ⌜ now (work .exit) ≡ put (now (work .entry)) 0
+        (halfOf limits (now (first .entry)) ++ halfOf limits (now (second .entry))) ⌝ }
 {
     let half = half_size(limits);
     write_half(first, limits, &mut work[..half]);

@@ -150,14 +150,19 @@ module _ (limits : Limits) (first second work result : List ℕ) where
   by-asked a e = (rw e, (rw e, rw e))
 
   pub short-call : roomy limits (evidenceSize limits) (length work) (length result) ≡ false → Gives (Refused shortBuffer) work result
-  short-call h = by-asked (asked.No shortBuffer) (lent-short limits first second (roomy limits (evidenceSize limits) (length work) (length result)) h)
+  short-call h = by-asked (asked.No shortBuffer)
+      (lent-short limits first second (roomy limits (evidenceSize limits) (length work) (length result)) h)
 
   -- a is what the questions of the pair answer, `space` what `prepare` has left
-  pub prepared-call : roomy limits (evidenceSize limits) (length work) (length result) ≡ true → (a : Asked) (space : List ℕ) →
-      pairAsked limits first second ≡ a → space ≡ kept (pairAsked limits first second) (halvesPut limits first second work) work →
-      Gives (onAsked Refused a (verdictAnswer limits first second)) space (kept a (put result 0 (evidenceOf limits first second)) result)
+  pub prepared-call : roomy limits (evidenceSize limits) (length work) (length result) ≡ true →
+      (a : Asked) (space : List ℕ) →
+      pairAsked limits first second ≡ a → space ≡ kept (pairAsked limits first second)
+      (halvesPut limits first second work) work →
+      Gives (onAsked Refused a (verdictAnswer limits first second)) space
+      (kept a (put result 0 (evidenceOf limits first second)) result)
   prepared-call h a space is written =
-      let (answer, (left, buffer)) = by-asked a (lent-pair limits first second (roomy limits (evidenceSize limits) (length work) (length result)) h ∙ is) in
+      let (answer, (left, buffer)) = by-asked a
+      (lent-pair limits first second (roomy limits (evidenceSize limits) (length work) (length result)) h ∙ is) in
       (answer, (written ∙ ap (λ q. kept q (halvesPut limits first second work) work) is ∙ left, buffer))
 
 -- ---- the parts of the work space that are the normal tables

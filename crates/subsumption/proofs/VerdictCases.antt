@@ -176,5 +176,6 @@ cases =
 pub all-pass : runAll cases ≡ cases
 unfolding be beBytes rowOf endBytes put depthIn depth tagOk lengthFor kindOk roleOk parentOk valueField rowField endField fieldAt
     scanFrom readingOf readAsked rowCount mergedTree mergedCount normalTreeOf normalFile mergedAsked pairAsked lentAsked
-    covers verdictOf mapOf lowestMap mapFile refutationOf refutationFile individualBytes evidenceOf verdictAnswer subsumesAnswer
+    covers verdictOf mapOf lowestMap mapFile refutationOf refutationFile individualBytes evidenceOf verdictAnswer
+    subsumesAnswer
 all-pass = refl

@@ -3,7 +3,7 @@
 --   verdict-covers, verdict-fails    the verdict is yes exactly if the second covers the first (003, Theorem 41, and Table 1), else no
 --   map-written                      where it is yes, our file is a map of the two normal tables
 --   refutation-written               where it is no, our file is a refutation, whose individual 0 fits the first and not the second
---   yes-written, no-written          so the evidence is a map of the pair if the verdict is yes, else a refutation of it
+--   yes-written, no-written          so the evidence is a map of the pair if the verdict is yes, else a refutation
 --   map-size, refutation-size, evidence-size      it is never longer than the length laid down
 --   map-bytes, refutation-bytes, evidence-bytes   and it is bytes
 use Prim.Native.Nat.{_*_, _<_, _^_, _≤_, ℕ}
@@ -171,7 +171,8 @@ module _ (limits : Limits) (first second : List ℕ) (bounded : Bounded limits) 
   unfolding evidenceOf
   yes-written e = rw e (map-written e)
 
-  pub no-written : verdictOf limits first second ≡ false → RefutationOf limits first second (evidenceOf limits first second)
+  pub no-written : verdictOf limits first second ≡ false →
+      RefutationOf limits first second (evidenceOf limits first second)
   unfolding evidenceOf
   no-written e = rw e (refutation-written e)
 

@@ -18,7 +18,8 @@ use Rattle.subsumption.specs.declared.verdict.Verdict.the-variants.{No, 
 use Rattle.subsumption.specs.Verdict.{evidenceOf, evidenceSize, verdictOf}
 
 abbrev pub subsumesAsked : Limits → List ℕ → List ℕ → ℕ → ℕ → Asked
-subsumesAsked limits first second work result = lentAsked limits (roomy limits (evidenceSize limits) work result) first second
+subsumesAsked limits first second work result =
+    lentAsked limits (roomy limits (evidenceSize limits) work result) first second
 
 unfoldable pub verdictAnswer : Limits → List ℕ → List ℕ → Verdict
 verdictAnswer limits first second =

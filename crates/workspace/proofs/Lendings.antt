@@ -1,8 +1,8 @@
 -- Laws of the buffers that the calls on two pictures are lent, at any limits and any length named of the result buffer.
 --   room-no, room-yes,
---   room-both, room-long   1: one of the two buffers is too short, or both are long enough, or one is and the other decides
---   Lent, two-decides      the questions of a call that is lent a result buffer too: all yes exactly with room and of an
---                          acceptable pair; the first no
+--   room-both, room-long   1: one of the two buffers is too short, or both are long enough, or the other decides
+--   Lent, two-decides      the questions of a call that is lent a result buffer too: all yes exactly with room and of
+--                          an acceptable pair; the first no
 --   work-put               the work space where all is answered yes
 --   work-past, work-kept   bytes past the two halves keep their contents, whatever the answer; so does its length
 --   work-same              and its halves, where all is answered yes, do not depend on what stood there
@@ -58,7 +58,8 @@ module _ (limits : Limits) (first second : List ℕ) (size work result : ℕ) wh
   short-or-long : (b : Bool) → roomy limits size work result ≡ b → (b ≡ false) → TooShort limits size work result
   short-or-long b e none =
       by-test (leb (workSize limits) work)
-      (λ long. inr (leb-false size result (sym (room-long limits size work result (leb-true (workSize limits) work long)) ∙ e ∙ none)))
+      (λ long. inr (leb-false size result
+      (sym (room-long limits size work result (leb-true (workSize limits) work long)) ∙ e ∙ none)))
       (λ short. inl (leb-false (workSize limits) work short))
 
   pub two-decides : Decides (lentAsked limits (roomy limits size work result) first second) Lent
@@ -67,11 +68,13 @@ module _ (limits : Limits) (first second : List ℕ) (size work result : ℕ) wh
   two-decides =
       let room = roomy limits size work result in
       said-so (lentAsked limits room first second) (lent-decides limits first second room) (
-        λ (e, pair). let (enough, long) = room-both limits size work result e in record { work-long = enough; result-long = long; pair = pair },
+        λ (e, pair). let (enough, long) = room-both limits size work result e in record
+            { work-long = enough; result-long = long; pair = pair },
         λ l. (room-yes limits size work result (l .work-long) (l .result-long), l .pair),
       )
       (λ r. (
-        ⊎-elim (λ (e, is). inl (short-or-long room refl e, is)) (λ (e, one). inr (room-both limits size work result e, one)),
+        ⊎-elim (λ (e, is). inl (short-or-long room refl e, is))
+            (λ (e, one). inr (room-both limits size work result e, one)),
         ⊎-elim (λ (short, is). inl (room-no limits size work result short, is))
             (λ ((enough, long), one). inr (room-yes limits size work result enough long, one)),
       ))
@@ -82,14 +85,17 @@ module _ (limits : Limits) (first second : List ℕ) (size work result : ℕ) wh
 module _ (limits : Limits) (enough : Bool) (first second work : List ℕ) where
   pub work-past : (i : ℕ) → workSize limits ≤ i → getD (pairWork limits enough first second work) i 0 ≡ getD work i 0
   work-past i h =
-      kept-by (halvesPut limits first second work) work (λ l. getD l i 0 ≡ getD work i 0) (lentAsked limits enough first second) refl
+      kept-by (halvesPut limits first second work) work (λ l. getD l i 0 ≡ getD work i 0)
+      (lentAsked limits enough first second) refl
       (λ all.
       let (room, pair) = lent-decides limits first second enough .yes .0 all in
       halves-past limits first second work (pair .first-few) (pair .second-few) i h)
 
-  pub work-kept : (enough ≡ true → workSize limits ≤ length work) → length (pairWork limits enough first second work) ≡ length work
+  pub work-kept : (enough ≡ true → workSize limits ≤ length work) → length (pairWork limits enough first second work)
+      ≡ length work
   work-kept long =
-      kept-by (halvesPut limits first second work) work (λ l. length l ≡ length work) (lentAsked limits enough first second) refl
+      kept-by (halvesPut limits first second work) work (λ l. length l ≡ length work)
+      (lentAsked limits enough first second) refl
       (λ all.
       let (room, pair) = lent-decides limits first second enough .yes .0 all in
       length-halves limits first second work (pair .first-few) (pair .second-few) (long room))

@@ -45,9 +45,16 @@ module _ (limits : Limits) (first second : List ℕ) where
       said-so (andThen read (andThen read-second merged))
       (and-decides read (andThen read-second merged) (read-decides limits First first)
       (λ r. and-decides read-second merged (read-decides limits Second second)
-      (λ s. and-decides (mergedAsked limits First first) (mergedAsked limits Second second) (merged-decides limits First first)
+      (λ s. and-decides (mergedAsked limits First first) (mergedAsked limits Second second)
+      (merged-decides limits First first)
       (λ few. merged-decides limits Second second)))) (
-        λ (r, (s, (few, few-second))). record { first-readable = r; second-readable = s; first-few = few; second-few = few-second },
+        λ (r, (s, (few, few-second))). record {
+          first-readable = r;
+          second-readable = s;
+          first-few = few;
+          second-few =
+              few-second;
+        },
         λ a. (a .first-readable, (a .second-readable, (a .first-few, a .second-few))),
       )
       (λ r. (λ h. h, λ h. h))
@@ -59,14 +66,17 @@ module _ (limits : Limits) (first second : List ℕ) where
   yes-acceptable h = pair-decides .yes .0 h
 
   -- the numbers are 2 to 14, of the first and of the second
-  module _ (P : Refusal → Type 0) (named : (q : ℕ) → 2 ≤ q → q ≤ 14 → P (refusal q First)) (named-second : (q : ℕ) → 2 ≤ q → q ≤ 14 → P (refusal q Second)) where
+  module _ (P : Refusal → Type 0) (named : (q : ℕ) → 2 ≤ q → q ≤ 14 → P (refusal q First)) (named-second : (q : ℕ) →
+      2 ≤ q → q ≤ 14 → P (refusal q Second)) where
     pub pair-refuses : Refuses P (pairAsked limits first second)
     unfolding pairAsked
     pair-refuses =
         let read = readAsked limits First first in
         let read-second = readAsked limits Second second in
-        and-refuses P read (andThen read-second merged) (read-refuses P limits First first (λ q a b. named q a (omega arith)))
-        (and-refuses P read-second merged (read-refuses P limits Second second (λ q a b. named-second q a (omega arith)))
+        and-refuses P read (andThen read-second merged)
+        (read-refuses P limits First first (λ q a b. named q a (omega arith)))
+        (and-refuses P read-second merged
+        (read-refuses P limits Second second (λ q a b. named-second q a (omega arith)))
         (and-refuses P (mergedAsked limits First first) (mergedAsked limits Second second)
         (merged-refuses limits First first P (named 14 (omega arith) (omega arith)))
         (merged-refuses limits Second second P (named-second 14 (omega arith) (omega arith)))))
@@ -74,13 +84,15 @@ module _ (limits : Limits) (first second : List ℕ) where
     pub lent-refuses : P shortBuffer → (enough : Bool) → Refuses P (lentAsked limits enough first second)
     unfolding lentAsked
     lent-refuses short enough =
-        and-refuses P (roomAsked enough) (pairAsked limits first second) (asked-refuses P enough shortBuffer short) pair-refuses
+        and-refuses P (roomAsked enough) (pairAsked limits first second) (asked-refuses P enough shortBuffer short)
+        pair-refuses
 
   module _ (enough : Bool) where
     pub lent-decides : Decides (lentAsked limits enough first second) ((enough ≡ true) × Acceptable limits first second)
         (λ r. ((enough ≡ false) × (r ≡ shortBuffer)) ⊎ ((enough ≡ true) × PairNo r))
     unfolding lentAsked
-    lent-decides = and-decides (roomAsked enough) (pairAsked limits first second) (asked-decides enough shortBuffer) (λ e. pair-decides)
+    lent-decides = and-decides (roomAsked enough) (pairAsked limits first second) (asked-decides enough shortBuffer)
+        (λ e. pair-decides)
 
     pub lent-short : enough ≡ false → lentAsked limits enough first second ≡ No shortBuffer
     lent-short e = lent-decides .no shortBuffer .1 (inl (e, refl))

@@ -1,10 +1,11 @@
 -- 01, "Order: 1; first (or case); second, or 24 and the cards in turn; 14 for each in that order; then 15 or 16 to 23" and
 -- "All but the first two borrow a work space": what the calls on two pictures have in common.
---   Acceptable   "any two readable pictures, each at most 256 rows when merged": 2 to 13 and 14 are answered yes for both
+--   Acceptable   "any two readable pictures, each at most 256 rows when merged": 2 to 13 and 14 are answered yes for
+--                both
 --   pairAsked    first; second; 14 of each
 --   workSize     two halves, each as long as the longest picture
---   halvesPut    the first normal table from byte 0, the second from where the second half begins, the rest of each half
---                zero
+--   halvesPut    the first normal table from byte 0, the second from where the second half begins, the rest of each
+--                half zero
 use Prim.Native.Nat.{_+_, _≤_, ℕ}
 use mathlib.Core.List.{List, _++_}
 use Rattle.table.specs.Bounds.{pictureSize}

@@ -8,8 +8,10 @@ use Rattle.normal_writer.proofs.write.normal_table.Tie as tie
 
 build-requires : tie.Need-build-requires
 build-requires c κs =
-    let start = c .before .before .before in
-    (readable-rows (start .args .limits) (now (start .args .picture)) (start .pre .bounded) (start .pre .readable), (start .pre .bounded, omega (arith, start .pre .space)))
+    let start = c .before .before .before in (
+      readable-rows (start .args .limits) (now (start .args .picture)) (start .pre .bounded) (start .pre .readable),
+      (start .pre .bounded, omega (arith, start .pre .space)),
+    )
 
 same-length : tie.Need-same-length
 same-length c = search needs

@@ -25,7 +25,8 @@ returns c =
     let copied = c .before .before .before .before .before .before .before .copy-in in
     let end = c .before .before .before .place in
     let cleared = c .before .before .clear in
-    half-put (a .limits) (now (a .table)) (now (a .half)) (copied .last .0) (cleared .last .0) _ (end .result) refl (end .ensures) (start .pre .fits)
+    half-put (a .limits) (now (a .table)) (now (a .half)) (copied .last .0) (cleared .last .0) _ (end .result) refl
+    (end .ensures) (start .pre .fits)
     (start .pre .space) (copied .ensures) (cleared .ensures)
 
 pub write-half-spec : {M : Type 1} → statement M

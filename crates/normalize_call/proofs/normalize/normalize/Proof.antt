@@ -39,8 +39,16 @@ write-normal-requires c κs =
     let read = c .before .before .before .read in
     record {
       bounded = start .pre;
-      readable = record { rows = told .0 .0; reads = answer-reading (a .limits) (now (a .picture)) First (told .0 .0) (sym (read .ensures) ∙ told .1) };
-      space = omega (arith, c .before .before .before .before .if1 .left, c .before .before .before .before .before .place .ensures);
+      readable = record {
+        rows = told .0 .0;
+        reads = answer-reading (a .limits) (now (a .picture)) First (told .0 .0)
+            (sym (read .ensures) ∙ told .1);
+      };
+      space = omega (
+        arith,
+        c .before .before .before .before .if1 .left,
+        c .before .before .before .before .before .place .ensures,
+      );
     }
 
 enum-known-refusal : tie.Need-enum-known-refusal
@@ -69,7 +77,8 @@ returns-3 c =
     let read = c .before .before .before .read in
     let room = c .before .before .before .before .if1 .left in
     let at = c .before .before .before .before .before .place .ensures in
-    let asks = one-read (a .limits) (now (a .picture)) (length (now (a .result))) (omega (arith, room, at)) (No (refusal .0 .0))
+    let asks = one-read (a .limits) (now (a .picture)) (length (now (a .result))) (omega (arith, room, at))
+    (No (refusal .0 .0))
     (refused-no (a .limits) First (now (a .picture)) (refusal .0 .0) (sym (read .ensures) ∙ refusal .1)) in
     normal-by (a .limits) (now (a .picture)) (now (a .result)) (No (refusal .0 .0)) asks
 

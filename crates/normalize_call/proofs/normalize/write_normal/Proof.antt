@@ -29,13 +29,17 @@ too-many-requires c κs = search needs
 
 returns : tie.Need-returns
 returns c =
-    let many = none-many _ _ _ _ _ (c .before .before .before .before .before .before .before .pre .bounded) (c .before .before .before .normal-table .ensures) (c .before .if1 .taken) in
-    let no-is = merged-many (c .before .before .before .before .before .before .before .args .limits) First (now (c .before .before .before .before .before .before .before .args .picture)) many in
+    let many = none-many _ _ _ _ _ (c .before .before .before .before .before .before .before .pre .bounded)
+    (c .before .before .before .normal-table .ensures) (c .before .if1 .taken) in
+    let no-is = merged-many (c .before .before .before .before .before .before .before .args .limits) First
+    (now (c .before .before .before .before .before .before .before .args .picture)) many in
     rw (c .too-many .ensures) (sym (on-no Refused _ _ _ no-is), sym (kept-no _ _ _ _ no-is))
 
 -- where a row was given, 14 is answered yes, and the table is the normal file
-few : (c : tie.Else1) → let a = c .before .before .before .before .before .before .args in mergedCount (a .limits) (now (a .picture)) ≤ a .limits .rows
-few c = some-few _ _ _ _ _ (c .before .before .before .before .before .before .pre .bounded) (c .before .before .normal-table .ensures) (c .if1 .left)
+few : (c : tie.Else1) → let a = c .before .before .before .before .before .before .args in mergedCount (a .limits)
+    (now (a .picture)) ≤ a .limits .rows
+few c = some-few _ _ _ _ _ (c .before .before .before .before .before .before .pre .bounded)
+    (c .before .before .normal-table .ensures) (c .if1 .left)
 
 slice-aggregate-table-of : tie.Need-slice-aggregate-table-of
 slice-aggregate-table-of c = search needs
@@ -43,16 +47,24 @@ slice-aggregate-table-of c = search needs
 table-of-requires : tie.Need-table-of-requires
 table-of-requires c κs =
     let bounded = c .before .before .before .before .before .before .before .pre .bounded in
-    let there = tabled-there _ _ _ _ _ bounded (c .before .before .before .normal-table .ensures) (few (c .before)) (omega (arith, bounded .0)) in
+    let there = tabled-there _ _ _ _ _ bounded (c .before .before .before .normal-table .ensures) (few (c .before))
+    (omega (arith, bounded .0)) in
     (omega (arith, there .0), omega (arith, there .1))
 
-file : (c : tie.After-table-of) → let a = c .before .before .before .before .before .before .before .before .args in now (c .table-of .result) ≡ normalFile (a .limits) (now (a .picture))
+file : (c : tie.After-table-of) → let a = c .before .before .before .before .before .before .before .before .args in
+    now (c .table-of .result) ≡ normalFile (a .limits) (now (a .picture))
 file c = c .table-of .ensures ∙ c .before .before .before .before .normal-table .ensures .file (few (c .before .before))
 
 copy-in-requires : tie.Need-copy-in-requires
 copy-in-requires c κs =
     let start = c .before .before .before .before .before .before .before .before .before in
-    omega (arith, ap length (file (c .before)), normal-size (start .args .limits) (now (start .args .picture)) (few (c .before .before .before)), start .pre .space)
+    omega (
+      arith,
+      ap length (file (c .before)),
+      normal-size (start .args .limits) (now (start .args .picture))
+          (few (c .before .before .before)),
+      start .pre .space,
+    )
 
 same-length : tie.Need-same-length
 same-length c = search needs
@@ -61,9 +73,11 @@ returns-2 : tie.Need-returns-2
 returns-2 c =
     let a = c .before .before .before .before .before .before .before .before .before .before .before .before .args in
     let is = file (c .before .before .before .before) in
-    let all = merged-decides (a .limits) First (now (a .picture)) .yes .1 (few (c .before .before .before .before .before .before)) in (
+    let all = merged-decides (a .limits) First (now (a .picture)) .yes .1
+    (few (c .before .before .before .before .before .before)) in (
       ap (λ (l : List ℕ). Length (length l)) is ∙ sym (on-yes Refused _ _ all),
-      c .before .before .copy-in .ensures ∙ ap (λ (l : List ℕ). put (now (a .result)) 0 l) is ∙ sym (kept-yes _ _ _ all),
+      c .before .before .copy-in .ensures ∙ ap (λ (l : List ℕ). put (now (a .result)) 0 l) is
+          ∙ sym (kept-yes _ _ _ all),
     )
 
 pub write-normal-spec : {M : Type 1} → statement M

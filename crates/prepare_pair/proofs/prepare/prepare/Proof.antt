@@ -33,8 +33,16 @@ write-pair-requires c κs =
     let read-second = c .before .before .before .read2 .ensures in
     record {
       bounded = start .pre .0;
-      first-readable = record { rows = told .0 .0; reads = answer-reading (a .limits) (now (a .first)) First (told .0 .0) (sym read ∙ told .1) };
-      second-readable = record { rows = told-second .0 .0; reads = answer-reading (a .limits) (now (a .second)) Second (told-second .0 .0) (sym read-second ∙ told-second .1) };
+      first-readable = record {
+        rows = told .0 .0;
+        reads = answer-reading (a .limits) (now (a .first)) First
+            (told .0 .0) (sym read ∙ told .1);
+      };
+      second-readable = record {
+        rows = told-second .0 .0;
+        reads = answer-reading (a .limits) (now (a .second)) Second
+            (told-second .0 .0) (sym read-second ∙ told-second .1);
+      };
       space = start .pre .1;
     }
 
@@ -55,7 +63,8 @@ returns c =
     let read = c .before .before .before .before .before .before .before .before .before .read .ensures in
     let read-second = c .before .before .before .before .before .before .read2 .ensures in
     let done = c .before .before .write-pair .ensures in
-    let both = pair-answers (a .limits) (now (a .first)) (now (a .second)) (told .0 .0) (sym read ∙ told .1) (told-second .0 .0) (sym read-second ∙ told-second .1) in
+    let both = pair-answers (a .limits) (now (a .first)) (now (a .second)) (told .0 .0) (sym read ∙ told .1)
+    (told-second .0 .0) (sym read-second ∙ told-second .1) in
     rw both done
 
 returns-2 : tie.Need-returns-2
@@ -65,7 +74,8 @@ returns-2 c =
     let refusal = c .before .refusal .given in
     let read = c .before .before .before .before .before .before .read .ensures in
     let read-second = c .before .before .before .read2 .ensures in
-    let no-is = refused-second (a .limits) (now (a .first)) (now (a .second)) (told .0 .0) (sym read ∙ told .1) (refusal .0 .0) (sym read-second ∙ refusal .1) in
+    let no-is = refused-second (a .limits) (now (a .first)) (now (a .second)) (told .0 .0) (sym read ∙ told .1)
+    (refusal .0 .0) (sym read-second ∙ refusal .1) in
     (sym (on-no Refused _ _ _ no-is), sym (kept-no _ _ _ _ no-is))
 
 returns-3 : tie.Need-returns-3

@@ -52,8 +52,10 @@ returns c =
     let lower = c .before .before .before .before .before .before .write-half in
     let upper = c .before .before .write-half2 in
     let size-half = length-half (a .limits) (now (a .first)) (start .pre .first-fits) in
-    put-halves (half .result) (now (a .work)) (halfOf (a .limits) (now (a .first))) (halfOf (a .limits) (now (a .second))) (size-half ∙ sym (half .ensures))
-    (omega (arith, half .ensures, start .pre .space)) (lower .last .1 .1 .0) (upper .last .1 .1 .0) (lower .ensures) (upper .ensures)
+    put-halves (half .result) (now (a .work)) (halfOf (a .limits) (now (a .first)))
+    (halfOf (a .limits) (now (a .second))) (size-half ∙ sym (half .ensures))
+    (omega (arith, half .ensures, start .pre .space)) (lower .last .1 .1 .0) (upper .last .1 .1 .0) (lower .ensures)
+    (upper .ensures)
 
 pub write-halves-spec : {M : Type 1} → statement M
 write-halves-spec =
