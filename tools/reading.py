@@ -1,11 +1,13 @@
 #!/usr/bin/env python3
-"""Counts the lines of definitions in the files of docs/ARCHITECTURE.md's reading order, and writes the numbers there.
+"""Counts the lines of definitions in the files of docs/ARCHITECTURE.md's reading order, and writes the numbers there;
+and copies the definitions of its section on the order of the questions from the files named there.
 
     tools/reading.py [--check]
 
 Comments, imports and blank lines do not count. With --check nothing is written: the lines that would change are
 printed, and the exit status is 1 if there is one.
 """
+import difflib
 import os
 import re
 import sys
@@ -30,17 +32,27 @@ def row(line):
     return line.group(1) + '; '.join(part(*of.split(': ')) for of in line.group(2).split('; ')) + line.group(3)
 
 
+def copied(group):
+    """A file's name and its definitions, each as it stands in the file, to the next blank line."""
+    place, names = group.group(1), re.findall(r'(?m)^[a-z ]* (\w+) :', group.group(2))
+    with open(f'{ROOT}/crates/{place}.antt', encoding='utf8') as f:
+        text = f.read()
+    found = [re.search(rf'(?m)^[a-z ]* {name} :(?:.+\n)+', text).group() for name in names]
+    return f'-- {place}\n' + '\n'.join(found) + group.group(3)
+
+
 with open(PAGE, encoding='utf8') as f:
     page = f.read()
 before, title, rest = page.partition('## Reading order')
 order, rule, after = rest.partition('\n## ')
 order = re.sub(r'(?m)^(\| \d+ \| )([^|]*)( \| .*)$', row, order)
 order = re.sub(r'[\d,]+ files, [\d,]+ lines', f'{len(counts)} files, {sum(counts):,} lines', order)
-counted = before + title + order + rule + after
+screen, fence, after = after.partition('\n```\n\n')
+screen = re.sub(r'(?ms)^-- (\w+/specs/\w+)\n(.*?)(\n(?=-- )|\Z)', copied, screen + '\n')
+counted = before + title + order + rule + screen.rstrip('\n') + fence + after
 if '--check' in sys.argv:
-    for number, (old, new) in enumerate(zip(page.split('\n'), counted.split('\n')), 1):
-        if old != new:
-            print(f'docs/ARCHITECTURE.md:{number}: counted anew: {new}')
+    for line in difflib.unified_diff(page.split('\n'), counted.split('\n'), PAGE, 'as it is', n=0, lineterm=''):
+        print(line)
     sys.exit(page != counted or not counts)
 with open(PAGE, 'w', encoding='utf8') as f:
     f.write(counted)
