@@ -8,7 +8,7 @@ use mathlib.Core.List.{List}
 use mathlib.Core.Logic.{_⊎_, inl, inr}
 use mathlib.Core.Path.{_≡_, refl, subst, sym}
 use native.Mathlib.Omega.{arith}
-use Rattle.picture.proofs.Orders.{AllFrom, Decides, FirstFrom, Refuses, Unreadable, and-decides, and-refuses, asked-decides, asked-refuses, from-decides, from-refuses, read-decides, read-refuses, said-so}
+use Rattle.picture.proofs.Orders.{AllFrom, Decides, FirstFrom, EveryRefusal, Unreadable, and-decides, and-refuses, asked-decides, asked-refuses, from-decides, from-refuses, read-decides, read-refuses, said-so}
 use Rattle.picture.specs.Asked.{andThen, askedFrom, readAsked}
 use Rattle.picture.specs.Readable.{Readable}
 use Rattle.picture.specs.Refusal.{refusal, tooMany}
@@ -133,7 +133,7 @@ module _ (limits : Limits) (case book : List ℕ) where
   -- 2 to 14 of the case and of the cards, 24
   pub book-refuses : (P : Refusal → Type 0) → ((q : ℕ) → 2 ≤ q → q ≤ 14 → P (refusal q First)) → P noBook →
       ((k q : ℕ) → k < cardCount book → 2 ≤ q → q ≤ 14 → P (refusal q (Card k))) →
-      Refuses P (bookAsked limits case book)
+      EveryRefusal P (bookAsked limits case book)
   unfolding bookAsked
   book-refuses P named none card-named =
       let read = readAsked limits First case in

@@ -14,7 +14,7 @@ use Rattle.ale.specs.PictureSignature.{pictureSignature}
 use Rattle.ale.specs.RowMap.{edgeAgrees, labelAgrees}
 use Rattle.ale.specs.Table.{Table}
 use Rattle.ale.specs.Tree.{Tree}
-use Rattle.picture.proofs.Orders.{Refuses, and-refuses, asked-refuses, from-refuses}
+use Rattle.picture.proofs.Orders.{EveryRefusal, and-refuses, asked-refuses, from-refuses}
 use Rattle.picture.specs.Asked.{andThen, asked}
 use Rattle.picture.specs.declared.answer.Asked.{Asked}
 use Rattle.picture.specs.declared.answer.Refusal.{Refusal}
@@ -30,7 +30,7 @@ use Rattle.evidence.specs.Form.{mapForm}
 use Rattle.evidence.specs.Map.{mapAsked, refusalBy, rowAsked}
 
 module _ (P : Refusal → Type 0) (by : (n : ℕ) → 16 ≤ n → n ≤ 23 → P (refusalBy n)) where
-  row-refuses : (p q : Table pictureSignature) (im : ℕ → ℕ) (i : ℕ) → Refuses P (rowAsked p q im i)
+  row-refuses : (p q : Table pictureSignature) (im : ℕ → ℕ) (i : ℕ) → EveryRefusal P (rowAsked p q im i)
   unfolding rowAsked
   row-refuses p q im i =
       let within = ltb (im i) (p .rows) in
@@ -46,11 +46,11 @@ module _ (P : Refusal → Type 0) (by : (n : ℕ) → 16 ≤ n → n ≤ 23 → 
       (and-refuses P c d (asked-refuses P labelled (refusalBy 19) (by 19 (omega arith) (omega arith)))
       (asked-refuses P joined (refusalBy 20) (by 20 (omega arith) (omega arith)))))
 
-  map-refuses : (p q : Table pictureSignature) (im : ℕ → ℕ) → Refuses P (mapAsked p q im)
+  map-refuses : (p q : Table pictureSignature) (im : ℕ → ℕ) → EveryRefusal P (mapAsked p q im)
   unfolding mapAsked
   map-refuses p q im = from-refuses P (rowAsked p q im) (q .rows) 0 (λ i a b. row-refuses p q im i)
 
-  refutation-refuses : (t u : Tree pictureSignature) (e : List ℕ) → Refuses P (refutationAsked t u e)
+  refutation-refuses : (t u : Tree pictureSignature) (e : List ℕ) → EveryRefusal P (refutationAsked t u e)
   unfolding refutationAsked
   refutation-refuses t u e =
       let passing = each (individualOk e) (individualCount e) 0 in
@@ -63,12 +63,12 @@ module _ (P : Refusal → Type 0) (by : (n : ℕ) → 16 ≤ n → n ≤ 23 → 
       (and-refuses P b c (asked-refuses P fits (refusalBy 22) (by 22 (omega arith) (omega arith)))
       (asked-refuses P fails (refusalBy 23) (by 23 (omega arith) (omega arith))))
 
-  form-refuses : (m n : Asked) → Refuses P m → Refuses P n → (b : Bool) → Refuses P (pick b m n)
+  form-refuses : (m n : Asked) → EveryRefusal P m → EveryRefusal P n → (b : Bool) → EveryRefusal P (pick b m n)
   form-refuses m n h k true = h
   form-refuses m n h k false = k
 
   module _ (limits : Limits) (first second e : List ℕ) where
-    pub evidence-refuses : Refuses P (evidenceAsked limits first second e)
+    pub evidence-refuses : EveryRefusal P (evidenceAsked limits first second e)
     unfolding evidenceAsked checkAsked
     evidence-refuses =
         let p = pictureTable (normalFile limits first) in

@@ -1,7 +1,7 @@
 -- 01, "For such a pair the check answers": which evidence is taken, for arbitrary bytes, and what that shows of the two pictures.
 --   forms-apart         no file has both forms
 --   asked-map, asked-refutation             all is answered yes, by the form and the questions of it
---   Taken               16 to 23 are answered yes, and the evidence is of a kind
+--   TakenAs             16 to 23 are answered yes, and the evidence is of a kind
 --   map-taken           "map taken" exactly when the evidence is a map and 17 to 20 are answered yes
 --   refutation-taken    "refutation taken" exactly when it is a refutation and 21 to 23 are
 --   evidence-taken      so 16 to 23 are answered yes exactly of one or the other
@@ -125,8 +125,8 @@ module _ (p q : Table pictureSignature) (t u : Tree pictureSignature) (limits : 
 
 -- ---- what is taken
 
-abbrev pub Taken : Limits → List ℕ → List ℕ → List ℕ → Verified → Type 0
-Taken limits first second e kind = (evidenceAsked limits first second e ≡ Yes) × (evidenceKind limits second e ≡ kind)
+abbrev pub TakenAs : Limits → List ℕ → List ℕ → List ℕ → Verified → Type 0
+TakenAs limits first second e kind = (evidenceAsked limits first second e ≡ Yes) × (evidenceKind limits second e ≡ kind)
 
 module _ (limits : Limits) (first second e : List ℕ) (bounded : Bounded limits) (pair : Acceptable limits first second) where
   abbrev p : Table pictureSignature
@@ -135,7 +135,7 @@ module _ (limits : Limits) (first second e : List ℕ) (bounded : Bounded limits
   abbrev q : Table pictureSignature
   q = pictureTable (normalFile limits second)
 
-  pub map-taken : Taken limits first second e MapTaken ↔ MapOf limits first second e
+  pub map-taken : TakenAs limits first second e MapTaken ↔ MapOf limits first second e
   unfolding evidenceAsked
   map-taken =
       let (to, from) = asked-map p q (pictureTree limits first) (pictureTree limits second) limits e in (
@@ -148,7 +148,7 @@ module _ (limits : Limits) (first second e : List ℕ) (bounded : Bounded limits
         λ m. from (m .form, yes-map p q (imageOf e) (m .maps)),
       )
 
-  pub refutation-taken : Taken limits first second e RefutationTaken ↔ RefutationOf limits first second e
+  pub refutation-taken : TakenAs limits first second e RefutationTaken ↔ RefutationOf limits first second e
   unfolding evidenceAsked
   refutation-taken =
       let t = pictureTree limits first in

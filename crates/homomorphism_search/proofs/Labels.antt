@@ -13,7 +13,7 @@ use native.Mathlib.Nat.{mod-eq-of-lt}
 use Rattle.table.specs.Fields.{excludedOf, impossibleOf, wantedOf}
 use Rattle.table.specs.Layout.{nameCount}
 use Rattle.table.specs.NameSet.{subset}
-use Rattle.table.specs.Leaves.{setOf}
+use Rattle.table.specs.NameValues.{setOf}
 use Rattle.row_sets.specs.declared.label.Label.{Label}
 use Rattle.homomorphism_search.specs.Search.{RowLabel, labelCarried}
 

@@ -17,7 +17,7 @@ use Rattle.table.specs.Bounds.{Bounded, pictureSize}
 use Rattle.table.specs.Pick.{pick}
 use Rattle.table.specs.Put.{put, zeros}
 use Rattle.table.specs.declared.layout.Limits.{Limits}
-use Rattle.picture.proofs.Orders.{Refuses, and-refuses, asked-refuses, read-decides, read-refuses}
+use Rattle.picture.proofs.Orders.{EveryRefusal, and-refuses, asked-refuses, read-decides, read-refuses}
 use Rattle.picture.proofs.Readables.{readable-count, readable-most}
 use Rattle.picture.specs.Asked.{kept, onAsked, readAsked, readingAsked, roomAsked}
 use Rattle.picture.specs.Read.{answerOf, answered, readingOf}
@@ -107,6 +107,7 @@ validate-shape limits bounded picture =
       before = asks;
       after = Yes;
       all = asks;
+      asked-all = refl;
       all-is = then-yes asks;
       early = read-refuses (Early (validateCall limits picture)) limits First picture
           (λ q a b. early (validateCall limits picture) (refusal q First) (inl (a, b, refl)) (omega arith)
@@ -138,6 +139,7 @@ normalize-shape limits bounded picture result word left gives =
       before = asks;
       after = Yes;
       all = asks;
+      asked-all = refl;
       all-is = then-yes asks;
       early = one-refuses limits picture (length result) (Early c)
           (early c shortBuffer (inl (omega arith, omega arith, refl)) (omega arith) (omega arith))
@@ -170,7 +172,7 @@ length-tables limits first second pair =
 -- their lines are the first three of the list
 pair-early : (c : Call) (more : List Line) →
     c .refusals ≡ questions 1 1 (the Buffer) ∷ questions 2 14 (the First) ∷ questions 2 14 (the Second) ∷ more →
-    (limits : Limits) (enough : Bool) (first second : List ℕ) → Refuses (Early c) (lentAsked limits enough first second)
+    (limits : Limits) (enough : Bool) (first second : List ℕ) → EveryRefusal (Early c) (lentAsked limits enough first second)
 pair-early c more list limits enough first second =
     lent-refuses limits first second (Early c)
     (λ q a b. early c (refusal q First) (subst (λ l. Listed l q First) (sym list) (inr (inl (a, b, refl))))
@@ -205,6 +207,7 @@ module _ (limits : Limits) (bounded : Bounded limits) (first second work result 
         before = asks;
         after = Yes;
         all = asks;
+        asked-all = refl;
         all-is = then-yes asks;
         early = pair-early (subsumesCall limits first second) [] refl limits
             (roomy limits (evidenceSize limits) (length work) (length result)) first second;
@@ -243,6 +246,7 @@ module _ (limits : Limits) (bounded : Bounded limits) (first second work result 
         before = lcsLent limits first second (length work) (length result);
         after = largeAsked limits first second;
         all = asks;
+        asked-all = refl;
         all-is = refl;
         early = pair-early c (questions 15 15 (the Second) ∷ []) refl limits
             (roomy limits (pictureSize limits) (length work) (length result)) first second;
@@ -282,6 +286,7 @@ module _ (limits : Limits) (bounded : Bounded limits) (first second evidence wor
         before = verifyLent limits first second (length work);
         after = evidenceAsked limits first second evidence;
         all = asks;
+        asked-all = refl;
         all-is = refl;
         early = pair-early c (questions 16 23 (the Evidence) ∷ []) refl limits (leb (workSize limits) (length work))
             first second;
@@ -327,6 +332,7 @@ module _ (limits : Limits) (case book work : List ℕ) (word : ℕ) (left : List
         before = asks;
         after = Yes;
         all = asks;
+        asked-all = refl;
         all-is = then-yes asks;
         early = and-refuses (Early c) (roomAsked (leb (workSize limits) (length work))) (bookAsked limits case book)
             (asked-refuses (Early c) (leb (workSize limits) (length work)) shortBuffer

@@ -3,7 +3,7 @@
 --   condition-1-words    condition 1
 --   condition-2-words    condition 2
 --   condition-3-words    condition 3, the writer's evidence by `writes-taken`
---   nearest-words        the nearest cards
+--   most-specific-words        the nearest cards
 --   conditions-bounded   all of them, at any limits that the code can hold
 --   conditions-hold      at paper 01's, with its numbers
 use Prim.Native.Nat.{_<_, _≤_, ℕ}
@@ -46,7 +46,7 @@ use Rattle.book.specs.Call.{mostSpecificWork}
 use Rattle.book.specs.Selection.{MostSpecific}
 use Rattle.interface.specs.Answers.{Answers, EitherOutcome, Passes, buffers, lcsCall, mostSpecificCall, subsumesCall, verifyCall}
 use Rattle.interface.specs.Calls.{lcsWord}
-use Rattle.interface.specs.Conditions.{Condition1Words, Condition2Words, Condition3Words, Conditions, Lengths, NearestWords, PaperNumbers, Taken, WritesTaken, check, common, evidenceWritten, nearestCards, pictureWritten, verdict}
+use Rattle.interface.specs.Conditions.{Condition1Words, Condition2Words, Condition3Words, Conditions, Lengths, MostSpecificWords, PaperNumbers, Taken, WritesTaken, checkGiven, commonGiven, evidenceWritten, mostSpecificGiven, pictureWritten, verdictGiven}
 use Rattle.interface.specs.StarredClaims.{WritesEvidence}
 use Rattle.interface.specs.Word.{commonWord, outcome, outcomeNo, outcomeYes, refused, value, valueWord}
 use Rattle.interface.proofs.Answers.{cards-shape, lcs-shape, normalize-shape, subsumes-shape, validate-shape, verify-shape}
@@ -75,43 +75,43 @@ module _ (limits : Limits) (bounded : Bounded limits) where
     verdict-answers : Answers (subsumesCall limits first second) (buffers work result)
         (buffers (subsumesWork limits first second work (length result))
         (subsumesResult limits first second (length work) result))
-        (verdict limits first second work result)
+        (verdictGiven limits first second work result)
     verdict-answers = condition-1-words .subsumes first second work result _ _ _
         (record { word-is = refl; work-is = refl; result-is = refl })
 
     common-answers : Answers (lcsCall limits first second) (buffers work result)
         (buffers (lcsWork limits first second work (length result))
         (lcsResult limits first second (length work) result))
-        (common limits first second work result)
+        (commonGiven limits first second work result)
     common-answers = condition-1-words .lcs first second work result _ _ _
         (record { word-is = refl; work-is = refl; result-is = refl })
 
-    pub common-shown : outcome (common limits first second work result) ≡ outcomeYes →
+    pub common-shown : outcome (commonGiven limits first second work result) ≡ outcomeYes →
         Passes (lcsCall limits first second) (buffers work result)
     common-shown h = result-shown _ _ _ _ common-answers (omega (arith, h)) .passes
 
-    common-is : outcome (common limits first second work result) ≡ outcomeYes →
-        LeastCommon limits first second (value (common limits first second work result))
+    common-is : outcome (commonGiven limits first second work result) ≡ outcomeYes →
+        LeastCommon limits first second (value (commonGiven limits first second work result))
         (pictureWritten limits first second work result)
     common-is h =
         let g = result-shown _ _ _ _ common-answers (omega (arith, h)) in
         let (enough, long, (pair, few)) = g .passes in
-        subst (λ l. LeastCommon limits first second (value (common limits first second work result)) l)
+        subst (λ l. LeastCommon limits first second (value (commonGiven limits first second work result)) l)
         (sym (ap (λ (n : ℕ). take n (lcsResult limits first second (length work) result)) (g .value-is)
         ∙ g .leaves .result .holds))
-        (common-least limits bounded first second pair few (value (common limits first second work result))
+        (common-least limits bounded first second pair few (value (commonGiven limits first second work result))
         (g .value-is))
 
   module _ (first second : List ℕ) (pair : Acceptable limits first second) where
     -- yes or no, and so covering or not
     module _ (work result : List ℕ) (long : Lengths limits (evidenceSize limits) work result) where
       decided : EitherOutcome (Covers limits second first) (Covers limits second first → ⊥)
-          (outcome (verdict limits first second work result))
+          (outcome (verdictGiven limits first second work result))
       decided = result-when _ _ _ _ (verdict-answers first second work result) (long .0, long .1, pair) .outcome-is
 
     large : (work result : List ℕ) → Lengths limits (pictureSize limits) work result →
         limits .rows < lcsCount limits first second →
-        common limits first second work result ≡ refused 15 Second
+        commonGiven limits first second work result ≡ refused 15 Second
     unfolding lcsWord lcsAnswer
     large work result long many =
         ap (λ a. commonWord (onAsked Refused a (Length (length (lcsFile limits first second)))))
@@ -142,29 +142,29 @@ module _ (limits : Limits) (bounded : Bounded limits) where
 
   module _ (first second evidence work : List ℕ) where
     check-answers : Answers (verifyCall limits first second evidence) (buffers work [])
-        (buffers (verifyWork limits first second work) []) (check limits first second evidence work)
+        (buffers (verifyWork limits first second work) []) (checkGiven limits first second evidence work)
     check-answers = condition-1-words .verify first second evidence work _ _
         (record { word-is = refl; buffer-is = refl })
 
     -- outcome 1 is given only to a map of an acceptable pair, 2 only to a refutation of one
-    pub map-shown : outcome (check limits first second evidence work) ≡ outcomeYes → Acceptable limits first second
+    pub map-shown : outcome (checkGiven limits first second evidence work) ≡ outcomeYes → Acceptable limits first second
         × MapOf limits first second evidence
     map-shown h =
         let g = result-shown _ _ _ _ check-answers (omega (arith, h)) in
         let (enough, none, (pair, taken)) = g .passes in
         (pair, ⊎-elim (λ (o, m). m) (λ (o, r). absurd (omega (arith, h, o))) (g .outcome-is))
 
-    pub refutation-shown : outcome (check limits first second evidence work) ≡ outcomeNo →
+    pub refutation-shown : outcome (checkGiven limits first second evidence work) ≡ outcomeNo →
         Acceptable limits first second × RefutationOf limits first second evidence
     refutation-shown h =
         let g = result-shown _ _ _ _ check-answers (omega (arith, h)) in
         let (enough, none, (pair, taken)) = g .passes in
         (pair, ⊎-elim (λ (o, m). absurd (omega (arith, h, o))) (λ (o, r). r) (g .outcome-is))
 
-    map-only : outcome (check limits first second evidence work) ≡ outcomeYes → Covers limits second first
+    map-only : outcome (checkGiven limits first second evidence work) ≡ outcomeYes → Covers limits second first
     map-only h = let (pair, m) = map-shown h in map-covers limits first second evidence bounded pair m
 
-    refutation-only : outcome (check limits first second evidence work) ≡ outcomeNo → Covers limits second first → ⊥
+    refutation-only : outcome (checkGiven limits first second evidence work) ≡ outcomeNo → Covers limits second first → ⊥
     refutation-only h = let (pair, r) = refutation-shown h in refutation-fails limits first second evidence bounded
         pair r
 
@@ -172,16 +172,16 @@ module _ (limits : Limits) (bounded : Bounded limits) where
       abbrev rows : ℕ
       rows = (pictureTable (normalFile limits second)) .rows
 
-      pub map-taken : MapOf limits first second evidence → check limits first second evidence work
+      pub check-map : MapOf limits first second evidence → checkGiven limits first second evidence work
           ≡ valueWord outcomeYes 0
-      map-taken m =
+      check-map m =
           let g = result-when _ _ _ _ check-answers (enough, omega arith, (pair, inl m)) in
           ⊎-elim (λ (o, n). omega (arith, o, g .value-is, g .word-is))
           (λ (o, r). absurd (forms-apart limits rows evidence (m .form) (r .form))) (g .outcome-is)
 
-      pub refutation-taken : RefutationOf limits first second evidence → check limits first second evidence work
+      pub check-refutation : RefutationOf limits first second evidence → checkGiven limits first second evidence work
           ≡ valueWord outcomeNo 0
-      refutation-taken r =
+      check-refutation r =
           let g = result-when _ _ _ _ check-answers (enough, omega arith, (pair, inr r)) in
           ⊎-elim (λ (o, m). absurd (forms-apart limits rows evidence (m .form) (r .form)))
           (λ (o, n). omega (arith, o, g .value-is, g .word-is)) (g .outcome-is)
@@ -192,13 +192,13 @@ module _ (limits : Limits) (bounded : Bounded limits) where
 
     -- our own evidence is taken
     yes-taken : verdictOf limits first second ≡ true → (work : List ℕ) → workSize limits ≤ length work →
-        check limits first second evidence work ≡ valueWord outcomeYes 0
-    yes-taken e work enough = map-taken first second evidence work enough pair
+        checkGiven limits first second evidence work ≡ valueWord outcomeYes 0
+    yes-taken e work enough = check-map first second evidence work enough pair
         (yes-written limits first second bounded pair e)
 
     no-taken : verdictOf limits first second ≡ false → (work : List ℕ) → workSize limits ≤ length work →
-        check limits first second evidence work ≡ valueWord outcomeNo 0
-    no-taken e work enough = refutation-taken first second evidence work enough pair
+        checkGiven limits first second evidence work ≡ valueWord outcomeNo 0
+    no-taken e work enough = check-refutation first second evidence work enough pair
         (no-written limits first second bounded pair e)
 
     some-yes : verdictOf limits first second ≡ true → (work : List ℕ) → workSize limits ≤ length work →
@@ -221,7 +221,7 @@ module _ (limits : Limits) (bounded : Bounded limits) where
 
     module _ (work result : List ℕ) (long : Lengths limits (evidenceSize limits) work result) where
       abbrev word : ℕ
-      word = verdict limits first second work result
+      word = verdictGiven limits first second work result
 
       abbrev written : List ℕ
       written = evidenceWritten limits first second work result
@@ -294,12 +294,12 @@ module _ (limits : Limits) (bounded : Bounded limits) where
 
   module _ (case book : List ℕ) where
     cards-answers : (work : List ℕ) → Answers (mostSpecificCall limits case book) (buffers work [])
-        (buffers (mostSpecificWork limits case book work) []) (nearestCards limits case book work)
+        (buffers (mostSpecificWork limits case book work) []) (mostSpecificGiven limits case book work)
     cards-answers work = condition-1-words .most-specific case book work _ _
         (record { word-is = refl; buffer-is = refl })
 
-    pub nearest-words : NearestWords limits case book
-    nearest-words = record {
+    pub most-specific-words : MostSpecificWords limits case book
+    most-specific-words = record {
       given-exactly = λ work. (
         λ h. let (enough, none, acceptable) = result-shown _ _ _ _ (cards-answers work) (omega (arith, h)) .passes in
             (enough, acceptable),
@@ -319,7 +319,7 @@ module _ (limits : Limits) (bounded : Bounded limits) where
     three-map = map-only;
     three-refutation = refutation-only;
     three = condition-3-words;
-    cards = nearest-words;
+    cards = most-specific-words;
   }
 
 pub conditions-hold : Conditions benchLimits × PaperNumbers benchLimits

@@ -21,7 +21,7 @@ use mathlib.Core.Path.{_∙_, _≡_, ap, refl, subst, sym}
 use native.Mathlib.Omega.{arith}
 use Rattle.table.proofs.Puts.{length-put, put-after}
 use Rattle.table.specs.Put.{put}
-use Rattle.picture.proofs.Orders.{Refuses, refuses-no}
+use Rattle.picture.proofs.Orders.{EveryRefusal, refuses-no}
 use Rattle.picture.specs.Asked.{andThen, kept, onAsked}
 use Rattle.picture.specs.declared.answer.Asked.{Asked}
 use Rattle.picture.specs.declared.answer.Asked.the-variants.{No, Yes}
@@ -64,7 +64,7 @@ is-late n a b = rw (le-leb 15 n a, le-leb n 23 b)
 -- ---- a buffer
 
 filled-nothing : (lent left : List ℕ) → left ≡ lent → Filled lent [] left
-filled-nothing lent left is = record { holds = refl; past = λ i h. rw is; kept = ap length is }
+filled-nothing lent left is = record { holds = refl; past = λ i h. rw is; length-kept = ap length is }
 
 filled-put : (lent bytes left : List ℕ) → length bytes ≤ length lent → left ≡ put lent 0 bytes → Filled lent bytes left
 unfolding put
@@ -73,7 +73,7 @@ filled-put lent bytes left fits is = record {
   past = λ i h.
       let k : 0 + length bytes + (i - length bytes) ≡ i = omega arith in
       rw is (rw k at (put-after lent 0 bytes (i - length bytes) (omega arith)));
-  kept = ap length is ∙ length-put lent 0 bytes (omega arith);
+  length-kept = ap length is ∙ length-put lent 0 bytes (omega arith);
 }
 
 -- ---- a call
@@ -84,9 +84,10 @@ pub record Shape (c : Call) (lent left : Buffers) (word o : ℕ) : Type 0 where
   pub before : Asked
   pub after : Asked
   pub all : Asked
+  pub asked-all : c .asks lent ≡ all
   pub all-is : all ≡ andThen before after
-  pub early : Refuses (Early c) before
-  pub late : Refuses (Late c) after
+  pub early : EveryRefusal (Early c) before
+  pub late : EveryRefusal (Late c) after
   pub passes : (all ≡ Yes) ↔ Passes c lent
   -- its result
   pub outcome-is : Passes c lent → c .Outcome o
@@ -126,6 +127,7 @@ module _ (c : Call) (lent left : Buffers) (word o : ℕ) (s : Shape c lent left 
         number = r .number;
         names = r .input;
         listed = on .listed;
+        first-no = s .asked-all ∙ e;
         fails = λ p. let yes-is = s .passes .1 p in let z : _≡_ {A = ℕ} 0 1 = cc in omega arith;
         outcome-is = ap outcome told ∙ refusal-outcome r number few;
         question-is = rw told (refusal-question r number few);
@@ -165,6 +167,7 @@ module _ (c : Call) (lent left : Buffers) (word o : ℕ) (s : Shape c lent left 
       let value-is = value-value o (c .given) (s .small p) in
       inl (record {
         passes = p;
+        all-yes = s .asked-all ∙ s .passes .1 p;
         outcome-is = subst (c .Outcome) (sym (ap outcome told ∙ shown)) (s .outcome-is p);
         value-is = rw told value-is;
         in-range = s .in-range p;

@@ -37,13 +37,13 @@ use Rattle.normal.specs.Call.{mergedAsked}
 use Rattle.workspace.specs.Lent.{lentAsked}
 use Rattle.workspace.specs.Prepare.{Acceptable, pairAsked, workSize}
 use Rattle.interface.specs.Calls.{lcsWord, validateWord, verifyWord}
-use Rattle.interface.specs.Conditions.{check, common}
+use Rattle.interface.specs.Conditions.{checkGiven, commonGiven}
 use Rattle.interface.specs.Starred.{empty, k10-first, k10-second, k11-first, k11-second, k12-first, k12-normal, k12-normal-again, k2-first, k2-normal, k3-first, k3-normal, k4-first, k4-normal, k5-first, k6-first, k6-added-first, k6-added-normal, k7-first, k7-map, k7-refutation, k7-second, k8-first, k8-map, k8-other, k8-refutation, k8-second, k9-common, k9-first, k9-second, starred}
 use Rattle.interface.specs.StarredClaims.{WritesNormal, WritesCommon, AllHold, Holds, WritesEvidence, subsumes, subsumesNot}
 use Rattle.interface.specs.Word.{outcome, outcomeNo, outcomeYes, valueWord, verdictWord}
 use Rattle.interface.proofs.EmptySubsumes.{empty-subsumes}
 use Rattle.interface.proofs.Answers.{lcs-shape, normalize-shape}
-use Rattle.interface.proofs.Conditions.{common-shown, map-shown, map-taken, refutation-shown, refutation-taken, writes-evidence}
+use Rattle.interface.proofs.Conditions.{common-shown, map-shown, check-map, refutation-shown, check-refutation, writes-evidence}
 use Rattle.interface.proofs.Shapes.{shape-given}
 use Rattle.interface.proofs.Words.{bench-bounded, validate-readable}
 use lib.Dec.{leb}
@@ -57,21 +57,21 @@ module _ (limits : Limits) (bounded : Bounded limits) (first second e : List ℕ
   abbrev space : List ℕ
   space = zeros (workSize limits)
 
-  shown : verdictOf limits first second ≡ true → check limits first second e space ≡ valueWord outcomeYes 0 →
+  shown : verdictOf limits first second ≡ true → checkGiven limits first second e space ≡ valueWord outcomeYes 0 →
       Holds limits (subsumes first second e)
   shown decided taken =
       let (pair, map) = map-shown limits bounded first second e space (omega (arith, taken)) in (
         writes-evidence limits bounded first second pair e is true decided,
-        λ work long. map-taken limits bounded first second e work long pair map,
+        λ work long. check-map limits bounded first second e work long pair map,
         map-covers limits first second e bounded pair map,
       )
 
-  shown-not : verdictOf limits first second ≡ false → check limits first second e space ≡ valueWord outcomeNo 0 →
+  shown-not : verdictOf limits first second ≡ false → checkGiven limits first second e space ≡ valueWord outcomeNo 0 →
       Holds limits (subsumesNot first second e)
   shown-not decided taken =
       let (pair, refuting) = refutation-shown limits bounded first second e space (omega (arith, taken)) in (
         writes-evidence limits bounded first second pair e is false decided,
-        λ work long. refutation-taken limits bounded first second e work long pair refuting,
+        λ work long. check-refutation limits bounded first second e work long pair refuting,
         refutation-fails limits first second e bounded pair refuting,
       )
 
@@ -91,7 +91,7 @@ shown-normal limits bounded first table opened few is result long =
 -- and covers both
 module _ (limits : Limits) (bounded : Bounded limits) (first second table : List ℕ)
     (is : lcsFile limits first second ≡ table) where
-  shown-common : outcome (common limits first second (zeros (workSize limits)) (zeros (pictureSize limits)))
+  shown-common : outcome (commonGiven limits first second (zeros (workSize limits)) (zeros (pictureSize limits)))
       ≡ outcomeYes →
       WritesCommon limits first second table × Covers limits table first × Covers limits table second
   shown-common told =

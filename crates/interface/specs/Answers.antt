@@ -19,16 +19,24 @@ use Rattle.table.specs.Pick.{pick}
 use Rattle.table.specs.Put.{zeros}
 use Rattle.table.specs.declared.layout.Limits.{Limits}
 use Rattle.picture.specs.Readable.{Readable, rowCount}
+use Rattle.picture.specs.Asked.{readAsked}
+use Rattle.picture.specs.Refusal.{refusal}
+use Rattle.picture.specs.declared.answer.Asked.{Asked}
+use Rattle.picture.specs.declared.answer.Asked.the-variants.{No, Yes}
 use Rattle.picture.specs.declared.answer.Input.{Input}
 use Rattle.picture.specs.declared.answer.Input.the-variants.{Book, Buffer, Card, Evidence, First, Second}
 use Rattle.meaning.specs.Covering.{Covers}
 use Rattle.meaning.specs.NormalTable.{mergedCount, normalFile}
+use Rattle.normal.specs.Call.{oneAsked}
 use Rattle.normal.specs.Half.{halfOf}
 use Rattle.workspace.specs.Prepare.{Acceptable, workSize}
+use Rattle.evidence.specs.Call.{verifyAsked}
 use Rattle.evidence.specs.Taken.{MapOf, RefutationOf}
+use Rattle.subsumption.specs.Call.{subsumesAsked}
 use Rattle.subsumption.specs.Verdict.{evidenceOf, evidenceSize}
+use Rattle.lcs.specs.Call.{lcsAsked}
 use Rattle.lcs.specs.Product.{lcsCount, lcsFile}
-use Rattle.book.specs.Call.{AcceptableBook}
+use Rattle.book.specs.Call.{AcceptableBook, mostSpecificAsked}
 use Rattle.book.specs.Form.{cardCount}
 use Rattle.book.specs.Selection.{mostSpecificCards}
 use Rattle.interface.specs.Word.{card, cardOf, input, inputCode, outcome, outcomeNo, outcomeYes, question, refused, value, valueWord}
@@ -69,7 +77,7 @@ buffers work result = record { work = work; result = result }
 pub record Filled (lent bytes left : List ℕ) : Type 0 where
   pub holds : take (length bytes) left ≡ bytes
   pub past : (i : ℕ) → length bytes ≤ i → getD left i 0 ≡ getD lent i 0
-  pub kept : length left ≡ length lent
+  pub length-kept : length left ≡ length lent
 
 pub record Leaves (lent bytes left : Buffers) : Type 0 where
   pub work : Filled (lent .work) (bytes .work) (left .work)
@@ -84,8 +92,11 @@ pub record Call : Type 1 where
   -- 1: the lengths named of the work space and of the result buffer
   pub work-size : ℕ
   pub result-size : ℕ
-  -- the questions that it asks; those after 1 are answered yes
+  -- its questions, by number and whom they name
   pub refusals : List Line
+  -- and in their order, with the buffers as lent: all answered yes, or the first no
+  pub asks : Buffers → Asked
+  -- those after 1 are answered yes, by meaning
   pub Passed : Type 0
   -- a result: its outcome, its value, how much that is at most, and the bytes that it writes into each buffer
   pub Outcome : ℕ → Type 0
@@ -100,6 +111,7 @@ Passes c lent = (c .work-size ≤ length (lent .work)) × (c .result-size ≤ le
 module _ (c : Call) (lent left : Buffers) (word : ℕ) where
   pub record GivesResult : Type 0 where
     pub passes : Passes c lent
+    pub all-yes : c .asks lent ≡ Yes
     pub outcome-is : c .Outcome (outcome word)
     pub value-is : value word ≡ c .given
     pub in-range : c .given ≤ c .most
@@ -111,6 +123,7 @@ module _ (c : Call) (lent left : Buffers) (word : ℕ) where
     pub names : Input
     pub listed : Listed (c .refusals) number names
     pub fails : Passes c lent → ⊥
+    pub first-no : c .asks lent ≡ No (refusal number names)
     pub outcome-is : outcome word ≡ 0
     pub question-is : question word ≡ number
     pub input-is : input word ≡ inputCode names
@@ -139,6 +152,7 @@ validateCall limits picture = record {
   work-size = 0;
   result-size = 0;
   refusals = questions 2 13 (the First) ∷ [];
+  asks = λ lent. readAsked limits First picture;
   Passed = Readable limits picture;
   Outcome = OutcomeYes;
   given = rowCount picture;
@@ -152,6 +166,7 @@ normalizeCall limits picture = record {
   work-size = 0;
   result-size = pictureSize limits;
   refusals = questions 1 1 (the Buffer) ∷ questions 2 14 (the First) ∷ [];
+  asks = λ lent. oneAsked limits picture (length (lent .result));
   Passed = Readable limits picture × (mergedCount limits picture ≤ limits .rows);
   Outcome = OutcomeYes;
   given = length (normalFile limits picture);
@@ -165,6 +180,7 @@ subsumesCall limits first second = record {
   work-size = workSize limits;
   result-size = evidenceSize limits;
   refusals = questions 1 1 (the Buffer) ∷ questions 2 14 (the First) ∷ questions 2 14 (the Second) ∷ [];
+  asks = λ lent. subsumesAsked limits first second (length (lent .work)) (length (lent .result));
   Passed = Acceptable limits first second;
   Outcome = EitherOutcome (Covers limits second first) (Covers limits second first → ⊥);
   given = length (evidenceOf limits first second);
@@ -180,6 +196,7 @@ lcsCall limits first second = record {
   refusals =
       questions 1 1 (the Buffer) ∷ questions 2 14 (the First) ∷ questions 2 14 (the Second)
       ∷ questions 15 15 (the Second) ∷ [];
+  asks = λ lent. lcsAsked limits first second (length (lent .work)) (length (lent .result));
   Passed = Acceptable limits first second × (lcsCount limits first second ≤ limits .rows);
   Outcome = OutcomeYes;
   given = length (lcsFile limits first second);
@@ -195,6 +212,7 @@ verifyCall limits first second evidence = record {
   refusals =
       questions 1 1 (the Buffer) ∷ questions 2 14 (the First) ∷ questions 2 14 (the Second)
       ∷ questions 16 23 (the Evidence) ∷ [];
+  asks = λ lent. verifyAsked limits first second evidence (length (lent .work));
   Passed =
       Acceptable limits first second × (MapOf limits first second evidence ⊎ RefutationOf limits first second evidence);
   Outcome = EitherOutcome (MapOf limits first second evidence) (RefutationOf limits first second evidence);
@@ -211,6 +229,7 @@ mostSpecificCall limits case book = record {
   refusals =
       questions 1 1 (the Buffer) ∷ questions 2 14 (the First) ∷ questions 24 24 (the Book)
       ∷ questions 2 14 (cards (cardCount book)) ∷ [];
+  asks = λ lent. mostSpecificAsked limits case book (length (lent .work));
   Passed = AcceptableBook limits case book;
   Outcome = OutcomeYes;
   given = mostSpecificCards limits case book;

@@ -10,12 +10,13 @@
 -- and 6,147 bytes.
 --
 --   Condition1Words                                condition 1, by what is laid down for each call (Answers)
---   Lengths, verdict, common, check, nearestCards,
+--   Lengths, verdictGiven, commonGiven, checkGiven,
+--   mostSpecificGiven,
 --   evidenceWritten, pictureWritten                buffers of the lengths laid down; the words with given buffers;
 --                                                  what is written
 --   Condition2Words                                condition 2
 --   Taken, WritesTaken, Condition3Words            condition 3 (its first sentence in `Conditions`)
---   NearestWords                                   the nearest cards
+--   MostSpecificWords                                   the nearest cards
 --   Conditions, PaperNumbers                       all of them; the numbers of paper 01
 use Prim.Native.Nat.{_<_, _≤_, ℕ}
 use lib.ListN.{length, take}
@@ -72,52 +73,52 @@ abbrev pub Lengths : Limits → ℕ → List ℕ → List ℕ → Type 0
 Lengths limits size work result = (workSize limits ≤ length work) × (size ≤ length result)
 
 -- the words of the verdict, of the common picture, of the check and of the nearest cards, with given buffers
-abbrev pub verdict : Limits → List ℕ → List ℕ → List ℕ → List ℕ → ℕ
-verdict limits first second work result = subsumesWord limits first second (length work) (length result)
+abbrev pub verdictGiven : Limits → List ℕ → List ℕ → List ℕ → List ℕ → ℕ
+verdictGiven limits first second work result = subsumesWord limits first second (length work) (length result)
 
-abbrev pub common : Limits → List ℕ → List ℕ → List ℕ → List ℕ → ℕ
-common limits first second work result = lcsWord limits first second (length work) (length result)
+abbrev pub commonGiven : Limits → List ℕ → List ℕ → List ℕ → List ℕ → ℕ
+commonGiven limits first second work result = lcsWord limits first second (length work) (length result)
 
-abbrev pub check : Limits → List ℕ → List ℕ → List ℕ → List ℕ → ℕ
-check limits first second evidence work = verifyWord limits first second evidence (length work)
+abbrev pub checkGiven : Limits → List ℕ → List ℕ → List ℕ → List ℕ → ℕ
+checkGiven limits first second evidence work = verifyWord limits first second evidence (length work)
 
-abbrev pub nearestCards : Limits → List ℕ → List ℕ → List ℕ → ℕ
-nearestCards limits case book work = mostSpecificWord limits case book (length work)
+abbrev pub mostSpecificGiven : Limits → List ℕ → List ℕ → List ℕ → ℕ
+mostSpecificGiven limits case book work = mostSpecificWord limits case book (length work)
 
 -- the result buffer's bytes up to the length that a word reports
 abbrev pub evidenceWritten : Limits → List ℕ → List ℕ → List ℕ → List ℕ → List ℕ
 evidenceWritten limits first second work result =
-    take (value (verdict limits first second work result)) (subsumesResult limits first second (length work) result)
+    take (value (verdictGiven limits first second work result)) (subsumesResult limits first second (length work) result)
 
 abbrev pub pictureWritten : Limits → List ℕ → List ℕ → List ℕ → List ℕ → List ℕ
 pictureWritten limits first second work result =
-    take (value (common limits first second work result)) (lcsResult limits first second (length work) result)
+    take (value (commonGiven limits first second work result)) (lcsResult limits first second (length work) result)
 
 -- "2. For two readable pictures, each at most 256 rows when merged, and with buffers of the lengths laid down,"
 pub record Condition2Words (limits : Limits) (first second : List ℕ) : Type 0 where
   -- "the verdict is yes if and only if, in every finite interpretation, each individual fitting the first picture fits
   -- the second, by the published meaning of the language ALE."
   pub verdict-yes : (work result : List ℕ) → Lengths limits (evidenceSize limits) work result →
-      (outcome (verdict limits first second work result) ≡ outcomeYes) ↔ Covers limits second first
+      (outcome (verdictGiven limits first second work result) ≡ outcomeYes) ↔ Covers limits second first
   -- else it is no: there is no refusal
   pub verdict-no : (work result : List ℕ) → Lengths limits (evidenceSize limits) work result →
-      (outcome (verdict limits first second work result) ≡ outcomeNo) ↔ (Covers limits second first → ⊥)
+      (outcome (verdictGiven limits first second work result) ≡ outcomeNo) ↔ (Covers limits second first → ⊥)
   pub verdict-one : (work result : List ℕ) → Lengths limits (evidenceSize limits) work result →
-      (outcome (verdict limits first second work result) ≡ outcomeYes)
-      ⊎ (outcome (verdict limits first second work result) ≡ outcomeNo)
+      (outcome (verdictGiven limits first second work result) ≡ outcomeYes)
+      ⊎ (outcome (verdictGiven limits first second work result) ≡ outcomeNo)
   -- "The common picture covers both inputs, and every picture that covers both covers it;" whatever the buffers
-  pub common-least : (work result : List ℕ) → outcome (common limits first second work result) ≡ outcomeYes →
-      LeastCommon limits first second (value (common limits first second work result))
+  pub common-least : (work result : List ℕ) → outcome (commonGiven limits first second work result) ≡ outcomeYes →
+      LeastCommon limits first second (value (commonGiven limits first second work result))
       (pictureWritten limits first second work result)
   -- "it is refused only when the product laid down in the papers exceeds 256 rows."
   pub common-refused : (work result : List ℕ) → Lengths limits (pictureSize limits) work result →
-      (outcome (common limits first second work result) ≡ outcomeYes)
-      ⊎ ((common limits first second work result ≡ refused 15 Second) × (limits .rows < lcsCount limits first second))
+      (outcome (commonGiven limits first second work result) ≡ outcomeYes)
+      ⊎ ((commonGiven limits first second work result ≡ refused 15 Second) × (limits .rows < lcsCount limits first second))
 
 -- some bytes are taken: as a map with outcome 1, as a refutation with outcome 2
 abbrev pub Taken : Limits → List ℕ → List ℕ → List ℕ → ℕ → Type 0
 Taken limits first second work kind =
-    (e : List ℕ) × Bytes e × (outcome (check limits first second e work) ≡ kind)
+    (e : List ℕ) × Bytes e × (outcome (checkGiven limits first second e work) ≡ kind)
 
 pub record WritesTaken (limits : Limits) (first second : List ℕ) (word : ℕ) (evidence : List ℕ) : Type 0 where
   -- "Our writer produces one in at most 46,595 bytes,"
@@ -130,7 +131,7 @@ pub record WritesTaken (limits : Limits) (first second : List ℕ) (word : ℕ) 
   pub refutation-exactly : (outcome word ≡ outcomeNo) ↔ (refutationForm limits evidence ≡ true)
   -- "and the check takes it."
   pub taken : (work : List ℕ) → workSize limits ≤ length work →
-      check limits first second evidence work ≡ valueWord (outcome word) 0
+      checkGiven limits first second evidence work ≡ valueWord (outcome word) 0
 
 pub record Condition3Words (limits : Limits) (first second : List ℕ) : Type 0 where
   -- "For every such pair, in that order, the check takes some map exactly when the second covers the first, and some
@@ -146,20 +147,20 @@ pub record Condition3Words (limits : Limits) (first second : List ℕ) : Type 0 
       Taken limits first second work outcomeYes → Taken limits first second work outcomeNo → ⊥
   -- the evidence that our writer leaves in its result buffer
   pub writer : (work result : List ℕ) → Lengths limits (evidenceSize limits) work result →
-      WritesTaken limits first second (verdict limits first second work result)
+      WritesTaken limits first second (verdictGiven limits first second work result)
       (evidenceWritten limits first second work result)
 
 -- 01, "Nearest cards for a case"
-pub record NearestWords (limits : Limits) (case book : List ℕ) : Type 0 where
+pub record MostSpecificWords (limits : Limits) (case book : List ℕ) : Type 0 where
   -- a word is given exactly with a work space of the length laid down, for a readable case, a book of the book form and
   -- readable cards, each at most 256 rows when merged
   pub given-exactly : (work : List ℕ) →
-      (outcome (nearestCards limits case book work) ≡ outcomeYes)
+      (outcome (mostSpecificGiven limits case book work) ≡ outcomeYes)
       ↔ ((workSize limits ≤ length work) × AcceptableBook limits case book)
   -- "A card is nearest if it covers the case and covers no other card of the book that covers the case. The answer is a
   -- 32-bit word, bit n for card n."
-  pub nearest : (work : List ℕ) → outcome (nearestCards limits case book work) ≡ outcomeYes →
-      (n : ℕ) → (has (value (nearestCards limits case book work)) n ≡ true) ↔ MostSpecific limits case book n
+  pub nearest : (work : List ℕ) → outcome (mostSpecificGiven limits case book work) ≡ outcomeYes →
+      (n : ℕ) → (has (value (mostSpecificGiven limits case book work)) n ≡ true) ↔ MostSpecific limits case book n
 
 pub record Conditions (limits : Limits) : Type 0 where
   pub one : Condition1Words limits
@@ -168,11 +169,11 @@ pub record Conditions (limits : Limits) : Type 0 where
   -- buffers, a map is taken only if the second covers the first, and a refutation only if it does not." So it is of any
   -- bytes in the place of the pictures, and with any work space
   pub three-map : (first second evidence work : List ℕ) →
-      outcome (check limits first second evidence work) ≡ outcomeYes → Covers limits second first
+      outcome (checkGiven limits first second evidence work) ≡ outcomeYes → Covers limits second first
   pub three-refutation : (first second evidence work : List ℕ) →
-      outcome (check limits first second evidence work) ≡ outcomeNo → Covers limits second first → ⊥
+      outcome (checkGiven limits first second evidence work) ≡ outcomeNo → Covers limits second first → ⊥
   pub three : (first second : List ℕ) → Acceptable limits first second → Condition3Words limits first second
-  pub cards : (case book : List ℕ) → NearestWords limits case book
+  pub cards : (case book : List ℕ) → MostSpecificWords limits case book
 
 pub record PaperNumbers (limits : Limits) : Type 0 where
   pub rows : limits .rows ≡ 256

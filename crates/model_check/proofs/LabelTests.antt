@@ -13,7 +13,7 @@ use mathlib.Core.Path.{_∙_, _≡_, refl, sym}
 use Rattle.table.proofs.NameSets.{subset-none}
 use Rattle.table.specs.Layout.{nameCount}
 use Rattle.table.specs.NameSet.{intersection, none, subset}
-use Rattle.table.specs.Leaves.{overlap, setOf}
+use Rattle.table.specs.NameValues.{overlap, setOf}
 use Rattle.row_sets.specs.declared.label.Label.{Label}
 use Rattle.homomorphism_search.proofs.Labels.{Read, low-same}
 use Rattle.homomorphism_search.specs.Search.{RowLabel}

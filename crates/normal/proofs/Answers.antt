@@ -20,7 +20,7 @@ use native.Mathlib.Omega.{arith}
 use Rattle.table.specs.Bounds.{pictureSize}
 use Rattle.table.specs.Put.{put}
 use Rattle.table.specs.declared.layout.Limits.{Limits}
-use Rattle.picture.proofs.Orders.{Decides, Refuses, Unreadable, and-decides, and-refuses, asked-refuses, given, read-decides, read-refuses, said-so, test-decides}
+use Rattle.picture.proofs.Orders.{Decides, EveryRefusal, Unreadable, and-decides, and-refuses, asked-refuses, given, read-decides, read-refuses, said-so, test-decides}
 use Rattle.picture.specs.Asked.{andThen, kept, onAsked, readAsked, roomAsked}
 use Rattle.picture.specs.Readable.{Readable}
 use Rattle.picture.specs.Refusal.{refusal, shortBuffer, tooMany}
@@ -47,7 +47,7 @@ module _ (limits : Limits) (input : Input) (s : List ℕ) where
   unfolding mergedAsked
   merged-many e = rw e
 
-  pub merged-refuses : (P : Refusal → Type 0) → P (tooMany input) → Refuses P (mergedAsked limits input s)
+  pub merged-refuses : (P : Refusal → Type 0) → P (tooMany input) → EveryRefusal P (mergedAsked limits input s)
   unfolding mergedAsked
   merged-refuses P h = asked-refuses P (leb (mergedCount limits s) (limits .rows)) (tooMany input) h
 
@@ -78,7 +78,7 @@ module _ (limits : Limits) (s : List ℕ) (room : ℕ) where
 
   -- the numbers are 1, 2 to 13, 14
   pub one-refuses : (P : Refusal → Type 0) → P shortBuffer → ((q : ℕ) → 2 ≤ q → q ≤ 14 → P (refusal q First)) →
-      Refuses P (oneAsked limits s room)
+      EveryRefusal P (oneAsked limits s room)
   unfolding oneAsked
   one-refuses P short named =
       and-refuses P (roomAsked (leb (pictureSize limits) room))

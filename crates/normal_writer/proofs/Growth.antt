@@ -22,7 +22,7 @@ use Rattle.ale.specs.Tree.{Forest, Kind, Tree, any, cons, nil, node, sizes}
 use Rattle.meaning.specs.File.{rowsFrom}
 use Rattle.meaning.proofs.Files.{rowsFrom-append}
 use Rattle.table.specs.Layout.{«place»}
-use Rattle.table.specs.Leaves.{setOf}
+use Rattle.table.specs.NameValues.{setOf}
 use Rattle.table.proofs.Bools.{or-assoc, or-none}
 use Rattle.table.proofs.Puts.{length-put}
 use Rattle.table.proofs.Rows.{length-rowOf}

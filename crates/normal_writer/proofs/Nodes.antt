@@ -15,7 +15,7 @@ use borrow.Author.Tests.{eq-eqb, eqb-true, eqb-false, ne-eqb}
 use Rattle.table.specs.Fields.{rowOf}
 use Rattle.table.specs.Layout.{kindForAll, «place», rowSize}
 use Rattle.table.specs.NameSet.{none}
-use Rattle.table.specs.Leaves.{overlap, setOf}
+use Rattle.table.specs.NameValues.{overlap, setOf}
 use Rattle.table.specs.Pick.{pick}
 use Rattle.table.specs.Put.{put}
 use Rattle.table.proofs.Bools.{or-assoc}

@@ -18,7 +18,7 @@ use Rattle.table.specs.Bounds.{maxRows}
 use Rattle.table.specs.Fields.{rowOf}
 use Rattle.table.specs.Layout.{kindForAll, «place»}
 use Rattle.table.specs.NameSet.{none}
-use Rattle.table.specs.Leaves.{overlap, setOf}
+use Rattle.table.specs.NameValues.{overlap, setOf}
 use Rattle.table.specs.Pick.{pick}
 use Rattle.table.specs.Put.{put}
 use Rattle.ale.specs.Encoding.{encodeForest}

@@ -13,7 +13,7 @@
 --   on-by                         a property of the value, where all is yes, and of every first no is one of the answer
 --   given                         an answer that is no refusal is the value, and all is yes
 --   refused-by                    a refusal that is answered is the first no
---   Refuses                       every refusal has a property;
+--   EveryRefusal                       every refusal has a property;
 --   asked-refuses, and-refuses, from-refuses, read-refuses, refuses-no, refuses-so   of the same
 use Prim.Native.Nat.{_+_, _<_, _≤_, suc, zero, ℕ}
 use borrow.Author.Tests.{le-leb, leb-false, leb-true, lt-leb}
@@ -258,20 +258,20 @@ module _ {A : Type 0} (no : Refusal → A) (value : A) where
 -- ---- what every refusal has
 
 module _ (P : Refusal → Type 0) where
-  abbrev pub Refuses : Asked → Type 0
-  Refuses Yes = Unit
-  Refuses (No r) = P r
+  abbrev pub EveryRefusal : Asked → Type 0
+  EveryRefusal Yes = Unit
+  EveryRefusal (No r) = P r
 
-  pub asked-refuses : (b : Bool) (r : Refusal) → P r → Refuses (asked b r)
+  pub asked-refuses : (b : Bool) (r : Refusal) → P r → EveryRefusal (asked b r)
   asked-refuses true r h = tt
   asked-refuses false r h = h
 
-  pub and-refuses : (a b : Asked) → Refuses a → Refuses b → Refuses (andThen a b)
+  pub and-refuses : (a b : Asked) → EveryRefusal a → EveryRefusal b → EveryRefusal (andThen a b)
   and-refuses Yes b h k = k
   and-refuses (No r) b h k = h
 
-  pub from-refuses : (ask : ℕ → Asked) (more k : ℕ) → ((j : ℕ) → k ≤ j → j < k + more → Refuses (ask j)) →
-      Refuses (askedFrom ask more k)
+  pub from-refuses : (ask : ℕ → Asked) (more k : ℕ) → ((j : ℕ) → k ≤ j → j < k + more → EveryRefusal (ask j)) →
+      EveryRefusal (askedFrom ask more k)
   unfolding askedFrom
   from-refuses ask zero k h = tt
   from-refuses ask (suc more) k h =
@@ -279,17 +279,17 @@ module _ (P : Refusal → Type 0) where
       (from-refuses ask more (k + 1) (λ j a b. h j (omega arith) (omega arith)))
 
   pub read-refuses : (limits : Limits) (input : Input) (s : List ℕ) → ((q : ℕ) → 2 ≤ q → q ≤ 13 → P (refusal q input)) →
-      Refuses (readAsked limits input s)
+      EveryRefusal (readAsked limits input s)
   unfolding readAsked
   read-refuses limits input s h = by (readingOf limits s) refl
     where
-      by : (t : Reading) → readingOf limits s ≡ t → Refuses (readingAsked input t)
+      by : (t : Reading) → readingOf limits s ≡ t → EveryRefusal (readingAsked input t)
       by (reading.Rows n) e = tt
       by (reading.Failed q) e = let number = reading-number limits s q e in h q (number .least) (number .most)
 
-  pub refuses-no : (a : Asked) → Refuses a → (r : Refusal) → a ≡ No r → P r
-  refuses-no a h r e = subst Refuses e h
+  pub refuses-no : (a : Asked) → EveryRefusal a → (r : Refusal) → a ≡ No r → P r
+  refuses-no a h r e = subst EveryRefusal e h
 
-pub refuses-so : (P Q : Refusal → Type 0) → ((r : Refusal) → P r → Q r) → (a : Asked) → Refuses P a → Refuses Q a
+pub refuses-so : (P Q : Refusal → Type 0) → ((r : Refusal) → P r → Q r) → (a : Asked) → EveryRefusal P a → EveryRefusal Q a
 refuses-so P Q h Yes k = tt
 refuses-so P Q h (No r) k = h r k

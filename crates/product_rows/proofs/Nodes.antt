@@ -20,7 +20,7 @@ use Rattle.table.proofs.Rows.{length-rowOf}
 use Rattle.table.specs.Fields.{rowOf}
 use Rattle.table.specs.Layout.{kindForAll, kindRoot, «place», rowSize}
 use Rattle.table.specs.NameSet.{intersection}
-use Rattle.table.specs.Leaves.{setOf}
+use Rattle.table.specs.NameValues.{setOf}
 use Rattle.table.specs.Pick.{pick}
 use Rattle.table_rows.specs.declared.builder.Builder.{Builder}
 use Rattle.ale.specs.Encoding.{Row, encodeForest}

@@ -13,7 +13,7 @@ use mathlib.Core.Path.{_≡_}
 use Rattle.table.specs.Bounds.{maxRows}
 use Rattle.table.specs.Fields.{rowOf}
 use Rattle.table.specs.Layout.{kindForAll, «place»}
-use Rattle.table.specs.Leaves.{setOf}
+use Rattle.table.specs.NameValues.{setOf}
 use Rattle.table.specs.Put.{put}
 use Rattle.table_rows.specs.declared.builder.Builder.{Builder}
 use Rattle.table.specs.declared.layout.Limits.{Limits}

@@ -12,7 +12,7 @@ ghost use Prim.Native.Nat.{ℕ, _+_, _≤_, _<_};
 ghost use lib.Dec.{eqb};
 ghost use Rattle.table.specs.Bounds.{maxRows};
 ghost use Rattle.table.specs.NameSet.{intersection};
-ghost use Rattle.table.specs.Leaves.{setOf};
+ghost use Rattle.table.specs.NameValues.{setOf};
 ghost use Rattle.table.specs.Pick.{pick};
 ghost use Rattle.ale.specs.Forest.{consReduced};
 ghost use Rattle.ale.specs.PictureSignature.{pictureSignature};

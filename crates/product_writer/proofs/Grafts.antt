@@ -16,7 +16,7 @@ use mathlib.Core.Logic.{⊎-elim}
 use mathlib.Core.Path.{_∙_, _≡_, ap, refl, subst, sym}
 use Rattle.table.proofs.Bools.{either}
 use Rattle.table.specs.NameSet.{intersection}
-use Rattle.table.specs.Leaves.{setOf}
+use Rattle.table.specs.NameValues.{setOf}
 use Rattle.table.specs.Pick.{pick}
 use Rattle.table_rows.specs.declared.builder.Builder.{Builder}
 use Rattle.ale.proofs.PairWalks.{pairForest-walk, pairWalk, picture-equal}

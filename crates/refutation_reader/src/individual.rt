@@ -17,7 +17,7 @@ ghost use mathlib.Core.Path.{_≡_};
 ghost use Prim.Native.Nat.{ℕ, _^_, _≤_, _<_};
 ghost use Rattle.table.specs.Bounds.{Bounded};
 ghost use Rattle.table.specs.Layout.{numberSize, nameCount};
-ghost use Rattle.table.specs.Leaves.{setOf};
+ghost use Rattle.table.specs.NameValues.{setOf};
 ghost use Rattle.table.specs.Range.{each};
 ghost use Rattle.countermodel.specs.Layout.{individualCount};
 ghost use Rattle.countermodel.specs.Individual.{individualHead, individualNames, individualOk, individualParent, individualRole, refutationForm};

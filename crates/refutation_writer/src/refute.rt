@@ -26,7 +26,7 @@ ghost use lib.ListN.{length};
 ghost use Rattle.table.specs.Fields.{kindOf, roleOf};
 ghost use Rattle.table_rows.specs.Rows.{HasRow};
 ghost use Rattle.table.specs.Layout.{kindExists, kindForAll};
-ghost use Rattle.table.specs.Leaves.{setOf};
+ghost use Rattle.table.specs.NameValues.{setOf};
 ghost use Rattle.table.specs.Put.{put};
 ghost use Rattle.homomorphism_search.specs.Search.{LinkedTable, Missed, MissedBelow, labelCarried, sameEdge};
 ghost use Rattle.refutation_writer.specs.Refuting.{againstTop, againstTree, againstValue, falsifiedBelow, reachedAll, reachedTree, realizedBelow, realizedRows, valueRow, wantedWithin};

@@ -15,7 +15,7 @@ use table_rows::row::wanted;
 ghost use mathlib.Core.Path.{_≡_};
 ghost use Prim.Native.Nat.{ℕ, _<_, _≤_};
 ghost use lib.ListN.{length};
-ghost use Rattle.table.specs.Leaves.{setOf};
+ghost use Rattle.table.specs.NameValues.{setOf};
 ghost use Rattle.table.specs.Put.{put};
 ghost use Rattle.homomorphism_search.specs.Search.{LinkedTable};
 ghost use Rattle.countermodel.specs.Layout.{«individualPlace», individualSize, mostIndividuals};

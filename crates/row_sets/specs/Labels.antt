@@ -11,7 +11,7 @@ use mathlib.Core.Path.{_≡_}
 use Rattle.table.specs.Fields.{excludedOf, impossibleOf, wantedOf}
 use Rattle.table.specs.Layout.{nameCount}
 use Rattle.table.specs.NameSet.{union}
-use Rattle.table.specs.Leaves.{setOf}
+use Rattle.table.specs.NameValues.{setOf}
 use Rattle.ale.specs.Merged.{labelOfSet}
 use Rattle.ale.specs.PictureSignature.{pictureSignature}
 use Rattle.ale.specs.Rows.{filterBelow}

@@ -9,7 +9,7 @@ ghost use Prim.Native.Nat.{ℕ, _<_};
 ghost use lib.Dec.{eqb};
 ghost use Rattle.table.specs.Fields.{impossibleOf};
 ghost use Rattle.table.specs.NameSet.{none};
-ghost use Rattle.table.specs.Leaves.{overlap, setOf};
+ghost use Rattle.table.specs.NameValues.{overlap, setOf};
 ghost use Rattle.row_sets.specs.Rows.{Checked};
 ghost use Rattle.row_sets.specs.Labels.{Joined};
 

@@ -7,4 +7,4 @@ pub mod Put
 pub mod Number
 pub mod NameSet
 pub mod Fields
-pub mod Leaves
+pub mod NameValues

@@ -10,7 +10,7 @@ ghost use Rattle.table.specs.Layout.{nameBytes, nameCount};
 ghost use Rattle.table.specs.Number.{be, beBytes};
 ghost use Rattle.table.specs.Put.{put};
 ghost use Rattle.table.specs.NameSet.{none, union, intersection, complement, subset};
-ghost use Rattle.table.specs.Leaves.{setOf, overlap};
+ghost use Rattle.table.specs.NameValues.{setOf, overlap};
 
 pub struct Names {
     word: u64,

@@ -11,7 +11,7 @@ use native.Mathlib.Nat.{zero-add}
 use native.Mathlib.Omega.{arith}
 use Rattle.table.specs.Fields.{endBytes, excludedOf, impossibleOf, kindOf, lengthOf, parentOf, roleOf, tagOf, wantedOf}
 use Rattle.table.specs.Layout.{endLength, endSize, endTag, nameCount, numberSize, rowLength, rowSize, rowTag, «place»}
-use Rattle.table.specs.Leaves.{setOf}
+use Rattle.table.specs.NameValues.{setOf}
 use Rattle.table.specs.Put.{put}
 use Rattle.table.specs.declared.row.Row.{Row}
 use Rattle.table.proofs.Puts.{put-in}

@@ -7,7 +7,7 @@ use mathlib.Core.List.{List}
 use Rattle.table.specs.Bounds.{maxRows}
 use Rattle.table.specs.Fields.{rowOf}
 use Rattle.table.specs.Layout.{rowSize, «place»}
-use Rattle.table.specs.Leaves.{setOf}
+use Rattle.table.specs.NameValues.{setOf}
 use Rattle.table.specs.declared.row.Row.{Row}
 
 -- row n stands whole in the table

@@ -21,7 +21,7 @@ ghost use Rattle.table.specs.Layout.{«place», numberSize, nameBytes, nameCoun
 ghost use Rattle.table.specs.Number.{be};
 ghost use Rattle.table.specs.Bounds.{maxRows};
 ghost use Rattle.table.specs.Put.{put};
-ghost use Rattle.table.specs.Leaves.{setOf};
+ghost use Rattle.table.specs.NameValues.{setOf};
 ghost use Rattle.table.specs.Fields.{tagOf, lengthOf, parentOf, kindOf, roleOf, impossibleOf, wantedOf, excludedOf, endBytes, endsAt};
 ghost use Rattle.table_rows.specs.Rows.{HasRow};
 

@@ -12,7 +12,7 @@ use mathlib.Core.List.{List}
 use mathlib.Core.Logic.{_↔_, _⊎_, inl, inr, ⊎-elim}
 use mathlib.Core.Path.{_≡_, refl}
 use Rattle.table.specs.declared.layout.Limits.{Limits}
-use Rattle.picture.proofs.Orders.{Decides, Refuses, Unreadable, and-decides, and-refuses, asked-decides, asked-refuses, read-decides, read-refuses, said-so}
+use Rattle.picture.proofs.Orders.{Decides, EveryRefusal, Unreadable, and-decides, and-refuses, asked-decides, asked-refuses, read-decides, read-refuses, said-so}
 use Rattle.picture.specs.Asked.{andThen, readAsked, roomAsked}
 use Rattle.picture.specs.Readable.{Readable}
 use Rattle.picture.specs.Refusal.{refusal, shortBuffer}
@@ -68,7 +68,7 @@ module _ (limits : Limits) (first second : List ℕ) where
   -- the numbers are 2 to 14, of the first and of the second
   module _ (P : Refusal → Type 0) (named : (q : ℕ) → 2 ≤ q → q ≤ 14 → P (refusal q First)) (named-second : (q : ℕ) →
       2 ≤ q → q ≤ 14 → P (refusal q Second)) where
-    pub pair-refuses : Refuses P (pairAsked limits first second)
+    pub pair-refuses : EveryRefusal P (pairAsked limits first second)
     unfolding pairAsked
     pair-refuses =
         let read = readAsked limits First first in
@@ -81,7 +81,7 @@ module _ (limits : Limits) (first second : List ℕ) where
         (merged-refuses limits First first P (named 14 (omega arith) (omega arith)))
         (merged-refuses limits Second second P (named-second 14 (omega arith) (omega arith)))))
 
-    pub lent-refuses : P shortBuffer → (enough : Bool) → Refuses P (lentAsked limits enough first second)
+    pub lent-refuses : P shortBuffer → (enough : Bool) → EveryRefusal P (lentAsked limits enough first second)
     unfolding lentAsked
     lent-refuses short enough =
         and-refuses P (roomAsked enough) (pairAsked limits first second) (asked-refuses P enough shortBuffer short)

@@ -6,7 +6,7 @@ use mathlib.Core.List.{List}
 use mathlib.Core.Path.{_≡_, _∙_, sym}
 use Prim.Native.Nat.{ℕ}
 use Rattle.table.specs.NameSet.{subset}
-use Rattle.table.specs.Leaves.{setOf}
+use Rattle.table.specs.NameValues.{setOf}
 use Rattle.homomorphism_search.specs.Search.{RowLabel, labelCarried}
 use Rattle.homomorphism_search.proofs.Labels.{carried-marked, carried-names}
 use Rattle.homomorphism_search.proofs.label.label_within.Statement.{statement}

@@ -1,7 +1,7 @@
 -- A label that is marked is satisfied by nothing; else the names that hold have all that are wanted, and none that is excluded.
 use mathlib.Core.Path.{sym, _∙_}
 use denote.Ref.{now}
-use Rattle.table.specs.Leaves.{setOf}
+use Rattle.table.specs.NameValues.{setOf}
 use Rattle.model_check.proofs.LabelTests.{satisfies-bottom, satisfies-held, satisfies-lacks}
 use borrow.Author.Needs.{needs}
 use Rattle.model_check.proofs.model.satisfies.Statement.{statement}

@@ -5,7 +5,7 @@ use mathlib.Core.Path.{_∙_, ap}
 use Prim.Native.Nat.{ℕ}
 use Rattle.table.specs.Fields.{rowOf}
 use Rattle.table.specs.Layout.{«place»}
-use Rattle.table.specs.Leaves.{setOf}
+use Rattle.table.specs.NameValues.{setOf}
 use Rattle.table.specs.Put.{put}
 use Rattle.product_rows.proofs.node.push_row.Statement.{statement}
 use Rattle.product_rows.proofs.node.push_row.Tie as tie

@@ -10,7 +10,7 @@ use borrow.Author.Tests.{eqb-false, eqb-true, not-false, not-true}
 use denote.Ref.{now}
 use lib.Dec.{eqb}
 use Rattle.table.specs.Fields.{roleOf}
-use Rattle.table.specs.Leaves.{setOf}
+use Rattle.table.specs.NameValues.{setOf}
 use Rattle.table.specs.Pick.{pick}
 use Rattle.ale.specs.Tree.{nil}
 use Rattle.refutation_writer.specs.Refuting.{againstTop, againstTree, againstValue, canonicalBelow, canonicalTree, falsifiedBelow, realizedBelow, realizedRows}

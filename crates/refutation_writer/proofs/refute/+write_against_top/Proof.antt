@@ -4,7 +4,7 @@ use native.Mathlib.Omega.{arith}
 use borrow.Author.Needs.{needs}
 use borrow.Author.Tests.{not-false, not-true}
 use denote.Ref.{now}
-use Rattle.table.specs.Leaves.{setOf}
+use Rattle.table.specs.NameValues.{setOf}
 use Rattle.ale.specs.Tree.{nil}
 use Rattle.refutation_writer.specs.Refuting.{againstTop}
 use Rattle.homomorphism_search.proofs.Searches.{checked-has}

@@ -2,7 +2,7 @@
 use borrow.Author.Needs.{needs}
 use denote.Ref.{now}
 use mathlib.Core.Path.{_∙_, sym}
-use Rattle.table.specs.Leaves.{setOf}
+use Rattle.table.specs.NameValues.{setOf}
 use Rattle.refutation_writer.proofs.Refutings.{within-marked, within-names}
 use Rattle.refutation_writer.proofs.refute.wanted_within.Statement.{statement}
 use Rattle.refutation_writer.proofs.refute.wanted_within.Tie as tie

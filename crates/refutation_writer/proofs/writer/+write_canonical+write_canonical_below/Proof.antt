@@ -8,7 +8,7 @@ use borrow.Fn.Kinds.{In}
 use borrow.Fn.PlainCycle.{Measures, is, falls, and}
 use denote.Ref.{now}
 use lib.Dec.{eqb}
-use Rattle.table.specs.Leaves.{setOf}
+use Rattle.table.specs.NameValues.{setOf}
 use Rattle.table.specs.Pick.{pick}
 use Rattle.refutation_writer.proofs.Canonicals.{canonical-end, canonical-here, canonical-next, canonical-none, canonical-room, canonical-skip, canonical-split, canonical-start, canonical-turn, canonical-written, canonicalRows}
 use Rattle.homomorphism_search.proofs.Searches.{checked-has}

@@ -2,7 +2,7 @@
 use borrow.Author.Needs.{needs}
 use denote.Ref.{now}
 use native.Mathlib.Omega.{arith}
-use Rattle.table.specs.Leaves.{setOf}
+use Rattle.table.specs.NameValues.{setOf}
 use Rattle.refutation_writer.proofs.Writings.{put-individual}
 use Rattle.refutation_writer.proofs.writer.write_individual.Statement.{statement}
 use Rattle.refutation_writer.proofs.writer.write_individual.Tie as tie
