@@ -12,7 +12,6 @@ use Rattle.picture.proofs.Orders.{AllFrom, Decides, FirstFrom, EveryRefusal, Un
 use Rattle.picture.specs.Asked.{andThen, askedFrom, readAsked}
 use Rattle.picture.specs.Readable.{Readable}
 use Rattle.picture.specs.Refusal.{refusal, tooMany}
-use Rattle.picture.specs.declared.answer.Asked.{Asked}
 use Rattle.picture.specs.declared.answer.Input.the-variants.{Card, First}
 use Rattle.picture.specs.declared.answer.Refusal.{Refusal}
 use Rattle.table.specs.declared.layout.Limits.{Limits}

@@ -8,7 +8,7 @@ use lib.Dec.{T}
 use mathlib.Core.Bool.{Bool, not, true}
 use mathlib.Core.List.{List}
 use mathlib.Core.Logic.{_↔_}
-use mathlib.Core.Path.{_∙_, _≡_, refl, sym}
+use mathlib.Core.Path.{_∙_, _≡_, sym}
 use Rattle.table.proofs.Bools.{by-test, false-is, is-false, is-true, true-is}
 use Rattle.table.specs.Range.{each}
 use Rattle.ale.proofs.ModelChecks.{fits-checked, fits-test, test-fits}

@@ -15,23 +15,23 @@ use Rattle.table.proofs.Bools.{by-test}
 use Rattle.table.proofs.Puts.{length-zeros}
 use Rattle.table.specs.Bounds.{Bounded, pictureSize}
 use Rattle.table.specs.Pick.{pick}
-use Rattle.table.specs.Put.{put, zeros}
+use Rattle.table.specs.Put.{put}
 use Rattle.table.specs.declared.layout.Limits.{Limits}
 use Rattle.picture.proofs.Orders.{EveryRefusal, and-refuses, asked-refuses, read-decides, read-refuses}
 use Rattle.picture.proofs.Readables.{readable-count, readable-most}
 use Rattle.picture.specs.Asked.{kept, onAsked, readAsked, readingAsked, roomAsked}
 use Rattle.picture.specs.Read.{answerOf, answered, readingOf}
-use Rattle.picture.specs.Readable.{Readable, rowCount}
+use Rattle.picture.specs.Readable.{rowCount}
 use Rattle.picture.specs.Refusal.{refusal, shortBuffer}
 use Rattle.picture.specs.declared.answer.Asked.{Asked}
 use Rattle.picture.specs.declared.answer.Asked.the-variants.{No, Yes}
-use Rattle.picture.specs.declared.answer.Input.the-variants.{Book, Buffer, Card, Evidence, First, Second}
+use Rattle.picture.specs.declared.answer.Input.the-variants.{Buffer, Card, Evidence, First, Second}
 use Rattle.picture.specs.declared.answer.Refusal.{Refusal}
 use Rattle.picture.specs.declared.read.Reading.{Reading}
 use Rattle.picture.specs.declared.read.Reading.the-variants as reading
 use Rattle.meaning.proofs.Normals.{normal-size}
 use Rattle.meaning.specs.Meaning.{pictureTable}
-use Rattle.meaning.specs.NormalTable.{mergedCount, normalFile}
+use Rattle.meaning.specs.NormalTable.{normalFile}
 use Rattle.normal.proofs.Answers.{one-decides, one-refuses}
 use Rattle.normal.proofs.Halves.{length-half}
 use Rattle.normal.specs.Call.{normalizeAnswer, normalizeResult, oneAsked}
@@ -48,7 +48,6 @@ use Rattle.evidence.proofs.Verifications.{verify-yes}
 use Rattle.evidence.proofs.Verifications as verifications
 use Rattle.evidence.specs.Call.{evidenceAsked, evidenceKind, verifyAnswer, verifyAsked, verifyLent}
 use Rattle.evidence.specs.Form.{mapForm}
-use Rattle.evidence.specs.Taken.{MapOf, RefutationOf}
 use Rattle.evidence.specs.declared.check.Verified.the-variants as verified
 use Rattle.subsumption.proofs.Writers.{evidence-size, verdict-covers, verdict-fails}
 use Rattle.subsumption.specs.Call.{subsumesAnswer, subsumesAsked, verdictAnswer}
@@ -66,7 +65,7 @@ use Rattle.book.proofs.Selections.{word-below}
 use Rattle.book.specs.Call.{bookAsked, mostSpecificAnswer, mostSpecificAsked}
 use Rattle.book.specs.Selection.{mostSpecificCards}
 use Rattle.book.specs.declared.answer.Selected.the-variants as selected
-use Rattle.interface.specs.Answers.{Answers, Buffers, Call, Line, Listed, buffers, lcsCall, mostSpecificCall, normalizeCall, questions, subsumesCall, tables, the, validateCall, verifyCall}
+use Rattle.interface.specs.Answers.{Call, Line, Listed, buffers, lcsCall, mostSpecificCall, normalizeCall, questions, subsumesCall, tables, the, validateCall, verifyCall}
 use Rattle.interface.specs.Calls.{LcsGives, MostSpecificGives, NormalizeGives, SubsumesGives, VerifyGives, lcsWord, mostSpecificWord, normalizeWord, subsumesWord, validateWord, verifyWord}
 use Rattle.interface.specs.Word.{cardOf, commonWord, normalizedWord, outcomeNo, outcomeYes, partRange, readWord, refusalWord, selectedWord, valueWord, verdictWord, verifiedWord}
 use Rattle.interface.proofs.Shapes.{Early, Late, Shape, is-early, is-late, then-yes, word-on}

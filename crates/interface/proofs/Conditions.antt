@@ -3,7 +3,8 @@
 --   condition-1-words    condition 1
 --   condition-2-words    condition 2
 --   condition-3-words    condition 3, the writer's evidence by `writes-taken`
---   most-specific-words        the nearest cards
+--   normal-words         the normal table
+--   most-specific-words  the nearest cards
 --   conditions-bounded   all of them, at any limits that the code can hold
 --   conditions-hold      at paper 01's, with its numbers
 use Prim.Native.Nat.{_<_, _≤_, ℕ}
@@ -24,8 +25,13 @@ use Rattle.table.specs.declared.layout.Limits.{Limits}
 use Rattle.picture.specs.Asked.{onAsked}
 use Rattle.picture.specs.declared.answer.Input.the-variants.{Second}
 use Rattle.meaning.specs.Covering.{Covers}
-use Rattle.meaning.specs.Meaning.{pictureTable}
-use Rattle.meaning.specs.NormalTable.{normalFile}
+use Rattle.ale.specs.Interpretation.{Equivalent}
+use Rattle.ale.specs.PictureSignature.{pictureSignature}
+use Rattle.picture.specs.Readable.{Readable}
+use Rattle.meaning.proofs.Normals.{normal-readable, normalFile-equivalent}
+use Rattle.meaning.specs.Meaning.{pictureTable, pictureTree}
+use Rattle.meaning.specs.NormalTable.{mergedCount, normalFile}
+use Rattle.normal.specs.Call.{normalizeResult}
 use Rattle.workspace.specs.Prepare.{Acceptable, workSize}
 use Rattle.countermodel.specs.Individual.{refutationForm}
 use Rattle.evidence.proofs.Soundness.{forms-apart, map-covers, refutation-fails}
@@ -46,7 +52,7 @@ use Rattle.book.specs.Call.{mostSpecificWork}
 use Rattle.book.specs.Selection.{MostSpecific}
 use Rattle.interface.specs.Answers.{Answers, EitherOutcome, Passes, buffers, lcsCall, mostSpecificCall, subsumesCall, verifyCall}
 use Rattle.interface.specs.Calls.{lcsWord}
-use Rattle.interface.specs.Conditions.{Condition1Words, Condition2Words, Condition3Words, Conditions, Lengths, MostSpecificWords, PaperNumbers, Taken, WritesTaken, checkGiven, commonGiven, evidenceWritten, mostSpecificGiven, pictureWritten, verdictGiven}
+use Rattle.interface.specs.Conditions.{Condition1Words, Condition2Words, Condition3Words, Conditions, Lengths, MostSpecificWords, NormalWords, PaperNumbers, Taken, WritesTaken, checkGiven, commonGiven, evidenceWritten, mostSpecificGiven, normalGiven, pictureWritten, tableWritten, verdictGiven}
 use Rattle.interface.specs.StarredClaims.{WritesEvidence}
 use Rattle.interface.specs.Word.{commonWord, outcome, outcomeNo, outcomeYes, refused, value, valueWord}
 use Rattle.interface.proofs.Answers.{cards-shape, lcs-shape, normalize-shape, subsumes-shape, validate-shape, verify-shape}
@@ -290,6 +296,30 @@ module _ (limits : Limits) (bounded : Bounded limits) where
       writer = writes-taken;
     }
 
+  -- ---- the normal table
+
+  pub normal-words : (picture : List ℕ) → NormalWords limits picture
+  normal-words picture =
+      record {
+        readable = λ result h. let (few, known, is) = written result h in rw is (normal-readable limits picture few bounded);
+        equivalent = λ result h. let (few, known, is) = written result h in
+            subst (λ t. Equivalent pictureSignature (pictureTree limits picture) (pictureTree limits t)) (sym is)
+            (normalFile-equivalent limits picture few bounded known);
+      }
+    where
+      -- the picture is readable, its merged rows are few enough, and its normal table is what is written
+      written : (result : List ℕ) → outcome (normalGiven limits picture result) ≡ outcomeYes →
+          (mergedCount limits picture ≤ limits .rows) × Readable limits picture
+          × (tableWritten limits picture result ≡ normalFile limits picture)
+      written result h =
+          let answers = condition-1-words .normalize picture result _ _ (record { word-is = refl; buffer-is = refl }) in
+          let g = result-shown _ _ _ _ answers (omega (arith, h)) in
+          let (none, enough, (known, few)) = g .passes in (
+            few,
+            known,
+            ap (λ (n : ℕ). take n (normalizeResult limits picture result)) (g .value-is) ∙ g .leaves .result .holds,
+          )
+
   -- ---- the nearest cards
 
   module _ (case book : List ℕ) where
@@ -319,6 +349,7 @@ module _ (limits : Limits) (bounded : Bounded limits) where
     three-map = map-only;
     three-refutation = refutation-only;
     three = condition-3-words;
+    normal = normal-words;
     cards = most-specific-words;
   }
 

@@ -9,10 +9,9 @@
 --   empty-subsumes             all of these
 use Prim.Native.Nat.{_<_, _≤_, ℕ}
 use lib.Dec.{T}
-use lib.ListN.{length}
 use mathlib.Core.Bool.{true}
 use mathlib.Core.List.{List}
-use mathlib.Core.Path.{_∙_, _≡_, ap, refl, subst, sym}
+use mathlib.Core.Path.{_≡_, refl, subst, sym}
 use native.Mathlib.Omega.{arith}
 use Rattle.ale.proofs.Concepts.{subsumed-concepts}
 use Rattle.ale.proofs.Structures.{satisfies-emptyLabel}
@@ -40,12 +39,11 @@ use Rattle.subsumption.specs.Verdict.{evidenceOf, mapOf, verdictOf}
 use Rattle.table.specs.Bounds.{benchLimits, maxRows}
 use Rattle.table.specs.Fields.{endBytes, endsAt, rowOf}
 use Rattle.table.specs.Number.{be, beBytes}
-use Rattle.table.specs.Put.{put}
 use Rattle.workspace.specs.Prepare.{Acceptable}
-use Rattle.interface.specs.Calls.{subsumesWord, validateWord}
+use Rattle.interface.specs.Calls.{validateWord}
 use Rattle.interface.specs.Starred.{empty, k1, k1-map}
 use Rattle.interface.specs.StarredClaims.{HasRows, Holds, TakesEvidence, WritesEvidence}
-use Rattle.interface.specs.Word.{outcomeYes, valueWord, verdictWord}
+use Rattle.interface.specs.Word.{outcomeYes}
 use Rattle.interface.proofs.Conditions.{check-map, writes-evidence}
 use Rattle.interface.proofs.Words.{bench-bounded}
 

@@ -7,14 +7,14 @@
 --   Early, Late                    a refusal that is on the call's list: 1 to 14 or 24; 15 to 23
 --   Shape                          how a call answers: its questions, its word, and what is left in its buffers
 --   shape-answers                  so it gives a result or a numbered refusal, as it is laid down
---   shape-given, shape-refused     the word and the buffers where all is answered yes; by the first no
+--   shape-given                    the word and the buffers where all is answered yes
 --   result-when, result-shown      a result is given if all is answered yes; an outcome that is not 0 shows that one is
 use Prim.Native.Nat.{_+_, _-_, _<_, _≤_, ℕ}
 use borrow.Author.Tests.{le-leb, lt-leb}
 use lib.Dec.{leb}
 use lib.ListN.{drop, length}
 use lib.Seq.{take-at}
-use mathlib.Core.Bool.{Bool, _&&_, and-false, false, true}
+use mathlib.Core.Bool.{_&&_, and-false, false, true}
 use mathlib.Core.List.{List, []}
 use mathlib.Core.Logic.{_↔_, _⊎_, inl, inr, ⊎-elim}
 use mathlib.Core.Path.{_∙_, _≡_, ap, refl, subst, sym}
@@ -180,16 +180,6 @@ module _ (c : Call) (lent left : Buffers) (word o : ℕ) (s : Shape c lent left 
 
   pub shape-answers : Answers c lent left word
   shape-answers = by-questions (s .before) (s .after) refl refl
-
-  -- 1 to 14 and 24: the word, and everything as it was lent
-  pub shape-refused : (r : Refusal) → s .before ≡ No r →
-      (word ≡ refusalWord r) × (left .work ≡ lent .work) × (left .result ≡ lent .result)
-  shape-refused r e =
-      let is : s .all ≡ No r = s .all-is ∙ ap (λ q. andThen q (s .after)) e in (
-        s .word-by ∙ ap (λ a. onAsked refusalWord a (valueWord o (c .given))) is,
-        s .work-by ∙ ap (λ a. kept a (put (lent .work) 0 (c .bytes .work)) (lent .work)) e,
-        unwritten r is,
-      )
 
 -- ---- what a word shows
 

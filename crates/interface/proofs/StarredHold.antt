@@ -4,7 +4,7 @@
 use Prim.Native.Nat.{ℕ}
 use lib.ListN.{length}
 use mathlib.Core.List.{List}
-use mathlib.Core.Path.{_∙_, _≡_, ap, refl, subst, sym}
+use mathlib.Core.Path.{_∙_, _≡_, ap, refl, subst}
 use native.Mathlib.Omega.{arith}
 use Rattle.countermodel.specs.Individual.{individualHead, individualOk, refutationForm}
 use Rattle.countermodel.specs.Layout.{individualCount}
@@ -25,7 +25,6 @@ use Rattle.picture.specs.Depth.{depth, depthIn}
 use Rattle.picture.specs.Questions.{endField, fieldAt, kindOk, lengthFor, parentOk, roleOk, rowField, tagOk, valueField}
 use Rattle.picture.specs.Read.{answerOf, readingOf, scanFrom}
 use Rattle.picture.specs.Readable.{rowCount}
-use Rattle.subsumption.specs.Call.{verdictAnswer}
 use Rattle.subsumption.specs.Verdict.{evidenceOf, mapOf, refutationOf, verdictOf}
 use Rattle.table.specs.Bounds.{Bounded, benchLimits, pictureSize}
 use Rattle.table.specs.Fields.{endBytes, endsAt, rowOf}
@@ -35,12 +34,12 @@ use Rattle.table.specs.Range.{each}
 use Rattle.table.specs.declared.layout.Limits.{Limits}
 use Rattle.normal.specs.Call.{mergedAsked}
 use Rattle.workspace.specs.Lent.{lentAsked}
-use Rattle.workspace.specs.Prepare.{Acceptable, pairAsked, workSize}
+use Rattle.workspace.specs.Prepare.{pairAsked, workSize}
 use Rattle.interface.specs.Calls.{lcsWord, validateWord, verifyWord}
 use Rattle.interface.specs.Conditions.{checkGiven, commonGiven}
 use Rattle.interface.specs.Starred.{empty, k10-first, k10-second, k11-first, k11-second, k12-first, k12-normal, k12-normal-again, k2-first, k2-normal, k3-first, k3-normal, k4-first, k4-normal, k5-first, k6-first, k6-added-first, k6-added-normal, k7-first, k7-map, k7-refutation, k7-second, k8-first, k8-map, k8-other, k8-refutation, k8-second, k9-common, k9-first, k9-second, starred}
-use Rattle.interface.specs.StarredClaims.{WritesNormal, WritesCommon, AllHold, Holds, WritesEvidence, subsumes, subsumesNot}
-use Rattle.interface.specs.Word.{outcome, outcomeNo, outcomeYes, valueWord, verdictWord}
+use Rattle.interface.specs.StarredClaims.{WritesNormal, WritesCommon, AllHold, Holds, subsumes, subsumesNot}
+use Rattle.interface.specs.Word.{outcome, outcomeNo, outcomeYes, valueWord}
 use Rattle.interface.proofs.EmptySubsumes.{empty-subsumes}
 use Rattle.interface.proofs.Answers.{lcs-shape, normalize-shape}
 use Rattle.interface.proofs.Conditions.{common-shown, map-shown, check-map, refutation-shown, check-refutation, writes-evidence}

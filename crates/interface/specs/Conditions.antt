@@ -12,7 +12,8 @@
 --   Condition1Words                                condition 1, by what is laid down for each call (Answers)
 --   Lengths, verdictGiven, commonGiven, checkGiven,
 --   mostSpecificGiven,
---   evidenceWritten, pictureWritten                buffers of the lengths laid down; the words with given buffers;
+--   normalGiven, evidenceWritten,
+--   tableWritten, pictureWritten                   buffers of the lengths laid down; the words with given buffers;
 --                                                  what is written
 --   Condition2Words                                condition 2
 --   Taken, WritesTaken, Condition3Words            condition 3 (its first sentence in `Conditions`)
@@ -30,8 +31,12 @@ use Rattle.table.specs.Number.{Bytes}
 use Rattle.table.specs.declared.layout.Limits.{Limits}
 use Rattle.picture.specs.declared.answer.Input.the-variants.{Second}
 use Rattle.meaning.specs.Covering.{Covers}
-use Rattle.meaning.specs.Meaning.{pictureTable}
+use Rattle.ale.specs.Interpretation.{Equivalent}
+use Rattle.ale.specs.PictureSignature.{pictureSignature}
+use Rattle.picture.specs.Readable.{Readable}
+use Rattle.meaning.specs.Meaning.{pictureTable, pictureTree}
 use Rattle.meaning.specs.NormalTable.{normalFile}
+use Rattle.normal.specs.Call.{normalizeResult}
 use Rattle.workspace.specs.Prepare.{Acceptable, workSize}
 use Rattle.countermodel.specs.Individual.{refutationForm}
 use Rattle.evidence.specs.Form.{mapForm}
@@ -44,7 +49,7 @@ use Rattle.book.specs.Call.{AcceptableBook}
 use Rattle.book.specs.Form.{cardTag, mostCards}
 use Rattle.book.specs.Selection.{MostSpecific}
 use Rattle.interface.specs.Answers.{Answers, buffers, lcsCall, mostSpecificCall, normalizeCall, subsumesCall, validateCall, verifyCall}
-use Rattle.interface.specs.Calls.{LcsGives, MostSpecificGives, NormalizeGives, SubsumesGives, VerifyGives, lcsWord, mostSpecificWord, subsumesWord, validateWord, verifyWord}
+use Rattle.interface.specs.Calls.{LcsGives, MostSpecificGives, NormalizeGives, SubsumesGives, VerifyGives, lcsWord, mostSpecificWord, normalizeWord, subsumesWord, validateWord, verifyWord}
 use Rattle.interface.specs.Word.{outcome, outcomeNo, outcomeYes, refused, value, valueWord}
 
 -- "1. Whoever calls the library, with whatever bytes and buffers, gets a result or a numbered refusal, each laid down
@@ -89,6 +94,13 @@ mostSpecificGiven limits case book work = mostSpecificWord limits case book (len
 abbrev pub evidenceWritten : Limits → List ℕ → List ℕ → List ℕ → List ℕ → List ℕ
 evidenceWritten limits first second work result =
     take (value (verdictGiven limits first second work result)) (subsumesResult limits first second (length work) result)
+
+abbrev pub normalGiven : Limits → List ℕ → List ℕ → ℕ
+normalGiven limits picture result = normalizeWord limits picture (length result)
+
+abbrev pub tableWritten : Limits → List ℕ → List ℕ → List ℕ
+tableWritten limits picture result =
+    take (value (normalGiven limits picture result)) (normalizeResult limits picture result)
 
 abbrev pub pictureWritten : Limits → List ℕ → List ℕ → List ℕ → List ℕ → List ℕ
 pictureWritten limits first second work result =
@@ -150,6 +162,13 @@ pub record Condition3Words (limits : Limits) (first second : List ℕ) : Type 0 
       WritesTaken limits first second (verdictGiven limits first second work result)
       (evidenceWritten limits first second work result)
 
+-- 01, "Write its normal table": the bytes written are a picture, and it means the same
+pub record NormalWords (limits : Limits) (picture : List ℕ) : Type 0 where
+  pub readable : (result : List ℕ) → outcome (normalGiven limits picture result) ≡ outcomeYes →
+      Readable limits (tableWritten limits picture result)
+  pub equivalent : (result : List ℕ) → outcome (normalGiven limits picture result) ≡ outcomeYes →
+      Equivalent pictureSignature (pictureTree limits picture) (pictureTree limits (tableWritten limits picture result))
+
 -- 01, "Nearest cards for a case"
 pub record MostSpecificWords (limits : Limits) (case book : List ℕ) : Type 0 where
   -- a word is given exactly with a work space of the length laid down, for a readable case, a book of the book form and
@@ -173,6 +192,7 @@ pub record Conditions (limits : Limits) : Type 0 where
   pub three-refutation : (first second evidence work : List ℕ) →
       outcome (checkGiven limits first second evidence work) ≡ outcomeNo → Covers limits second first → ⊥
   pub three : (first second : List ℕ) → Acceptable limits first second → Condition3Words limits first second
+  pub normal : (picture : List ℕ) → NormalWords limits picture
   pub cards : (case book : List ℕ) → MostSpecificWords limits case book
 
 pub record PaperNumbers (limits : Limits) : Type 0 where

@@ -7,14 +7,14 @@
 --   from-decides, from-yes        one question of each thing in turn; its first half;
 --   YesTo, yes-on, to-yes,
 --   yes-to, to-no                 as a loop asks
---   read-decides, unreadable-no   2 to 13 of a picture;
+--   read-decides                  2 to 13 of a picture;
 --   rows-yes, refused-no          by the answer of reading it
 --   on-yes, on-no                 the answer where all is yes; where r is the first no
 --   on-by                         a property of the value, where all is yes, and of every first no is one of the answer
 --   given                         an answer that is no refusal is the value, and all is yes
 --   refused-by                    a refusal that is answered is the first no
 --   EveryRefusal                       every refusal has a property;
---   asked-refuses, and-refuses, from-refuses, read-refuses, refuses-no, refuses-so   of the same
+--   asked-refuses, and-refuses, from-refuses, read-refuses, refuses-no   of the same
 use Prim.Native.Nat.{_+_, _<_, _≤_, suc, zero, ℕ}
 use borrow.Author.Tests.{le-leb, leb-false, leb-true, lt-leb}
 use lib.Dec.{leb}
@@ -220,9 +220,6 @@ module _ (limits : Limits) (input : Input) (s : List ℕ) where
   unfolding readAsked
   read-decides = by-reading (readingOf limits s) refl
 
-  pub unreadable-no : (q : ℕ) → readingOf limits s ≡ reading.Failed q → readAsked limits input s ≡ No (refusal q input)
-  unreadable-no q e = read-decides .no (refusal q input) .1 (q, e, refl)
-
   -- the same by the answer of a reading
   pub rows-yes : (n : ℕ) → answerOf limits input s ≡ answer.Rows n → readAsked limits input s ≡ Yes
   unfolding readAsked answerOf
@@ -289,7 +286,3 @@ module _ (P : Refusal → Type 0) where
 
   pub refuses-no : (a : Asked) → EveryRefusal a → (r : Refusal) → a ≡ No r → P r
   refuses-no a h r e = subst EveryRefusal e h
-
-pub refuses-so : (P Q : Refusal → Type 0) → ((r : Refusal) → P r → Q r) → (a : Asked) → EveryRefusal P a → EveryRefusal Q a
-refuses-so P Q h Yes k = tt
-refuses-so P Q h (No r) k = h r k

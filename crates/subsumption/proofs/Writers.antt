@@ -15,12 +15,10 @@ use mathlib.Core.List.{List}
 use mathlib.Core.Logic.{_↔_}
 use mathlib.Core.Path.{_∙_, _≡_, subst, sym}
 use native.Mathlib.Omega.{arith}
-use Rattle.ale.proofs.Concepts.{subsumed-concepts}
 use Rattle.ale.proofs.CountermodelRoles.{countermodel-known}
 use Rattle.ale.proofs.LowestMap.{lowest-homomorphism}
 use Rattle.ale.proofs.Sizes.{countermodel-bound}
 use Rattle.ale.proofs.Subsumption.{not-subsumed}
-use Rattle.ale.specs.Concept.{ConceptSubsumed, conceptOf}
 use Rattle.ale.specs.Countermodel.{countermodel, encoded-inhabited, numbered}
 use Rattle.ale.specs.Encoding.{encode, encoded}
 use Rattle.ale.specs.Homomorphism.{mapsTo}
@@ -33,7 +31,6 @@ use Rattle.ale.specs.Table.{KnownRoles, ParentsFirst, Table}
 use Rattle.ale.specs.Tree.{Tree}
 use Rattle.countermodel.proofs.Individuals.{within-most}
 use Rattle.countermodel.proofs.Refutables.{length-refutationFile, refutationFile-count, refutationFile-fits, refutationFile-form, refutationFile-passes}
-use Rattle.countermodel.specs.Individual.{refutationForm}
 use Rattle.countermodel.specs.Layout.{individualCount, individualsWithin}
 use Rattle.countermodel.specs.Model.{rowTree}
 use Rattle.countermodel.specs.Writing.{refutationFile}
@@ -54,7 +51,7 @@ use Rattle.table.specs.Bounds.{Bounded}
 use Rattle.table.specs.Layout.{lengthOffset, numberSize}
 use Rattle.table.specs.Number.{Bytes, be}
 use Rattle.table.specs.declared.layout.Limits.{Limits}
-use Rattle.workspace.specs.Prepare.{Acceptable, workSize}
+use Rattle.workspace.specs.Prepare.{Acceptable}
 use Rattle.subsumption.specs.Verdict.{evidenceOf, evidenceSize, mapOf, refutationOf, verdictOf}
 use Rattle.subsumption.proofs.EvidenceBytes.{bytes-map, bytes-refutation}
 

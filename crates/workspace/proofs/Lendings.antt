@@ -1,30 +1,22 @@
--- Laws of the buffers that the calls on two pictures are lent, at any limits and any length named of the result buffer.
+-- Laws of 1 of the calls on two pictures, at any limits and any length named of the result buffer.
 --   room-no, room-yes,
 --   room-both, room-long   1: one of the two buffers is too short, or both are long enough, or the other decides
 --   Lent, two-decides      the questions of a call that is lent a result buffer too: all yes exactly with room and of
 --                          an acceptable pair; the first no
---   work-put               the work space where all is answered yes
---   work-past, work-kept   bytes past the two halves keep their contents, whatever the answer; so does its length
---   work-same              and its halves, where all is answered yes, do not depend on what stood there
 use Prim.Native.Nat.{ℕ, _<_, _≤_}
 use borrow.Author.Tests.{le-leb, leb-false, leb-true, lt-leb}
 use lib.Dec.{leb}
-use lib.ListN.{getD, length, take}
 use mathlib.Core.Bool.{Bool, and-false, false, true}
-use mathlib.Core.List.{List, _++_}
+use mathlib.Core.List.{List}
 use mathlib.Core.Logic.{_⊎_, inl, inr, ⊎-elim}
 use mathlib.Core.Path.{_∙_, _≡_, refl, sym}
 use Rattle.table.proofs.Bools.{both, by-test}
 use Rattle.table.specs.declared.layout.Limits.{Limits}
 use Rattle.picture.proofs.Orders.{Decides, said-so}
-use Rattle.picture.proofs.Keeping.{kept-by}
 use Rattle.picture.specs.Refusal.{shortBuffer}
-use Rattle.meaning.specs.NormalTable.{normalFile}
-use Rattle.normal.specs.Half.{halfOf}
-use Rattle.workspace.specs.Lent.{lentAsked, pairWork, roomy}
-use Rattle.workspace.specs.Prepare.{Acceptable, halvesPut, workSize}
-use Rattle.workspace.proofs.Pairs.{PairNo, lent-decides, lent-yes}
-use Rattle.workspace.proofs.Preparations.{halves-past, halves-same, length-halves}
+use Rattle.workspace.specs.Lent.{lentAsked, roomy}
+use Rattle.workspace.specs.Prepare.{Acceptable, workSize}
+use Rattle.workspace.proofs.Pairs.{PairNo, lent-decides}
 
 -- ---- 1
 
@@ -78,33 +70,3 @@ module _ (limits : Limits) (first second : List ℕ) (size work result : ℕ) wh
         ⊎-elim (λ (short, is). inl (room-no limits size work result short, is))
             (λ ((enough, long), one). inr (room-yes limits size work result enough long, one)),
       ))
-
--- ---- the work space
-
--- enough is the answer to 1, which says that the work space is long enough
-module _ (limits : Limits) (enough : Bool) (first second work : List ℕ) where
-  pub work-past : (i : ℕ) → workSize limits ≤ i → getD (pairWork limits enough first second work) i 0 ≡ getD work i 0
-  work-past i h =
-      kept-by (halvesPut limits first second work) work (λ l. getD l i 0 ≡ getD work i 0)
-      (lentAsked limits enough first second) refl
-      (λ all.
-      let (room, pair) = lent-decides limits first second enough .yes .0 all in
-      halves-past limits first second work (pair .first-few) (pair .second-few) i h)
-
-  pub work-kept : (enough ≡ true → workSize limits ≤ length work) → length (pairWork limits enough first second work)
-      ≡ length work
-  work-kept long =
-      kept-by (halvesPut limits first second work) work (λ l. length l ≡ length work)
-      (lentAsked limits enough first second) refl
-      (λ all.
-      let (room, pair) = lent-decides limits first second enough .yes .0 all in
-      length-halves limits first second work (pair .first-few) (pair .second-few) (long room))
-
-  module _ (room : enough ≡ true) (pair : Acceptable limits first second) where
-    pub work-put : pairWork limits enough first second work ≡ halvesPut limits first second work
-    work-put = rw (lent-yes limits first second enough room pair)
-
-    pub work-same :
-        take (workSize limits) (pairWork limits enough first second work)
-        ≡ halfOf limits (normalFile limits first) ++ halfOf limits (normalFile limits second)
-    work-same = rw work-put (halves-same limits first second work (pair .first-few) (pair .second-few))

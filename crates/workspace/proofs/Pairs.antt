@@ -1,15 +1,15 @@
 -- Laws of the questions of every call on two pictures, at any limits.
 --   PairNo                        the first no: 2 to 13 of the first; of the second; 14 of the first; of the second
 --   pair-decides                  all are answered yes exactly of an acceptable pair, and the first no is exactly that
---   acceptable-yes, yes-acceptable   so of such a pair
+--   yes-acceptable                so such a pair is acceptable
 --   pair-refuses, lent-refuses    every refusal is 1 of the buffer, or 2 to 14 of the first or of the second
 --   lent-decides                  the questions after 1
---   lent-short, lent-pair, lent-yes  1 is answered no; it is answered yes; so is all of an acceptable pair
+--   lent-short, lent-pair         1 is answered no; it is answered yes
 use Prim.Native.Nat.{_≤_, ℕ}
 use native.Mathlib.Omega.{arith}
 use mathlib.Core.Bool.{Bool, false, true}
 use mathlib.Core.List.{List}
-use mathlib.Core.Logic.{_↔_, _⊎_, inl, inr, ⊎-elim}
+use mathlib.Core.Logic.{_⊎_, inl}
 use mathlib.Core.Path.{_≡_, refl}
 use Rattle.table.specs.declared.layout.Limits.{Limits}
 use Rattle.picture.proofs.Orders.{Decides, EveryRefusal, Unreadable, and-decides, and-refuses, asked-decides, asked-refuses, read-decides, read-refuses, said-so}
@@ -59,9 +59,6 @@ module _ (limits : Limits) (first second : List ℕ) where
       )
       (λ r. (λ h. h, λ h. h))
 
-  pub acceptable-yes : Acceptable limits first second → pairAsked limits first second ≡ Yes
-  acceptable-yes pair = pair-decides .yes .1 pair
-
   pub yes-acceptable : pairAsked limits first second ≡ Yes → Acceptable limits first second
   yes-acceptable h = pair-decides .yes .0 h
 
@@ -100,6 +97,3 @@ module _ (limits : Limits) (first second : List ℕ) where
     pub lent-pair : enough ≡ true → lentAsked limits enough first second ≡ pairAsked limits first second
     unfolding lentAsked
     lent-pair e = rw e
-
-    pub lent-yes : enough ≡ true → Acceptable limits first second → lentAsked limits enough first second ≡ Yes
-    lent-yes e pair = lent-decides .yes .1 (e, pair)

@@ -1,10 +1,8 @@
 -- Laws of the work space that holds both normal tables, at any limits.
 --   halves-first, halves-second       each half begins with a normal file
---   halves-same                       what stood in its halves does not matter
---   halves-past                       bytes past both halves keep their contents
 --   length-halves                     the work space keeps its length
 use Prim.Native.Nat.{_≤_, ℕ}
-use lib.ListN.{drop, getD, length, take}
+use lib.ListN.{drop, length, take}
 use mathlib.Core.List.{List, _++_}
 use mathlib.Core.Path.{_∙_, _≡_}
 use native.Mathlib.Omega.{arith}
@@ -16,7 +14,7 @@ use Rattle.table.proofs.Puts.{length-put}
 use Rattle.table.specs.Bounds.{pictureSize}
 use Rattle.table.specs.declared.layout.Limits.{Limits}
 use Rattle.workspace.specs.Prepare.{halvesPut, workSize}
-use Rattle.workspace.proofs.Halves.{join-lower, join-past, join-upper, join-whole, length-join}
+use Rattle.workspace.proofs.Halves.{join-lower, join-upper, length-join}
 
 abbrev half : Limits → List ℕ → List ℕ
 half limits s = halfOf limits (normalFile limits s)
@@ -44,16 +42,6 @@ module _ (limits : Limits) (first second work : List ℕ) (first-few : mergedCou
       join-upper (pictureSize limits) (half limits first) (half limits second) lower upper work (length (normalFile limits second))
       (normal-size limits second second-few)
       ∙ half-file limits (normalFile limits second)
-
-  pub halves-same :
-      take (workSize limits) (halvesPut limits first second work)
-      ≡ halfOf limits (normalFile limits first) ++ halfOf limits (normalFile limits second)
-  unfolding halvesPut
-  halves-same = join-whole (pictureSize limits) (half limits first) (half limits second) lower upper work
-
-  pub halves-past : (i : ℕ) → workSize limits ≤ i → getD (halvesPut limits first second work) i 0 ≡ getD work i 0
-  unfolding halvesPut
-  halves-past = join-past (pictureSize limits) (half limits first) (half limits second) lower upper work
 
   pub length-halves : workSize limits ≤ length work → length (halvesPut limits first second work) ≡ length work
   unfolding halvesPut
