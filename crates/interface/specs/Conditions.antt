@@ -9,16 +9,16 @@
 -- specs/Covering). The lengths laid down are `workSize`, `evidenceSize` and `pictureSize`: at 256 rows, 12,294, 46,595
 -- and 6,147 bytes.
 --
---   Condition1Words                                condition 1, by what is laid down for each call (Answers)
---   Lengths, verdictGiven, commonGiven, checkGiven,
---   mostSpecificGiven,
---   normalGiven, evidenceWritten,
---   tableWritten, pictureWritten                   buffers of the lengths laid down; the words with given buffers;
---                                                  what is written
---   Condition2Words                                condition 2
---   Taken, WritesTaken, Condition3Words            condition 3 (its first sentence in `Conditions`)
---   MostSpecificWords                                   the nearest cards
---   Conditions, PaperNumbers                       all of them; the numbers of paper 01
+--   Condition1Words                       condition 1, by what is laid down for each call (Answers)
+--   Lengths                               buffers of the lengths laid down
+--   verdictGiven, commonGiven, checkGiven,
+--   mostSpecificGiven, normalGiven        the words of the calls, with given buffers
+--   evidenceWritten, tableWritten,
+--   pictureWritten                        what is written: the result buffer's bytes up to the length reported
+--   Condition2Words                       condition 2
+--   Taken, WritesTaken, Condition3Words   condition 3 (its first sentence in `Conditions`)
+--   NormalWords, MostSpecificWords        the normal table; the nearest cards
+--   Conditions, PaperNumbers              all of them; the numbers of paper 01
 use Prim.Native.Nat.{_<_, _≤_, ℕ}
 use lib.ListN.{length, take}
 use mathlib.Core.Bool.{true}

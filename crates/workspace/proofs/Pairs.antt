@@ -62,6 +62,20 @@ module _ (limits : Limits) (first second : List ℕ) where
   pub yes-acceptable : pairAsked limits first second ≡ Yes → Acceptable limits first second
   yes-acceptable h = pair-decides .yes .0 h
 
+  module _ (enough : Bool) where
+    pub lent-decides : Decides (lentAsked limits enough first second) ((enough ≡ true) × Acceptable limits first second)
+        (λ r. ((enough ≡ false) × (r ≡ shortBuffer)) ⊎ ((enough ≡ true) × PairNo r))
+    unfolding lentAsked
+    lent-decides = and-decides (roomAsked enough) (pairAsked limits first second) (asked-decides enough shortBuffer)
+        (λ e. pair-decides)
+
+    pub lent-short : enough ≡ false → lentAsked limits enough first second ≡ No shortBuffer
+    lent-short e = lent-decides .no shortBuffer .1 (inl (e, refl))
+
+    pub lent-pair : enough ≡ true → lentAsked limits enough first second ≡ pairAsked limits first second
+    unfolding lentAsked
+    lent-pair e = rw e
+
   -- the numbers are 2 to 14, of the first and of the second
   module _ (P : Refusal → Type 0) (named : (q : ℕ) → 2 ≤ q → q ≤ 14 → P (refusal q First)) (named-second : (q : ℕ) →
       2 ≤ q → q ≤ 14 → P (refusal q Second)) where
@@ -83,17 +97,3 @@ module _ (limits : Limits) (first second : List ℕ) where
     lent-refuses short enough =
         and-refuses P (roomAsked enough) (pairAsked limits first second) (asked-refuses P enough shortBuffer short)
         pair-refuses
-
-  module _ (enough : Bool) where
-    pub lent-decides : Decides (lentAsked limits enough first second) ((enough ≡ true) × Acceptable limits first second)
-        (λ r. ((enough ≡ false) × (r ≡ shortBuffer)) ⊎ ((enough ≡ true) × PairNo r))
-    unfolding lentAsked
-    lent-decides = and-decides (roomAsked enough) (pairAsked limits first second) (asked-decides enough shortBuffer)
-        (λ e. pair-decides)
-
-    pub lent-short : enough ≡ false → lentAsked limits enough first second ≡ No shortBuffer
-    lent-short e = lent-decides .no shortBuffer .1 (inl (e, refl))
-
-    pub lent-pair : enough ≡ true → lentAsked limits enough first second ≡ pairAsked limits first second
-    unfolding lentAsked
-    lent-pair e = rw e
