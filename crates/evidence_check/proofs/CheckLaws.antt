@@ -3,10 +3,8 @@
 --   check-map, check-refutation, check-neither   the answer by the form of the file
 --   tables-check                                 the parts of the work space that are the normal files decide what the
 --                                                definition asks of the pictures
---   short-call, prepared-call                    the call: 1 is answered no; it is answered yes, and what `prepare`
---                                                has answered
-use Prim.Native.Nat.{ℕ, _<_, _≤_}
-use borrow.Author.Tests.{le-leb, lt-leb}
+--   prepared-call                                the call, by what the questions before the evidence answer
+use Prim.Native.Nat.{ℕ}
 use lib.Dec.{leb}
 use lib.ListN.{length}
 use mathlib.Core.Bool.{Bool, false, not, true}
@@ -15,9 +13,8 @@ use mathlib.Core.Path.{_∙_, _≡_, ap, refl, sym}
 use Rattle.table.specs.Bounds.{Bounded}
 use Rattle.table.specs.Range.{each}
 use Rattle.table.specs.declared.layout.Limits.{Limits}
-use Rattle.picture.specs.Asked.{andThen, asked, kept, onAsked}
+use Rattle.picture.specs.Asked.{andThen, asked, onAsked}
 use Rattle.picture.specs.Readable.{rowCount}
-use Rattle.picture.specs.Refusal.{shortBuffer}
 use Rattle.picture.specs.declared.answer.Asked.{Asked}
 use Rattle.picture.specs.declared.answer.Asked.the-variants.{No}
 use Rattle.meaning.specs.Meaning.{pictureTable, pictureTree}
@@ -27,15 +24,14 @@ use Rattle.countermodel.specs.Layout.{individualCount}
 use Rattle.countermodel.specs.Model.{modelTree, rowTree}
 use Rattle.homomorphism.specs.Layout.{imageOf}
 use Rattle.model_check.specs.ModelRows.{fitsRow}
-use Rattle.workspace.proofs.Pairs.{lent-pair, lent-short}
-use Rattle.workspace.specs.Lent.{lentAsked}
-use Rattle.workspace.specs.Prepare.{Acceptable, halvesPut, pairAsked, workSize}
+use Rattle.workspace.specs.Lent.{lentAsked, pairWork}
+use Rattle.workspace.specs.Prepare.{Acceptable, workSize}
 use Rattle.prepare_pair.proofs.TablesIn.{on-tables}
 use Rattle.prepare_pair.specs.Tables.{NormalTables}
 use Rattle.prepare_pair.specs.declared.prepare.Pair.{Pair}
 use Rattle.evidence.proofs.NormalTables.{fits-picture}
 use Rattle.evidence.proofs.Refutations.{refutation-asked-same}
-use Rattle.evidence.specs.Call.{evidenceAsked, evidenceKind, verifyAnswer, verifyWork}
+use Rattle.evidence.specs.Call.{evidenceAsked, evidenceKind, verifyAnswer, verifyLent, verifyWork}
 use Rattle.evidence.specs.Check.{checkAsked, refutationAsked}
 use Rattle.evidence.specs.Form.{mapForm}
 use Rattle.evidence.specs.Map.{mapAsked, refusalBy}
@@ -117,25 +113,13 @@ module _ (limits : Limits) (first second e work : List ℕ) where
   Gives answer space =
       (answer ≡ verifyAnswer limits first second e (length work)) × (space ≡ verifyWork limits first second work)
 
-  -- a is what the questions before the evidence answer
-  by-asked : (a : Asked) → lentAsked limits (leb (workSize limits) (length work)) first second ≡ a →
-      Gives (onAsked Refused (andThen a (evidenceAsked limits first second e)) (evidenceKind limits second e))
-      (kept a (halvesPut limits first second work) work)
-  unfolding verifyAnswer
-  by-asked a is = (rw is, rw is)
-
-  pub short-call : length work < workSize limits → Gives (Refused shortBuffer) work
-  short-call short =
-      let size = workSize limits in
-      by-asked (No shortBuffer)
-      (lent-short limits first second (leb size (length work)) (lt-leb size (length work) short))
-
-  -- a is what the questions of the pair answer, `space` what `prepare` has left
-  pub prepared-call : workSize limits ≤ length work → (a : Asked) (space : List ℕ) → pairAsked limits first second ≡ a →
-      space ≡ kept (pairAsked limits first second) (halvesPut limits first second work) work →
+  -- b is the answer to 1, a what the questions before the evidence answer, `space` what `prepare` has left
+  pub prepared-call : (b : Bool) → b ≡ leb (workSize limits) (length work) →
+      (a : Asked) → lentAsked limits b first second ≡ a → (space : List ℕ) →
+      space ≡ pairWork limits b first second work →
       Gives (onAsked Refused (andThen a (evidenceAsked limits first second e)) (evidenceKind limits second e)) space
-  prepared-call enough a space is written =
-      let size = workSize limits in
-      let pair = lent-pair limits first second (leb size (length work)) (le-leb size (length work) enough) in
-      let (answer, left) = by-asked a (pair ∙ is) in
-      (answer, written ∙ ap (λ q. kept q (halvesPut limits first second work) work) is ∙ left)
+  unfolding verifyAnswer
+  prepared-call b room a is space written =
+      let asks : verifyLent limits first second (length work) ≡ a =
+      ap (λ q. lentAsked limits q first second) (sym room) ∙ is in
+      (rw asks, written ∙ ap (λ q. pairWork limits q first second work) room)

@@ -1,7 +1,6 @@
 // The fifth call: question 1, both pictures into the work space, and the evidence.
 use crate::check::check;
 use evidence::check::Verified;
-use picture::answer::short_buffer;
 use prepare_pair::prepare::Prepared;
 use prepare_pair::prepare::half_size;
 use prepare_pair::prepare::prepare;
@@ -26,10 +25,8 @@ pub fn verify(
     ensures { λ r. ⌜ (r ≡ verifyAnswer limits (now (first .entry)) (now (second .entry)) (now (evidence .entry)) (length (now (work .entry)))) × (now (work .exit) ≡ verifyWork limits (now (first .entry)) (now (second .entry)) (now (work .entry))) ⌝ }
 {
     let half = half_size(limits);
-    if work.len() < half + half {
-        return Verified::Refused(short_buffer());
-    }
-    match prepare(first, second, limits, work) {
+    let enough = half + half <= work.len();
+    match prepare(first, second, limits, enough, work) {
         Prepared::Tables(pair) => {
             let low = first_table(work, pair);
             let high = second_table(work, limits, pair);

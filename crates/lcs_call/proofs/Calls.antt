@@ -2,14 +2,14 @@
 --   trims                             the normal tables of a pair are such as the walk along both needs,
 --   common-file-in, large-in          and what is made of them is what the definition says of the pictures
 --   made-few, made-many               the answer and the result buffer over the rows that were built
---   short-call, prepared-call         the answer and both buffers: 1 is answered no, or the reading and 14 decide
+--   prepared-call                     the answer and both buffers, by what the questions answer
 --   tables-trims, tables-common       the same of the parts of the work space that are the normal tables
 use Prim.Native.Nat.{_+_, _<_, _≤_, ℕ}
 use borrow.Author.Tests.{le-leb, lt-leb}
 use lib.ListN.{length}
-use mathlib.Core.Bool.{false, true}
+use mathlib.Core.Bool.{Bool}
 use mathlib.Core.List.{List, _++_}
-use mathlib.Core.Path.{_∙_, _≡_, ap, refl, subst, sym}
+use mathlib.Core.Path.{_∙_, _≡_, ap, subst, sym}
 use native.Mathlib.Omega.{arith}
 use Rattle.ale.proofs.Encodings.{encodeTree-length}
 use Rattle.ale.specs.Encoding.{encode}
@@ -23,9 +23,7 @@ use Rattle.meaning.specs.File.{fileOf}
 use Rattle.meaning.specs.NormalTable.{normalFile, normalTreeOf}
 use Rattle.normal_writer.specs.Grown.{prefix}
 use Rattle.picture.specs.Asked.{andThen, kept, onAsked}
-use Rattle.picture.specs.Refusal.{shortBuffer}
 use Rattle.picture.specs.declared.answer.Asked.{Asked}
-use Rattle.picture.specs.declared.answer.Asked.the-variants.{No}
 use Rattle.picture.specs.Readable.{Readable}
 use Rattle.table.specs.Bounds.{Bounded, pictureSize}
 use Rattle.table.specs.Fields.{endBytes}
@@ -34,9 +32,8 @@ use Rattle.table.specs.Put.{put}
 use Rattle.table_rows.specs.declared.builder.Builder.{Builder}
 use Rattle.table.specs.declared.layout.Limits.{Limits}
 use Rattle.prepare_pair.proofs.TablesIn.{on-tables}
-use Rattle.workspace.proofs.Pairs.{lent-pair, lent-short}
-use Rattle.workspace.specs.Lent.{roomy}
-use Rattle.workspace.specs.Prepare.{Acceptable, halvesPut, pairAsked}
+use Rattle.workspace.specs.Lent.{lentAsked, pairWork, roomy}
+use Rattle.workspace.specs.Prepare.{Acceptable}
 use Rattle.prepare_pair.specs.Tables.{NormalTables}
 use Rattle.prepare_pair.specs.declared.prepare.Pair.{Pair}
 use Rattle.lcs.specs.Call.{largeAsked, lcsAnswer, lcsLent, lcsResult, lcsWork, tooLarge}
@@ -122,29 +119,17 @@ module _ (limits : Limits) (first second work result : List ℕ) where
   abbrev file-of : List ℕ
   file-of = lcsFile limits first second
 
-  -- what the questions before 15 answer, a
-  by-asked : (a : Asked) → lcsLent limits first second (length work) (length result) ≡ a →
-      Gives (onAsked Refused (andThen a (largeAsked limits first second)) (Length (length file-of)))
-      (kept a (halvesPut limits first second work) work) (kept (andThen a (largeAsked limits first second))
-      (put result 0 file-of) result)
-  unfolding lcsAnswer
-  by-asked a e = (rw e, (rw e, rw e))
-
-  pub short-call : roomy limits (pictureSize limits) (length work) (length result) ≡ false → Gives (Refused shortBuffer) work result
-  short-call h = by-asked (No shortBuffer)
-      (lent-short limits first second (roomy limits (pictureSize limits) (length work) (length result)) h)
-
-  -- a is what the questions of the pair answer, `space` what `prepare` has left
-  pub prepared-call : roomy limits (pictureSize limits) (length work) (length result) ≡ true →
-      (a : Asked) (space : List ℕ) →
-      pairAsked limits first second ≡ a → space ≡ kept (pairAsked limits first second)
-      (halvesPut limits first second work) work →
+  -- b is the answer to 1, a what the questions before 15 answer, `space` what `prepare` has left
+  pub prepared-call : (b : Bool) → b ≡ roomy limits (pictureSize limits) (length work) (length result) →
+      (a : Asked) → lentAsked limits b first second ≡ a → (space : List ℕ) →
+      space ≡ pairWork limits b first second work →
       Gives (onAsked Refused (andThen a (largeAsked limits first second)) (Length (length file-of))) space
       (kept (andThen a (largeAsked limits first second)) (put result 0 file-of) result)
-  prepared-call h a space is written =
-      let (answer, (left, buffer)) = by-asked a
-      (lent-pair limits first second (roomy limits (pictureSize limits) (length work) (length result)) h ∙ is) in
-      (answer, (written ∙ ap (λ q. kept q (halvesPut limits first second work) work) is ∙ left, buffer))
+  unfolding lcsAnswer
+  prepared-call b room a is space written =
+      let asks : lcsLent limits first second (length work) (length result) ≡ a =
+      ap (λ q. lentAsked limits q first second) (sym room) ∙ is in
+      (rw asks, (written ∙ ap (λ q. pairWork limits q first second work) room, rw asks))
 
 -- ---- the parts of the work space that are the normal tables
 

@@ -4,7 +4,6 @@ use normal_writer::write::SCRATCH;
 use normal_writer::write::write_table;
 use picture::answer::Input;
 use picture::answer::refuse;
-use picture::answer::short_buffer;
 use prepare_pair::prepare::Prepared;
 use prepare_pair::prepare::half_size;
 use prepare_pair::prepare::has_room;
@@ -59,10 +58,8 @@ pub fn lcs(
     requires { ⌜ Bounded limits ⌝ }
     ensures { λ r. ⌜ (r ≡ lcsAnswer limits (now (first .entry)) (now (second .entry)) (length (now (work .entry))) (length (now (result .entry)))) × ((now (work .exit) ≡ lcsWork limits (now (first .entry)) (now (second .entry)) (now (work .entry)) (length (now (result .entry)))) × (now (result .exit) ≡ lcsResult limits (now (first .entry)) (now (second .entry)) (length (now (work .entry))) (now (result .entry)))) ⌝ }
 {
-    if !has_room(limits, half_size(limits), work.len(), result.len()) {
-        return Common::Refused(short_buffer());
-    }
-    match prepare(first, second, limits, work) {
+    let enough = has_room(limits, half_size(limits), work.len(), result.len());
+    match prepare(first, second, limits, enough, work) {
         Prepared::Tables(pair) => {
             let low = first_table(work, pair);
             let high = second_table(work, limits, pair);

@@ -1,12 +1,15 @@
 -- The two tables in the work space, as they are lent to what reads them.
 --   first-lies        the first table lies within the work space
 --   on-tables         what is true of two normal files is true of the parts that are these files
---   prepared-yes, prepared-no   what `prepare` gives says what the questions of the pair answer
+--   Lending           what `prepare` was lent, gave and left
+--   prepared-yes, prepared-no,
+--   long-enough       what `prepare` gives says what the questions of the pair answer
 --   prepared-in       after `prepare` has given the pair both tables are there, each as the code needs it,
 --   prepared-tables   and the parts that are cut out are the normal tables
 use Prim.Native.Nat.{ℕ, _≤_}
 use native.Mathlib.Omega.{arith}
 use lib.ListN.{drop, length, take}
+use mathlib.Core.Bool.{Bool, true}
 use mathlib.Core.List.{List}
 use mathlib.Core.Path.{_∙_, _≡_, ap, subst, sym}
 use Rattle.table.specs.Bounds.{Bounded, maxRows, pictureSize}
@@ -18,16 +21,17 @@ use Rattle.row_sets.proofs.Checks.{readable-checked}
 use Rattle.row_sets.specs.Rows.{Checked}
 use Rattle.picture.proofs.Orders.{given, refused-by}
 use Rattle.picture.proofs.Keeping.{kept-yes}
-use Rattle.picture.specs.Asked.{kept, onAsked}
+use Rattle.picture.specs.Asked.{onAsked}
 use Rattle.picture.specs.declared.answer.Asked.the-variants.{No, Yes}
 use Rattle.picture.specs.declared.answer.Refusal.{Refusal}
-use Rattle.workspace.specs.Prepare.{Acceptable, halvesPut, pairAsked, workSize}
+use Rattle.workspace.specs.Prepare.{Acceptable, halvesPut, workSize}
 use Rattle.normal_writer.specs.Tables.{tableRows}
 use Rattle.prepare_pair.specs.Tables.{NormalTables, TablesIn, firstIn, secondIn, tablesOf}
 use Rattle.prepare_pair.specs.declared.prepare.Pair.{Pair}
 use Rattle.prepare_pair.specs.declared.prepare.Prepared.{Prepared}
 use Rattle.prepare_pair.specs.declared.prepare.Prepared.the-variants.{Refused, Tables}
-use Rattle.workspace.proofs.Pairs.{yes-acceptable}
+use Rattle.workspace.proofs.Pairs.{lent-decides}
+use Rattle.workspace.specs.Lent.{lentAsked, pairWork}
 use Rattle.workspace.proofs.Preparations.{halves-first, halves-second, length-halves}
 
 pub first-lies : {limits : Limits} {work : List ℕ} {pair : Pair} → TablesIn limits work pair →
@@ -66,30 +70,39 @@ module _ (limits : Limits) (first second work : List ℕ) (bounded : Bounded lim
             (readable-checked limits (normalFile limits second) (tableRows limits second) (normal-reads limits second (pair .second-few) bounded) bounded);
       }
 
--- after `prepare`
-module _ (limits : Limits) (first second old : List ℕ) {work : List ℕ} {answer : Prepared} {pair : Pair}
-    (bounded : Bounded limits) (enough : workSize limits ≤ length old)
-    (is : answer ≡ onAsked Refused (pairAsked limits first second) (Tables (tablesOf limits first second)))
-    (written : work ≡ kept (pairAsked limits first second) (halvesPut limits first second old) old)
-    (tables : answer ≡ Tables pair) where
-  pub prepared-yes : (pairAsked limits first second ≡ Yes) × (Tables (tablesOf limits first second) ≡ Tables pair)
+-- what `prepare` was lent, gave and left; b is the answer to 1
+pub record Lending (limits : Limits) (b : Bool) (first second old work : List ℕ) (answer : Prepared) : Type 0 where
+  pub bounded : Bounded limits
+  pub long : b ≡ true → workSize limits ≤ length old
+  pub is : answer ≡ onAsked Refused (lentAsked limits b first second) (Tables (tablesOf limits first second))
+  pub written : work ≡ pairWork limits b first second old
+
+module _ {limits : Limits} {b : Bool} {first second old work : List ℕ} {answer : Prepared} {pair : Pair}
+    (l : Lending limits b first second old work answer) (tables : answer ≡ Tables pair) where
+  pub prepared-yes : (lentAsked limits b first second ≡ Yes) × (Tables (tablesOf limits first second) ≡ Tables pair)
   prepared-yes =
       given Refused (Tables (tablesOf limits first second)) (Tables pair)
-      (λ r e. let z : _≡_ {A = ℕ} 0 1 = cc in omega arith)
-      (pairAsked limits first second) (sym is ∙ tables)
+      (λ r e. let z : _≡_ {A = ℕ} 0 1 = cc in omega arith) (lentAsked limits b first second) (sym (l .is) ∙ tables)
+
+  pub long-enough : b ≡ true
+  long-enough = lent-decides limits first second b .yes .0 (prepared-yes .0) .0
 
   accepted : Acceptable limits first second × (pair ≡ tablesOf limits first second)
-  accepted = let (all, same) = prepared-yes in (yes-acceptable limits first second all, cc)
+  accepted = let (all, same) = prepared-yes in (lent-decides limits first second b .yes .0 all .1, cc)
+
+  enough : workSize limits ≤ length old
+  enough = l .long long-enough
 
   -- what is true of both tables once they are written
   as-written : (P : Pair → List ℕ → Type 0) → P (tablesOf limits first second) (halvesPut limits first second old) → P pair work
   as-written P h =
-      let halves : work ≡ halvesPut limits first second old = written
-      ∙ kept-yes (halvesPut limits first second old) old (pairAsked limits first second) (prepared-yes .0) in
+      let halves : work ≡ halvesPut limits first second old = l .written
+      ∙ kept-yes (halvesPut limits first second old) old (lentAsked limits b first second) (prepared-yes .0) in
       subst (λ q. P q work) (sym (accepted .1)) (subst (λ w. P (tablesOf limits first second) w) (sym halves) h)
 
   pub prepared-in : TablesIn limits work pair
-  prepared-in = as-written (λ q w. TablesIn limits w q) (tables-in limits first second old bounded (accepted .0) enough)
+  prepared-in = as-written (λ q w. TablesIn limits w q) (tables-in limits first second old (l .bounded)
+      (accepted .0) enough)
 
   pub prepared-tables : {s t : List ℕ} → s ≡ firstIn pair work → t ≡ secondIn limits pair work →
       NormalTables limits first second pair s t
@@ -97,17 +110,16 @@ module _ (limits : Limits) (first second old : List ℕ) {work : List ℕ} {answ
       record {
         accepted = accepted .0;
         first-is = e ∙ as-written (λ q w. firstIn q w ≡ normalFile limits first)
-            (first-is limits first second old bounded (accepted .0) enough);
+            (first-is limits first second old (l .bounded) (accepted .0) enough);
         second-is = f ∙ as-written (λ q w. secondIn limits q w ≡ normalFile limits second)
-            (second-is limits first second old bounded (accepted .0) enough);
+            (second-is limits first second old (l .bounded) (accepted .0) enough);
         first-checked = subst (λ x. Checked x (pair .first)) (sym e) (prepared-in .first-checked);
         second-checked = subst (λ x. Checked x (pair .second)) (sym f) (prepared-in .second-checked);
       }
 
-pub prepared-no : (limits : Limits) (first second : List ℕ) {answer : Prepared} →
-    answer ≡ onAsked Refused (pairAsked limits first second) (Tables (tablesOf limits first second)) →
-    (r : Refusal) → answer ≡ Refused r → pairAsked limits first second ≡ No r
-prepared-no limits first second is r refused =
+pub prepared-no : {limits : Limits} {b : Bool} {first second old work : List ℕ} {answer : Prepared} →
+    Lending limits b first second old work answer → (r : Refusal) → answer ≡ Refused r →
+    lentAsked limits b first second ≡ No r
+prepared-no {limits} {b} {first} {second} l r refused =
     refused-by Refused (Tables (tablesOf limits first second)) (λ q s e. cc) r
-    (λ e. let z : _≡_ {A = ℕ} 0 1 = cc in omega arith)
-    (pairAsked limits first second) (sym is ∙ refused)
+    (λ e. let z : _≡_ {A = ℕ} 0 1 = cc in omega arith) (lentAsked limits b first second) (sym (l .is) ∙ refused)

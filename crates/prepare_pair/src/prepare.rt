@@ -6,11 +6,13 @@ use normal_writer::write::write_half;
 use picture::answer::Answer;
 use picture::answer::Input;
 use picture::answer::Refusal;
+use picture::answer::short_buffer;
 use picture::answer::too_many;
 use picture_reader::read::read;
 use table::layout::END_SIZE;
 use table::layout::Limits;
 use table::layout::place;
+ghost use mathlib.Core.Bool.{true};
 ghost use mathlib.Core.Path.{_≡_};
 ghost use mathlib.Core.List.{_++_};
 ghost use Prim.Native.Nat.{ℕ, _≤_};
@@ -18,7 +20,7 @@ ghost use lib.ListN.{length};
 ghost use Rattle.table.specs.Bounds.{Bounded, pictureSize};
 ghost use Rattle.table.specs.Put.{put};
 ghost use Rattle.normal.specs.Half.{halfOf};
-ghost use Rattle.workspace.specs.Lent.{roomy};
+ghost use Rattle.workspace.specs.Lent.{lentAsked, pairWork, roomy};
 ghost use Rattle.picture.specs.Asked.{kept, onAsked};
 ghost use Rattle.workspace.specs.Prepare.{halvesPut, pairAsked, workSize};
 ghost use Rattle.prepare_pair.specs.Tables.{HalvesRoom, PairRoom, bothMerged, tablesOf};
@@ -89,7 +91,7 @@ fn write_pair(first: &[u8], second: &[u8], limits: Limits, work: &mut [u8]) -> P
 }
 
 // 2 to 13 of the first, then of the second, then 14 of both, and the tables.
-pub fn prepare(first: &[u8], second: &[u8], limits: Limits, work: &mut [u8]) -> Prepared
+fn read_pair(first: &[u8], second: &[u8], limits: Limits, work: &mut [u8]) -> Prepared
     requires { ⌜ (Bounded limits) × (workSize limits ≤ length (now work)) ⌝ }
     ensures { λ r. ⌜ (r ≡ onAsked Prepared.Refused (pairAsked limits (now (first .entry)) (now (second .entry)))
         (Prepared.Tables (tablesOf limits (now (first .entry)) (now (second .entry)))))
@@ -103,4 +105,23 @@ pub fn prepare(first: &[u8], second: &[u8], limits: Limits, work: &mut [u8]) -> 
         },
         Answer::Refused(refusal) => Prepared::Refused(refusal),
     }
+}
+
+// 1, as the caller has asked it of its buffers, and then those.
+pub fn prepare(
+    first: &[u8],
+    second: &[u8],
+    limits: Limits,
+    enough: bool,
+    work: &mut [u8],
+) -> Prepared
+    requires { ⌜ (Bounded limits) × (enough ≡ true → workSize limits ≤ length (now work)) ⌝ }
+    ensures { λ r. ⌜ (r ≡ onAsked Prepared.Refused (lentAsked limits enough (now (first .entry)) (now (second .entry)))
+        (Prepared.Tables (tablesOf limits (now (first .entry)) (now (second .entry)))))
+        × (now (work .exit) ≡ pairWork limits enough (now (first .entry)) (now (second .entry)) (now (work .entry))) ⌝ }
+{
+    if !enough {
+        return Prepared::Refused(short_buffer());
+    }
+    read_pair(first, second, limits, work)
 }

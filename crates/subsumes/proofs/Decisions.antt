@@ -3,7 +3,7 @@
 --   evidence-in, verdict-in              and what they decide is what the definition says of the pictures
 --   map-fits, mapped                     a map has room; it is there where the search said yes
 --   decided-yes, decided-no              the answer and the evidence over what the search said
---   Gives, short-call, prepared-call     the answer and both buffers: 1 is answered no, or the reading and 14 decide
+--   Gives, prepared-call                 the answer and both buffers, by what the questions answer
 --   tables-settled, tables-decided       the same of the parts of the work space that are the normal tables
 use Prim.Native.Nat.{_+_, _≤_, ℕ}
 use lib.ListN.{length}
@@ -31,7 +31,6 @@ use Rattle.meaning.specs.Meaning.{pictureTable}
 use Rattle.meaning.specs.NormalTable.{normalFile, normalTreeOf}
 use Rattle.row_sets.specs.Rows.{Checked}
 use Rattle.picture.specs.Asked.{kept, onAsked}
-use Rattle.picture.specs.Refusal.{shortBuffer}
 use Rattle.picture.specs.declared.answer.Asked.{Asked}
 use Rattle.picture.specs.declared.answer.Asked.the-variants as asked
 use Rattle.picture.specs.Depth.{depth}
@@ -42,9 +41,8 @@ use Rattle.table.specs.Layout.{endSize}
 use Rattle.table.specs.Pick.{pick}
 use Rattle.table.specs.Put.{put}
 use Rattle.table.specs.declared.layout.Limits.{Limits}
-use Rattle.workspace.proofs.Pairs.{lent-pair, lent-short}
-use Rattle.workspace.specs.Lent.{roomy}
-use Rattle.workspace.specs.Prepare.{Acceptable, halvesPut, pairAsked}
+use Rattle.workspace.specs.Lent.{lentAsked, pairWork, roomy}
+use Rattle.workspace.specs.Prepare.{Acceptable}
 use Rattle.prepare_pair.specs.declared.prepare.Pair.{Pair}
 use Rattle.subsumption.specs.Call.{subsumesAnswer, subsumesAsked, subsumesResult, subsumesWork, verdictAnswer}
 use Rattle.subsumes.specs.Tables.{Settled, evidenceIn, verdictIn}
@@ -142,28 +140,17 @@ module _ (limits : Limits) (first second work result : List ℕ) where
       (answer ≡ subsumesAnswer limits first second (length work) (length result))
       × ((space ≡ subsumesWork limits first second work (length result)) × (buffer ≡ subsumesResult limits first second (length work) result))
 
-  -- what the questions answer, a
-  by-asked : (a : Asked) → subsumesAsked limits first second (length work) (length result) ≡ a →
-      Gives (onAsked Refused a (verdictAnswer limits first second)) (kept a (halvesPut limits first second work) work)
-      (kept a (put result 0 (evidenceOf limits first second)) result)
-  unfolding subsumesAnswer
-  by-asked a e = (rw e, (rw e, rw e))
-
-  pub short-call : roomy limits (evidenceSize limits) (length work) (length result) ≡ false → Gives (Refused shortBuffer) work result
-  short-call h = by-asked (asked.No shortBuffer)
-      (lent-short limits first second (roomy limits (evidenceSize limits) (length work) (length result)) h)
-
-  -- a is what the questions of the pair answer, `space` what `prepare` has left
-  pub prepared-call : roomy limits (evidenceSize limits) (length work) (length result) ≡ true →
-      (a : Asked) (space : List ℕ) →
-      pairAsked limits first second ≡ a → space ≡ kept (pairAsked limits first second)
-      (halvesPut limits first second work) work →
+  -- b is the answer to 1, a what the questions answer, `space` what `prepare` has left
+  pub prepared-call : (b : Bool) → b ≡ roomy limits (evidenceSize limits) (length work) (length result) →
+      (a : Asked) → lentAsked limits b first second ≡ a → (space : List ℕ) →
+      space ≡ pairWork limits b first second work →
       Gives (onAsked Refused a (verdictAnswer limits first second)) space
       (kept a (put result 0 (evidenceOf limits first second)) result)
-  prepared-call h a space is written =
-      let (answer, (left, buffer)) = by-asked a
-      (lent-pair limits first second (roomy limits (evidenceSize limits) (length work) (length result)) h ∙ is) in
-      (answer, (written ∙ ap (λ q. kept q (halvesPut limits first second work) work) is ∙ left, buffer))
+  unfolding subsumesAnswer
+  prepared-call b room a is space written =
+      let asks : subsumesAsked limits first second (length work) (length result) ≡ a =
+      ap (λ q. lentAsked limits q first second) (sym room) ∙ is in
+      (rw asks, (written ∙ ap (λ q. pairWork limits q first second work) room, rw asks))
 
 -- ---- the parts of the work space that are the normal tables
 

@@ -1,6 +1,5 @@
 // The third call: question 1, both pictures into the work space, the verdict, and the evidence into the result buffer.
 use crate::verdict::decide;
-use picture::answer::short_buffer;
 use prepare_pair::prepare::Prepared;
 use prepare_pair::prepare::has_room;
 use prepare_pair::prepare::prepare;
@@ -29,10 +28,8 @@ pub fn subsumes(
     ensures { λ r. ⌜ (r ≡ subsumesAnswer limits (now (first .entry)) (now (second .entry)) (length (now (work .entry))) (length (now (result .entry)))) × ((now (work .exit) ≡ subsumesWork limits (now (first .entry)) (now (second .entry)) (now (work .entry)) (length (now (result .entry)))) × (now (result .exit) ≡ subsumesResult limits (now (first .entry)) (now (second .entry)) (length (now (work .entry))) (now (result .entry)))) ⌝ }
 {
     let size = individual_place(individuals_within(limits), END_SIZE);
-    if !has_room(limits, size, work.len(), result.len()) {
-        return Verdict::Refused(short_buffer());
-    }
-    match prepare(first, second, limits, work) {
+    let enough = has_room(limits, size, work.len(), result.len());
+    match prepare(first, second, limits, enough, work) {
         Prepared::Tables(pair) => {
             let low = first_table(work, pair);
             let high = second_table(work, limits, pair);

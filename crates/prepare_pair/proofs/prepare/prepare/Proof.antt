@@ -1,103 +1,39 @@
--- The first reading that refuses is the answer; of two readable pictures the tables are made.
-use mathlib.Core.Path.{_∙_, sym}
+-- 1 is answered no, or the questions of the pair decide.
 use borrow.Author.Needs.{needs}
+use borrow.Author.Tests.{not-false, not-true}
 use denote.Ref.{now}
-use Rattle.picture.proofs.Readables.{answer-reading}
-use Rattle.picture.specs.declared.answer.Input.the-variants.{First, Second}
-use Rattle.picture.proofs.Orders.{on-no}
+use mathlib.Core.Path.{sym}
 use Rattle.picture.proofs.Keeping.{kept-no}
+use Rattle.picture.proofs.Orders.{on-no}
+use Rattle.workspace.proofs.Pairs.{lent-pair, lent-short}
 use Rattle.prepare_pair.specs.declared.prepare.Prepared.the-variants.{Refused}
-use Rattle.prepare_pair.proofs.TabledPairs.{pair-answers, refused-first, refused-second}
 use Rattle.prepare_pair.proofs.prepare.prepare.Statement.{statement}
 use Rattle.prepare_pair.proofs.prepare.prepare.Tie as tie
 
-read-requires : tie.Need-read-requires
-read-requires c κs = search needs
+short-buffer-requires : tie.Need-short-buffer-requires
+short-buffer-requires c κs = search needs
 
-enum-told : tie.Need-enum-told
-enum-told c = search needs
+returns : tie.Need-returns
+returns c =
+    let a = c .before .before .before .before .before .args in
+    let short = not-true (a .enough) (c .before .if1 .taken) in
+    let no-is = lent-short (a .limits) (now (a .first)) (now (a .second)) (a .enough) short in
+    rw (c .short-buffer .ensures) (sym (on-no Refused _ _ _ no-is), sym (kept-no _ _ _ _ no-is))
 
-read-requires-2 : tie.Need-read-requires-2
-read-requires-2 c κs = search needs
-
-enum-told-2 : tie.Need-enum-told-2
-enum-told-2 c = search needs
-
-write-pair-requires : tie.Need-write-pair-requires
-write-pair-requires c κs =
-    let start = c .before .before .before .before .before .before .before .before .before .before in
-    let a = start .args in
-    let told = c .before .before .before .before .enum-told .given in
-    let told-second = c .before .enum-told2 .given in
-    let read = c .before .before .before .before .before .before .read .ensures in
-    let read-second = c .before .before .before .read2 .ensures in
-    record {
-      bounded = start .pre .0;
-      first-readable = record {
-        rows = told .0 .0;
-        reads = answer-reading (a .limits) (now (a .first)) First
-            (told .0 .0) (sym read ∙ told .1);
-      };
-      second-readable = record {
-        rows = told-second .0 .0;
-        reads = answer-reading (a .limits) (now (a .second)) Second
-            (told-second .0 .0) (sym read-second ∙ told-second .1);
-      };
-      space = start .pre .1;
-    }
-
-enum-known-refusal : tie.Need-enum-known-refusal
-enum-known-refusal c = search needs
-
-enum-known-refusal-2 : tie.Need-enum-known-refusal-2
-enum-known-refusal-2 c = search needs
+read-pair-requires : tie.Need-read-pair-requires
+read-pair-requires c κs =
+    let start = c .before .before .before .before .before in
+    (start .pre .0, start .pre .1 (not-false (start .args .enough) (c .before .if1 .left)))
 
 same-length : tie.Need-same-length
 same-length c = search needs
 
-returns : tie.Need-returns
-returns c =
-    let a = c .before .before .before .before .before .before .before .before .before .before .before .before .before .args in
-    let told = c .before .before .before .before .before .before .before .enum-told .given in
-    let told-second = c .before .before .before .before .enum-told2 .given in
-    let read = c .before .before .before .before .before .before .before .before .before .read .ensures in
-    let read-second = c .before .before .before .before .before .before .read2 .ensures in
-    let done = c .before .before .write-pair .ensures in
-    let both = pair-answers (a .limits) (now (a .first)) (now (a .second)) (told .0 .0) (sym read ∙ told .1)
-    (told-second .0 .0) (sym read-second ∙ told-second .1) in
-    rw both done
-
 returns-2 : tie.Need-returns-2
 returns-2 c =
-    let a = c .before .before .before .before .before .before .before .before .before .before .args in
-    let told = c .before .before .before .before .enum-told .given in
-    let refusal = c .before .refusal .given in
-    let read = c .before .before .before .before .before .before .read .ensures in
-    let read-second = c .before .before .before .read2 .ensures in
-    let no-is = refused-second (a .limits) (now (a .first)) (now (a .second)) (told .0 .0) (sym read ∙ told .1)
-    (refusal .0 .0) (sym read-second ∙ refusal .1) in
-    (sym (on-no Refused _ _ _ no-is), sym (kept-no _ _ _ _ no-is))
-
-returns-3 : tie.Need-returns-3
-returns-3 c =
-    let a = c .before .before .before .before .before .before .before .args in
-    let refusal = c .before .refusal2 .given in
-    let read = c .before .before .before .read .ensures in
-    let no-is = refused-first (a .limits) (now (a .first)) (now (a .second)) (refusal .0 .0) (sym read ∙ refusal .1) in
-    (sym (on-no Refused _ _ _ no-is), sym (kept-no _ _ _ _ no-is))
+    let a = c .before .before .before .before .before .before .before .before .args in
+    let enough = not-false (a .enough) (c .before .before .before .before .if1 .left) in
+    rw (lent-pair (a .limits) (now (a .first)) (now (a .second)) (a .enough) enough)
+    (c .before .before .read-pair .ensures)
 
 pub prepare-spec : {M : Type 1} → statement M
-prepare-spec =
-    tie.close
-    (tie.spec
-    read-requires
-    enum-told
-    read-requires-2
-    enum-told-2
-    write-pair-requires
-    enum-known-refusal
-    enum-known-refusal-2
-    same-length
-    returns
-    returns-2
-    returns-3)
+prepare-spec = tie.close (tie.spec short-buffer-requires returns read-pair-requires same-length returns-2)

@@ -4,7 +4,7 @@ use native.Mathlib.Omega.{arith}
 use borrow.Author.Needs.{needs}
 use denote.Ref.{now}
 use lib.ListN.{length}
-use mathlib.Core.Path.{_∙_, _≡_, ap, refl, sym}
+use mathlib.Core.Path.{_∙_, _≡_, ap, sym}
 use Rattle.meaning.proofs.Normals.{normal-size}
 use Rattle.meaning.specs.NormalTable.{mergedCount, normalFile}
 use Rattle.normal_writer.proofs.Tablings.{none-many, some-few, tabled-there}
@@ -128,7 +128,8 @@ returns-3 c =
           (c .before .before .before .before .before .before .before .before .before .before .before .before .before .before .normal-table .ensures) (c .before .before .before .before .before .before .before .before .before .before .normal-table2 .ensures) few few-second)
           ∙ sym (on-yes Refused _ _ all),
       halves-files (a .limits) (now (a .first)) (now (a .second)) _ _ (now (a .work)) (written .last .1 .1 .1 .0)
-          (first-file (c .before .before .before .before .before .before)) (second-file (c .before .before .before .before))
+          (first-file (c .before .before .before .before .before .before))
+          (second-file (c .before .before .before .before))
           (written .ensures)
           ∙ sym (kept-yes _ _ _ all),
     )

@@ -1,79 +1,62 @@
 -- 1, and then what `prepare` has answered and written; the verdict is on the tables that it has put into the work space.
-use Prim.Native.Nat.{_≤_}
 use borrow.Author.Needs.{needs}
-use borrow.Author.Tests.{not-false, not-true}
 use denote.Ref.{now}
 use lib.ListN.{length}
-use mathlib.Core.Bool.{true}
 use mathlib.Core.Path.{_∙_, _≡_, ap, sym}
 use native.Mathlib.Omega.{arith}
 use Rattle.countermodel.proofs.Individuals.{within-most}
-use Rattle.workspace.proofs.Lendings.{room-both}
-use Rattle.prepare_pair.proofs.TablesIn.{first-lies, prepared-in, prepared-no, prepared-tables, prepared-yes}
-use Rattle.prepare_pair.specs.Tables.{NormalTables, TablesIn}
-use Rattle.workspace.specs.Lent.{roomy}
-use Rattle.workspace.specs.Prepare.{workSize}
 use Rattle.picture.specs.declared.answer.Asked.the-variants.{No, Yes}
+use Rattle.workspace.proofs.Lendings.{room-both}
+use Rattle.workspace.specs.Lent.{roomy}
+use Rattle.prepare_pair.proofs.TablesIn.{Lending, first-lies, long-enough, prepared-in, prepared-no, prepared-tables, prepared-yes}
+use Rattle.prepare_pair.specs.Tables.{NormalTables}
 use Rattle.subsumption.specs.Verdict.{evidenceSize}
-use Rattle.subsumes.proofs.Decisions.{prepared-call, short-call, tables-decided, tables-settled}
+use Rattle.subsumes.proofs.Decisions.{prepared-call, tables-decided, tables-settled}
 use Rattle.subsumes.proofs.subsumes.subsumes.Statement.{statement}
 use Rattle.subsumes.proofs.subsumes.subsumes.Tie as tie
 
--- the ways back: from the answer to 1 to the entry, from the pair to that answer, from the parts to the pair
-abbrev entry : (c : tie.Else1) → tie.Start
-entry c = c .before .before .before .before .before .before .before .before
+-- the ways back: from the answer to 1 and from what `prepare` has given to the entry, from the parts to the latter
+abbrev entry : (c : tie.After-has-room) → tie.Start
+entry c = c .before .before .before .before .before .before .before
 
-abbrev tested : (c : tie.After-pair) → tie.Else1
-tested c = c .before .before .before .before .before .before
+abbrev tested : (c : tie.After-prepare) → tie.After-has-room
+tested c = c .before .before
 
-abbrev paired : (c : tie.After-second-table) → tie.After-pair
-paired c = c .before .before .before .before
+abbrev prepared : (c : tie.After-second-table) → tie.After-prepare
+prepared c = c .before .before .before .before .before .before .before .before
 
 -- 1, as it was asked
-asked : (c : tie.After-has-room) → let a = c .before .before .before .before .before .before .before .args in
-    roomy (a .limits) (evidenceSize (a .limits)) (length (now (a .work))) (length (now (a .result)))
-    ≡ c .has-room .result
-asked c =
-    let a = c .before .before .before .before .before .before .before .args in
+room : (c : tie.After-has-room) → let a = entry c .args in
+    c .has-room .result ≡ roomy (a .limits) (evidenceSize (a .limits)) (length (now (a .work)))
+    (length (now (a .result)))
+room c =
+    let a = entry c .args in
     let place = c .before .individual-place in
     let size : place .result ≡ evidenceSize (a .limits) =
     omega (arith, place .ensures, c .before .before .individuals-within .ensures) in
-    ap (λ n. roomy (a .limits) n (length (now (a .work))) (length (now (a .result)))) (sym size)
-    ∙ sym (c .has-room .ensures)
+    c .has-room .ensures ∙ ap (λ n. roomy (a .limits) n (length (now (a .work))) (length (now (a .result)))) size
 
-has-room : (c : tie.Else1) → let a = entry c .args in
-    roomy (a .limits) (evidenceSize (a .limits)) (length (now (a .work))) (length (now (a .result))) ≡ true
-has-room c = asked (c .before) ∙ not-false (c .before .has-room .result) (c .if1 .left)
-
-enough : (c : tie.Else1) → let a = entry c .args in
-    (workSize (a .limits) ≤ length (now (a .work))) × (evidenceSize (a .limits) ≤ length (now (a .result)))
-enough c =
-    let a = entry c .args in
-    room-both (a .limits) (evidenceSize (a .limits)) (length (now (a .work))) (length (now (a .result))) (has-room c)
-
--- both tables are there
-there : (c : tie.After-pair) →
-    TablesIn (entry (tested c) .args .limits)
-    (c .before .before .before .before .prepare .last .1 .1 .1 .0) (c .pair .given .0 .0)
-there c =
+lending : (c : tie.After-prepare) → let a = entry (tested c) .args in
+    Lending (a .limits) (tested c .has-room .result) (now (a .first)) (now (a .second)) (now (a .work))
+    (c .prepare .last .1 .1 .1 .1 .0) (c .prepare .result)
+lending c =
     let start = entry (tested c) in
     let a = start .args in
-    let prepare = c .before .before .before .before .prepare in
-    prepared-in (a .limits) (now (a .first)) (now (a .second)) (now (a .work))
-    (start .pre) (enough (tested c) .0) (prepare .ensures .0) (prepare .ensures .1) (c .pair .given .1)
+    record {
+      bounded = start .pre;
+      long = λ e. room-both (a .limits) (evidenceSize (a .limits)) (length (now (a .work))) (length (now (a .result)))
+          (sym (room (tested c)) ∙ e) .0;
+      is = c .prepare .ensures .0;
+      written = c .prepare .ensures .1;
+    }
 
--- and the parts are the normal tables
-normal : (c : tie.After-second-table) →
-    let a = entry (tested (paired c)) .args in
-    NormalTables (a .limits) (now (a .first)) (now (a .second)) (paired c .pair .given .0 .0)
+-- the parts are the normal tables
+normal : (c : tie.After-second-table) → let a = entry (tested (prepared c)) .args in
+    NormalTables (a .limits) (now (a .first)) (now (a .second)) (c .before .before .before .before .pair .given .0 .0)
     (now (c .before .first-table .result)) (now (c .second-table .result))
 normal c =
-    let start = entry (tested (paired c)) in
-    let a = start .args in
-    let prepare = c .before .before .before .before .before .before .before .before .prepare in
-    prepared-tables (a .limits) (now (a .first)) (now (a .second)) (now (a .work))
-    (start .pre) (enough (tested (paired c)) .0) (prepare .ensures .0) (prepare .ensures .1)
-    (paired c .pair .given .1) (c .before .first-table .ensures) (c .second-table .ensures)
+    prepared-tables (lending (prepared c)) (c .before .before .before .before .pair .given .1)
+    (c .before .first-table .ensures) (c .second-table .ensures)
 
 individuals-within-requires : tie.Need-individuals-within-requires
 individuals-within-requires c κs = search needs
@@ -86,34 +69,41 @@ individual-place-requires c κs =
 has-room-requires : tie.Need-has-room-requires
 has-room-requires c κs = search needs
 
-returns : tie.Need-returns
-returns c =
-    let a = c .before .before .before .before .before .before .before .before .before .args in
-    let no = asked (c .before .before) ∙ not-true (c .before .before .has-room .result) (c .before .if1 .taken) in
-    rw (c .short-buffer .ensures)
-    (short-call (a .limits) (now (a .first)) (now (a .second)) (now (a .work)) (now (a .result)) no)
-
 prepare-requires : tie.Need-prepare-requires
-prepare-requires c κs = (entry (c .before) .pre, enough (c .before) .0)
+prepare-requires c κs =
+    let a = entry (c .before) .args in (
+      entry (c .before) .pre,
+      λ e. room-both (a .limits) (evidenceSize (a .limits)) (length (now (a .work))) (length (now (a .result)))
+          (sym (room (c .before)) ∙ e) .0,
+    )
 
 enum-known-pair : tie.Need-enum-known-pair
 enum-known-pair c = search needs
 
 first-table-requires : tie.Need-first-table-requires
-first-table-requires c κs = first-lies (there (c .before .before))
+first-table-requires c κs = first-lies (prepared-in (lending (c .before .before .before .before .before .before))
+    (c .before .before .pair .given .1))
 
 second-table-requires : tie.Need-second-table-requires
 second-table-requires c κs =
-    let d = c .before .before .before in
-    (entry (tested d) .pre, there d)
+    let l = lending (c .before .before .before .before .before .before .before) in
+    (l .bounded, prepared-in l (c .before .before .before .pair .given .1))
 
 decide-requires : tie.Need-decide-requires
 decide-requires c κs =
-    let d = tested (paired (c .before)) in
-    let start = entry d in
+    let a = entry (tested (prepared (c .before))) .args in
+    let l = lending (prepared (c .before)) in
     let tables = normal (c .before) in
-    let settled = tables-settled (start .pre) tables (length (now (start .args .result))) (enough d .1) in
-    (tables .first-checked, (tables .second-checked, settled))
+    let long = room-both (a .limits) (evidenceSize (a .limits)) (length (now (a .work))) (length (now (a .result)))
+    (sym (room (tested (prepared (c .before))))
+    ∙ long-enough l (c .before .before .before .before .before .pair .given .1)) .1 in (
+      tables .first-checked,
+      (
+        tables .second-checked,
+        tables-settled (l .bounded) tables (length (now (a .result)))
+            long,
+      ),
+    )
 
 enum-known-refusal : tie.Need-enum-known-refusal
 enum-known-refusal c = search needs
@@ -124,40 +114,31 @@ same-length c = search needs
 same-length-2 : tie.Need-same-length-2
 same-length-2 c = search needs
 
-returns-2 : tie.Need-returns-2
-returns-2 c =
-    let d = paired (c .before .before .before .before) in
-    let start = entry (tested d) in
-    let a = start .args in
-    let prepare = d .before .before .before .before .prepare in
-    let pair = d .pair .given in
+returns : tie.Need-returns
+returns c =
+    let d = prepared (c .before .before .before .before) in
+    let a = entry (tested d) .args in
+    let l = lending d in
     let decide = c .before .before .decide in
-    let (answered, put) = tables-decided (start .pre) (normal (c .before .before .before .before))
+    let (answered, put) = tables-decided (l .bounded) (normal (c .before .before .before .before))
     (decide .result) (now (a .result)) (decide .last .1 .1 .1 .1 .1 .0) (decide .ensures .0) (decide .ensures .1) in
     let (answer, (space, buffer)) =
-    prepared-call (a .limits) (now (a .first)) (now (a .second)) (now (a .work)) (now (a .result)) (has-room (tested d))
-    Yes (prepare .last .1 .1 .1 .0)
-    (prepared-yes (a .limits) (now (a .first)) (now (a .second)) (now (a .work)) (start .pre) (enough (tested d) .0)
-    (prepare .ensures .0) (prepare .ensures .1) (pair .1) .0)
-    (prepare .ensures .1) in
+    prepared-call (a .limits) (now (a .first)) (now (a .second)) (now (a .work)) (now (a .result)) _
+    (room (tested d)) Yes
+    (prepared-yes l (c .before .before .before .before .before .before .before .before .pair .given .1) .0) _
+    (l .written) in
     (answered ∙ answer, (space, put ∙ buffer))
 
 same-length-3 : tie.Need-same-length-3
 same-length-3 c = search needs
 
-returns-3 : tie.Need-returns-3
-returns-3 c =
-    let tests = c .before .before .before .before .before .before .before in
-    let a = entry tests .args in
-    let prepare = c .before .before .before .before .before .prepare in
+returns-2 : tie.Need-returns-2
+returns-2 c =
+    let d = c .before .before .before .before .before in
+    let a = entry (tested d) .args in
     let refusal = c .before .refusal .given in
-    prepared-call (a .limits) (now (a .first)) (now (a .second)) (now (a .work)) (now (a .result)) (has-room tests)
-    (No (refusal .0 .0)) (prepare .last .1 .1 .1 .0)
-    (prepared-no (a .limits) (now (a .first)) (now (a .second)) (prepare .ensures .0) (refusal .0 .0) (refusal .1))
-    (prepare .ensures .1)
-
-short-buffer-requires : tie.Need-short-buffer-requires
-short-buffer-requires c κs = search needs
+    prepared-call (a .limits) (now (a .first)) (now (a .second)) (now (a .work)) (now (a .result)) _ (room (tested d))
+    (No (refusal .0 .0)) (prepared-no (lending d) (refusal .0 .0) (refusal .1)) _ (lending d .written)
 
 pub subsumes-spec : {M : Type 1} → statement M
 subsumes-spec =
@@ -166,8 +147,6 @@ subsumes-spec =
     individuals-within-requires
     individual-place-requires
     has-room-requires
-    short-buffer-requires
-    returns
     prepare-requires
     enum-known-pair
     first-table-requires
@@ -176,6 +155,6 @@ subsumes-spec =
     enum-known-refusal
     same-length
     same-length-2
-    returns-2
+    returns
     same-length-3
-    returns-3)
+    returns-2)
