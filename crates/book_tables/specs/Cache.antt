@@ -17,6 +17,7 @@ use Rattle.normal_writer.specs.Tables.{tableRows}
 use Rattle.book.specs.Call.{cardMerged}
 use Rattle.book.specs.Form.{card, mostCards}
 use Rattle.book.specs.Selection.{cardWord}
+use Rattle.book_form.specs.declared.form.Cards.{Cards}
 use Rattle.book_tables.specs.Tables.{CardsTaken, coversTable}
 use Rattle.picture.specs.declared.answer.Asked.the-variants.{No, Yes}
 use Rattle.book.specs.declared.answer.Selected.{Selected}
@@ -39,8 +40,8 @@ pub record Cached (limits : Limits) (book cache spans : List ℕ) (at : ℕ) : T
   pub spanned : length spans ≡ mostCards + mostCards
   pub tables : (j : ℕ) → j < mostCards → (getD spans (mostCards + j) 0 ≡ 0 → ⊥) → CachedAt limits (card book j) cache (getD spans j 0) (getD spans (mostCards + j) 0) at
 
-pub record CardsCached (limits : Limits) (book places : List ℕ) (count : ℕ) (cache spans : List ℕ) : Type 0 where
-  pub taken : CardsTaken limits book places count
+pub record CardsCached (limits : Limits) (book : List ℕ) (cards : Cards) (cache spans : List ℕ) : Type 0 where
+  pub taken : CardsTaken limits book cards
   pub at : ℕ
   pub cache-is : Cached limits book cache spans at
 

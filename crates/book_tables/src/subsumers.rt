@@ -4,7 +4,7 @@ use crate::cache::SPANS;
 use crate::cache::store;
 use crate::covering::table_covers;
 use book::answer::Selected;
-use book_form::form::PLACES;
+use book_form::form::Cards;
 use book_form::form::card;
 use book_form::word::bit;
 use normal_writer::write::TABLE;
@@ -65,8 +65,7 @@ fn covers_case(
 // 14 of card k, and whether it covers the case; its table is cached then, if it fits.
 fn test_card(
     book: &[u8],
-    places: &[usize; PLACES],
-    count: usize,
+    cards: Cards,
     k: usize,
     limits: Limits,
     table: &[u8],
@@ -77,10 +76,10 @@ fn test_card(
     cache: &mut [u8],
     spans: &mut [usize; SPANS],
 ) -> Tested
-    requires { ⌜ (Bounded limits) × ((CardsRead limits (now book) (now places) count) × ((k < count) × ((LinkedTable (now table) n (now links)) × ((pictureSize limits ≤ length (now scratch)) × (SubsumersBelow limits (now table) (now book) count (now cache) (now spans) subsumers k))))) ⌝ }
-    ensures { λ r. ⌜ (TestedTo limits (now (table .entry)) (now (book .entry)) count (now (cache .exit)) (now (spans .exit)) k r) × ((length (now (scratch .exit)) ≡ length (now (scratch .entry))) × (length (now (cache .exit)) ≡ length (now (cache .entry)))) ⌝ }
+    requires { ⌜ (Bounded limits) × ((CardsRead limits (now book) cards) × ((k < cards .count) × ((LinkedTable (now table) n (now links)) × ((pictureSize limits ≤ length (now scratch)) × (SubsumersBelow limits (now table) (now book) (cards .count) (now cache) (now spans) subsumers k))))) ⌝ }
+    ensures { λ r. ⌜ (TestedTo limits (now (table .entry)) (now (book .entry)) (cards .count) (now (cache .exit)) (now (spans .exit)) k r) × ((length (now (scratch .exit)) ≡ length (now (scratch .entry))) × (length (now (cache .exit)) ≡ length (now (cache .entry)))) ⌝ }
 {
-    let m = normal_table(card(book, places, k), limits, scratch);
+    let m = normal_table(card(book, cards, k), limits, scratch);
     if m == 0 {
         return Tested::Refused(too_many(Input::Card(k as u8)));
     }
@@ -98,8 +97,7 @@ fn test_card(
 // Every card in turn.
 fn test_cards(
     book: &[u8],
-    places: &[usize; PLACES],
-    count: usize,
+    cards: Cards,
     limits: Limits,
     table: &[u8],
     n: usize,
@@ -107,17 +105,16 @@ fn test_cards(
     cache: &mut [u8],
     spans: &mut [usize; SPANS],
 ) -> Selected
-    requires { ⌜ (Bounded limits) × ((CardsRead limits (now book) (now places) count) × ((LinkedTable (now table) n (now links)) × (Zeros (mostCards + mostCards) (now spans)))) ⌝ }
-    ensures { λ r. ⌜ (r ≡ selectedOn (askedFrom (cardMerged limits (now (book .entry))) count 0) (cardWord (coversTable limits (now (table .entry)) (now (book .entry))) count)) × (CachedAfter r limits (now (book .entry)) (now (cache .exit)) (now (spans .exit))) ⌝ }
+    requires { ⌜ (Bounded limits) × ((CardsRead limits (now book) cards) × ((LinkedTable (now table) n (now links)) × (Zeros (mostCards + mostCards) (now spans)))) ⌝ }
+    ensures { λ r. ⌜ (r ≡ selectedOn (askedFrom (cardMerged limits (now (book .entry))) (cards .count) 0) (cardWord (coversTable limits (now (table .entry)) (now (book .entry))) (cards .count))) × (CachedAfter r limits (now (book .entry)) (now (cache .exit)) (now (spans .exit))) ⌝ }
 {
     let mut scratch = [0u8; TABLE];
     let mut subsumers = Subsumers { word: 0, at: 0 };
     let mut k = 0;
-    while k < count {
+    while k < cards.count {
         match test_card(
             book,
-            places,
-            count,
+            cards,
             k,
             limits,
             table,
@@ -144,14 +141,13 @@ fn test_cards(
 pub fn find_subsumers(
     case: &[u8],
     book: &[u8],
-    places: &[usize; PLACES],
-    count: usize,
+    cards: Cards,
     limits: Limits,
     cache: &mut [u8],
     spans: &mut [usize; SPANS],
 ) -> Selected
-    requires { ⌜ (Bounded limits) × ((Readable limits (now case)) × ((CardsRead limits (now book) (now places) count) × (Zeros (mostCards + mostCards) (now spans)))) ⌝ }
-    ensures { λ r. ⌜ (r ≡ selectedOn (andThen (mergedAsked limits Input.First (now (case .entry))) (askedFrom (cardMerged limits (now (book .entry))) count 0)) (cardWord (caseCovered limits (now (case .entry)) (now (book .entry))) count)) × (CachedAfter r limits (now (book .entry)) (now (cache .exit)) (now (spans .exit))) ⌝ }
+    requires { ⌜ (Bounded limits) × ((Readable limits (now case)) × ((CardsRead limits (now book) cards) × (Zeros (mostCards + mostCards) (now spans)))) ⌝ }
+    ensures { λ r. ⌜ (r ≡ selectedOn (andThen (mergedAsked limits Input.First (now (case .entry))) (askedFrom (cardMerged limits (now (book .entry))) (cards .count) 0)) (cardWord (caseCovered limits (now (case .entry)) (now (book .entry))) (cards .count))) × (CachedAfter r limits (now (book .entry)) (now (cache .exit)) (now (spans .exit))) ⌝ }
 {
     let mut scratch = [0u8; TABLE];
     let n = normal_table(case, limits, &mut scratch);
@@ -161,5 +157,5 @@ pub fn find_subsumers(
     let table = table_of(&scratch, n);
     let mut links = [0u8; LINKS];
     fill_links(table, n, &mut links);
-    test_cards(book, places, count, limits, table, n, &links, cache, spans)
+    test_cards(book, cards, limits, table, n, &links, cache, spans)
 }

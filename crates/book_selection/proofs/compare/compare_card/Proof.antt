@@ -50,7 +50,7 @@ place-requires c κs =
     let pre = c .before .before .before .before .before .before .before .before .before .before .before .before .pre in
     let half-size = c .before .before .before .before .half-size in
     let load = c .before .before .load in
-    let fits = lower-fits (args .limits) (now (args .book)) (now (args .places)) (args .count) (pre .1 .0 .taken) (pre .0) (half-size .result) (half-size .ensures) (args .m) (load .result) (pre .1 .1 .0) (now (args .work)) (load .last .1 .1 .1 .1 .1 .1 .1 .0) (pre .1 .1 .1 .1) (load .ensures) in (omega (arith, fits, pre .0 .0), omega arith)
+    let fits = lower-fits (args .limits) (now (args .book)) (args .cards) (pre .1 .0 .taken) (pre .0) (half-size .result) (half-size .ensures) (args .m) (load .result) (pre .1 .1 .0) (now (args .work)) (load .last .1 .1 .1 .1 .1 .1 .0) (pre .1 .1 .1 .1) (load .ensures) in (omega (arith, fits, pre .0 .0), omega arith)
 
 slice-reshare-prefix-fill-links : tie.Need-slice-reshare-prefix-fill-links
 slice-reshare-prefix-fill-links c =
@@ -58,7 +58,7 @@ slice-reshare-prefix-fill-links c =
     let pre = c .before .before .before .before .before .before .before .before .before .before .before .before .before .pre in
     let half-size = c .before .before .before .before .before .half-size in
     let load = c .before .before .before .load in
-    let fits = lower-fits (args .limits) (now (args .book)) (now (args .places)) (args .count) (pre .1 .0 .taken) (pre .0) (half-size .result) (half-size .ensures) (args .m) (load .result) (pre .1 .1 .0) (now (args .work)) (load .last .1 .1 .1 .1 .1 .1 .1 .0) (pre .1 .1 .1 .1) (load .ensures) in let long = lower-length (args .limits) (now (args .book)) (now (args .places)) (args .count) (pre .1 .0 .taken) (pre .0) (half-size .result) (half-size .ensures) (args .m) (load .result) (pre .1 .1 .0) (now (args .work)) (load .last .1 .1 .1 .1 .1 .1 .1 .0) (pre .1 .1 .1 .1) (load .ensures) in omega (arith, fits, c .place .ensures, long, pre .1 .1 .1 .1)
+    let fits = lower-fits (args .limits) (now (args .book)) (args .cards) (pre .1 .0 .taken) (pre .0) (half-size .result) (half-size .ensures) (args .m) (load .result) (pre .1 .1 .0) (now (args .work)) (load .last .1 .1 .1 .1 .1 .1 .0) (pre .1 .1 .1 .1) (load .ensures) in let long = lower-length (args .limits) (now (args .book)) (args .cards) (pre .1 .0 .taken) (pre .0) (half-size .result) (half-size .ensures) (args .m) (load .result) (pre .1 .1 .0) (now (args .work)) (load .last .1 .1 .1 .1 .1 .1 .0) (pre .1 .1 .1 .1) (load .ensures) in omega (arith, fits, c .place .ensures, long, pre .1 .1 .1 .1)
 
 slice-aggregate-fill-links : tie.Need-slice-aggregate-fill-links
 slice-aggregate-fill-links c =
@@ -66,7 +66,7 @@ slice-aggregate-fill-links c =
     let pre = c .before .before .before .before .before .before .before .before .before .before .before .before .before .before .pre in
     let half-size = c .before .before .before .before .before .before .half-size in
     let load = c .before .before .before .before .load in
-    let fits = lower-fits (args .limits) (now (args .book)) (now (args .places)) (args .count) (pre .1 .0 .taken) (pre .0) (half-size .result) (half-size .ensures) (args .m) (load .result) (pre .1 .1 .0) (now (args .work)) (load .last .1 .1 .1 .1 .1 .1 .1 .0) (pre .1 .1 .1 .1) (load .ensures) in let long = lower-length (args .limits) (now (args .book)) (now (args .places)) (args .count) (pre .1 .0 .taken) (pre .0) (half-size .result) (half-size .ensures) (args .m) (load .result) (pre .1 .1 .0) (now (args .work)) (load .last .1 .1 .1 .1 .1 .1 .1 .0) (pre .1 .1 .1 .1) (load .ensures) in sym (length-take-le (c .before .place .result) _ (omega (arith, fits, c .before .place .ensures, long, pre .1 .1 .1 .1)))
+    let fits = lower-fits (args .limits) (now (args .book)) (args .cards) (pre .1 .0 .taken) (pre .0) (half-size .result) (half-size .ensures) (args .m) (load .result) (pre .1 .1 .0) (now (args .work)) (load .last .1 .1 .1 .1 .1 .1 .0) (pre .1 .1 .1 .1) (load .ensures) in let long = lower-length (args .limits) (now (args .book)) (args .cards) (pre .1 .0 .taken) (pre .0) (half-size .result) (half-size .ensures) (args .m) (load .result) (pre .1 .1 .0) (now (args .work)) (load .last .1 .1 .1 .1 .1 .1 .0) (pre .1 .1 .1 .1) (load .ensures) in sym (length-take-le (c .before .place .result) _ (omega (arith, fits, c .before .place .ensures, long, pre .1 .1 .1 .1)))
 
 fill-links-requires : tie.Need-fill-links-requires
 fill-links-requires c κs =
@@ -75,7 +75,7 @@ fill-links-requires c κs =
     let half-size = c .before .before .before .before .before .before .before .half-size in
     let load = c .before .before .before .before .before .load in
     let place = c .before .before .place in
-    (lower-checked (args .limits) (now (args .book)) (now (args .places)) (args .count) (pre .1 .0 .taken) (pre .0) (half-size .result) (half-size .ensures) (args .m) (load .result) (pre .1 .1 .0) (now (args .work)) (load .last .1 .1 .1 .1 .1 .1 .1 .0) (pre .1 .1 .1 .1) (load .ensures) (place .result) (place .ensures), blank 512 512 refl)
+    (lower-checked (args .limits) (now (args .book)) (args .cards) (pre .1 .0 .taken) (pre .0) (half-size .result) (half-size .ensures) (args .m) (load .result) (pre .1 .1 .0) (now (args .work)) (load .last .1 .1 .1 .1 .1 .1 .0) (pre .1 .1 .1 .1) (load .ensures) (place .result) (place .ensures), blank 512 512 refl)
 
 compare-rest-requires : tie.Need-compare-rest-requires
 compare-rest-requires c κs =
@@ -87,7 +87,7 @@ compare-rest-requires c κs =
     let place = c .before .before .before .before .before .place in
     let fill-links = c .before .before .fill-links in
     let less : next-undecided .result < args .m = omega (arith, next-undecided .ensures .0 .1, c .before .before .before .before .before .before .before .before .before .before .before .if2 .left) in
-    (pre .0, (pre .1 .0, ((pre .1 .1 .0, less), (((sym (c .before .before .before .before .before .before .before .before .before .before .before .before .before .before .has-card .ensures) ∙ not-false _ (c .before .before .before .before .before .before .before .before .before .before .before .before .before .if1 .left)), next-undecided .ensures .1 .1 less), ((row-skipped (args .limits) (now (args .book)) (args .covering) (args .m) (args .redundant) 0 (next-undecided .result) (next-undecided .ensures .1 .0) (pre .1 .1 .1 .0)), lower-half (args .limits) (now (args .book)) (now (args .places)) (args .count) (pre .1 .0 .taken) (pre .0) (half-size .result) (half-size .ensures) (args .m) (load .result) (pre .1 .1 .0) (now (args .work)) (load .last .1 .1 .1 .1 .1 .1 .1 .0) (pre .1 .1 .1 .1) (load .ensures) (place .result) (place .ensures) (fill-links .last .1 .1 .0) (fill-links .ensures))))))
+    (pre .0, (pre .1 .0, ((pre .1 .1 .0, less), (((sym (c .before .before .before .before .before .before .before .before .before .before .before .before .before .before .has-card .ensures) ∙ not-false _ (c .before .before .before .before .before .before .before .before .before .before .before .before .before .if1 .left)), next-undecided .ensures .1 .1 less), ((row-skipped (args .limits) (now (args .book)) (args .covering) (args .m) (args .redundant) 0 (next-undecided .result) (next-undecided .ensures .1 .0) (pre .1 .1 .1 .0)), lower-half (args .limits) (now (args .book)) (args .cards) (pre .1 .0 .taken) (pre .0) (half-size .result) (half-size .ensures) (args .m) (load .result) (pre .1 .1 .0) (now (args .work)) (load .last .1 .1 .1 .1 .1 .1 .0) (pre .1 .1 .1 .1) (load .ensures) (place .result) (place .ensures) (fill-links .last .1 .1 .0) (fill-links .ensures))))))
 
 same-length : tie.Need-same-length
 same-length c = search needs
@@ -99,7 +99,7 @@ returns-3 c =
     let half-size = c .before .before .before .before .before .before .before .before .before .before .before .before .before .half-size in
     let load = c .before .before .before .before .before .before .before .before .before .before .before .load in
     let rest = c .before .before .compare-rest in
-    (rest .ensures .0, rest .ensures .1 ∙ lower-length (args .limits) (now (args .book)) (now (args .places)) (args .count) (pre .1 .0 .taken) (pre .0) (half-size .result) (half-size .ensures) (args .m) (load .result) (pre .1 .1 .0) (now (args .work)) (load .last .1 .1 .1 .1 .1 .1 .1 .0) (pre .1 .1 .1 .1) (load .ensures))
+    (rest .ensures .0, rest .ensures .1 ∙ lower-length (args .limits) (now (args .book)) (args .cards) (pre .1 .0 .taken) (pre .0) (half-size .result) (half-size .ensures) (args .m) (load .result) (pre .1 .1 .0) (now (args .work)) (load .last .1 .1 .1 .1 .1 .1 .0) (pre .1 .1 .1 .1) (load .ensures))
 
 pub compare-card-spec : {M : Type 1} → statement M
 compare-card-spec =

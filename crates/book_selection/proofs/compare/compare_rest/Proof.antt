@@ -10,11 +10,11 @@ use Rattle.book_selection.proofs.compare.compare_rest.Statement.{statem
 use Rattle.book_selection.proofs.compare.compare_rest.Tie as tie
 
 abbrev Inv-loop : tie.InvT-loop
-Inv-loop book places count limits cache spans covering m a links from redundant work₀ word₀ n₀ work word n =
+Inv-loop book cards limits cache spans covering m a links from redundant work₀ word₀ n₀ work word n =
     (n ≤ m) × ((n < m → undecided covering word m n ≡ true) × (ComparedTo limits book covering m n word × LowerHalf limits book m a links work))
 
 abbrev μ-loop : tie.MeasureT-loop
-μ-loop book places count limits cache spans covering m a links from redundant work₀ word₀ n₀ work word n =
+μ-loop book cards limits cache spans covering m a links from redundant work₀ word₀ n₀ work word n =
     m - n
 
 loop-holds : tie.Need-loop-holds Inv-loop μ-loop
@@ -49,7 +49,7 @@ loop-again c =
     let compare-with = c .before .before .before .compare-with in
     let found = c .next-undecided .ensures in
     let pair =
-    pair-compared (args .limits) (now (args .book)) (args .covering) (args .m) (loop .word) (loop .n) (compare-with .result) (loop .inv .1 .1 .0) (loop-test .taken) (omega (arith, pre .1 .1 .0 .0, pre .1 .0 .taken .cards-read .counted)) (pre .1 .1 .1 .0 .0) (loop .inv .1 .0 (loop-test .taken)) (compare-with .ensures .0) in
+    pair-compared (args .limits) (now (args .book)) (args .covering) (args .m) (loop .word) (loop .n) (compare-with .result) (loop .inv .1 .1 .0) (loop-test .taken) (omega (arith, pre .1 .1 .0 .0, pre .1 .0 .taken .cards-read .places-are .counted)) (pre .1 .1 .1 .0 .0) (loop .inv .1 .0 (loop-test .taken)) (compare-with .ensures .0) in
     (found .0 .1, (found .1 .1, (row-skipped (args .limits) (now (args .book)) (args .covering) (args .m) (compare-with .result) (loop .n + 1) (c .next-undecided .result) (found .1 .0) pair, compare-with .ensures .1)))
 
 same-length : tie.Need-same-length Inv-loop μ-loop

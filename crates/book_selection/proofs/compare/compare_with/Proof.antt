@@ -19,14 +19,14 @@ both : (c : tie.After-load) →
     let half = c .before .before .half-size .result in
     BothHalves (args .limits) (now (args .book)) (args .m) (args .n)
     (record { first = args .a; second = c .load .result }) (now (args .links))
-    (putMid half (length (now (args .work)) - half) (now (args .work)) (c .load .last .1 .1 .1 .1 .1 .1 .1 .0))
+    (putMid half (length (now (args .work)) - half) (now (args .work)) (c .load .last .1 .1 .1 .1 .1 .1 .0))
 both c =
     let args = entry c .args in
     let pre = entry c .pre in
     let half = c .before .before .half-size in
-    both-halves (args .limits) (now (args .book)) (now (args .places)) (args .count) (pre .1 .0 .taken) (pre .0)
+    both-halves (args .limits) (now (args .book)) (args .cards) (pre .1 .0 .taken) (pre .0)
     (half .result) (half .ensures) (args .m) (args .a) (pre .1 .1 .0 .0) (now (args .links)) (now (args .work))
-    (pre .1 .1 .1) (args .n) (pre .1 .1 .0 .1) (c .load .result) (c .load .last .1 .1 .1 .1 .1 .1 .1 .0)
+    (pre .1 .1 .1) (args .n) (pre .1 .1 .0 .1) (c .load .result) (c .load .last .1 .1 .1 .1 .1 .1 .0)
     (c .load .ensures)
 
 half-size-requires : tie.Need-half-size-requires
@@ -45,7 +45,7 @@ load-requires : tie.Need-load-requires
 load-requires c κs =
     let pre = c .before .before .before .before .before .pre in
     let args = c .before .before .before .before .before .args in
-    (pre .0, (pre .1 .0, (pre .1 .1 .0 .1, upper-long (args .limits) (now (args .book)) (now (args .places)) (args .count) (pre .1 .0 .taken) (pre .0) (c .before .half-size .result) (c .before .half-size .ensures) (args .m) (args .a) (pre .1 .1 .0 .0) (now (args .links)) (now (args .work)) (pre .1 .1 .1) (args .n) (pre .1 .1 .0 .1))))
+    (pre .0, (pre .1 .0, (pre .1 .1 .0 .1, upper-long (args .limits) (now (args .book)) (args .cards) (pre .1 .0 .taken) (pre .0) (c .before .half-size .result) (c .before .half-size .ensures) (args .m) (args .a) (pre .1 .1 .0 .0) (now (args .links)) (now (args .work)) (pre .1 .1 .1) (args .n) (pre .1 .1 .0 .1))))
 
 first-table-requires : tie.Need-first-table-requires
 first-table-requires c κs = first-lies (both (c .before .before .before) .there)

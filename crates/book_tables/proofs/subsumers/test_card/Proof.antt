@@ -13,13 +13,13 @@ use Rattle.normal_writer.proofs.Tablings.{none-many, some-few, tabled-checked, 
 use Rattle.normal_writer.specs.Tables.{Tabled}
 use Rattle.book.specs.Form.{card}
 use Rattle.book_tables.proofs.Caches.{tabled-at}
-use Rattle.book_tables.proofs.CardTables.{card-placed, card-room, card-tabled}
+use Rattle.book_tables.proofs.CardTables.{card-room, card-tabled}
 use Rattle.book_tables.proofs.CardTests.{test-covers, test-fits, test-many, test-not}
 use Rattle.book_tables.proofs.subsumers.test_card.Statement.{statement}
 use Rattle.book_tables.proofs.subsumers.test_card.Tie as tie
 
 card-requires : tie.Need-card-requires
-card-requires c κs = let pre = c .before .before .before .before .pre in card-placed (pre .1 .0) (pre .1 .1 .0)
+card-requires c κs = let pre = c .before .before .before .before .pre in (pre .1 .0 .places-are, pre .1 .1 .0)
 
 normal-table-requires : tie.Need-normal-table-requires
 normal-table-requires c κs = let pre = c .before .before .before .before .before .before .pre in card-room (pre .1 .0) (pre .1 .1 .0) (pre .0) (c .before .card .ensures) (pre .1 .1 .1 .1 .0)
@@ -28,8 +28,8 @@ normal-table-requires c κs = let pre = c .before .before .before .before .befor
 tabled : (c : tie.After-normal-table) → let a = c .before .before .before .before .before .before .before .args in Tabled (a .limits) (card (now (a .book)) (a .k)) (now (a .scratch)) (c .normal-table .result) (c .normal-table .last .1 .1 .0)
 tabled c = let pre = c .before .before .before .before .before .before .before .pre in card-tabled (pre .1 .0) (pre .1 .1 .0) (c .before .before .card .ensures) (c .normal-table .ensures)
 
-cast-t21 : tie.Need-cast-t21
-cast-t21 c = search needs
+cast-t20 : tie.Need-cast-t20
+cast-t20 c = search needs
 
 too-many-requires : tie.Need-too-many-requires
 too-many-requires c κs = search needs
@@ -43,7 +43,7 @@ returns c =
     let a = start .args in
     let made = tabled (c .before .before .before .before) in
     let many = none-many _ _ _ _ _ (start .pre .0) made (c .before .if1 .taken) in
-    rw (c .too-many .ensures) (test-many (a .limits) (now (a .table)) (now (a .book)) (a .count) (a .k) many, (made .same, refl))
+    rw (c .too-many .ensures) (test-many (a .limits) (now (a .table)) (now (a .book)) (a .cards .count) (a .k) many, (made .same, refl))
 
 -- where a row was given, 14 is answered yes, the table fits, and is the normal file
 few : (c : tie.Else1) → let a = c .before .before .before .before .before .before .before .before .before .before .args in mergedCount (a .limits) (card (now (a .book)) (a .k)) ≤ a .limits .rows
@@ -72,7 +72,7 @@ returns-2 c =
     let pre = start .pre in
     let here = c .before .before .before in
     let says = c .before .covers-case in (
-      test-not (a .limits) (now (a .table)) (now (a .book)) (a .count) (now (a .cache)) (now (a .spans)) (a .subsumers) (a .k) (pre .1 .1 .1 .1 .1)
+      test-not (a .limits) (now (a .table)) (now (a .book)) (a .cards .count) (now (a .cache)) (now (a .spans)) (a .subsumers) (a .k) (pre .1 .1 .1 .1 .1)
           (pre .1 .1 .0) (few here) (says .result) _ (says .ensures) (file here) (not-true _ (c .if2 .taken)),
       (tabled (c .before .before .before .before .before .before) .same, refl),
     )
@@ -92,8 +92,8 @@ store-requires c κs =
 bit-requires : tie.Need-bit-requires
 bit-requires c κs = let start = c .before .before .before .before .before .before .before .before .before .before .before .before .before .before .before .before .before .before .before in omega (arith, start .pre .1 .1 .0, start .pre .1 .0 .places-are .most)
 
-add-t32 : tie.Need-add-t32
-add-t32 c =
+add-t31 : tie.Need-add-t31
+add-t31 c =
     let start = c .before .before .before .before .before .before .before .before .before .before .before .before .before .before .before .before .before .before .before .before .before in
     let a = start .args in
     let pre = start .pre in
@@ -102,7 +102,7 @@ add-t32 c =
     let one = c .before .bit in
     omega (
       arith,
-      test-fits (a .limits) (now (a .table)) (now (a .book)) (a .count) (now (a .cache)) (now (a .spans)) (a .subsumers) (a .k) (pre .1 .1 .1 .1 .1)
+      test-fits (a .limits) (now (a .table)) (now (a .book)) (a .cards .count) (now (a .cache)) (now (a .spans)) (a .subsumers) (a .k) (pre .1 .1 .1 .1 .1)
           (pre .1 .1 .0) (few here) (says .result) _ (says .ensures) (file here) (not-false _ (c .before .before .before .before .before .before .before .before .if2 .left)) (one .result) (one .ensures)
           (pre .1 .0 .places-are .most),
     )
@@ -124,7 +124,7 @@ returns-3 c =
     let one = c .before .bit in
     let store = c .before .before .before .before .store in
     let cached = store .ensures .0 (a .limits) (now (a .book)) (pre .1 .1 .1 .1 .1 .cache-is) (tabled-at _ _ _ _ _ made (few here)) in (
-      test-covers (a .limits) (now (a .table)) (now (a .book)) (a .count) (now (a .cache)) (now (a .spans)) (a .subsumers) (a .k) (pre .1 .1 .1 .1 .1)
+      test-covers (a .limits) (now (a .table)) (now (a .book)) (a .cards .count) (now (a .cache)) (now (a .spans)) (a .subsumers) (a .k) (pre .1 .1 .1 .1 .1)
           (pre .1 .1 .0) (few here) (says .result) _ (says .ensures) (file here) (not-false _ (c .before .before .before .before .before .before .before .before .if2 .left)) (one .result) (one .ensures)
           (store .last .1 .1 .1 .1 .0) (store .last .1 .1 .1 .1 .1 .0) (store .result) cached,
       (made .same, store .ensures .1),
@@ -136,7 +136,7 @@ test-card-spec =
     (tie.spec
     card-requires
     normal-table-requires
-    cast-t21
+    cast-t20
     too-many-requires
     same-length
     returns
@@ -145,7 +145,7 @@ test-card-spec =
     returns-2
     store-requires
     bit-requires
-    add-t32
+    add-t31
     same-length-3
     same-length-4
     returns-3)
