@@ -74,7 +74,7 @@ pub fn has_form(book: &[u8], cards: Cards) -> bool
 }
 
 // Card k, as a part of the book: from after its field's head to where the next field begins.
-pub fn card<'a>(book: &'a [u8], cards: Cards, k: usize) -> &'a [u8]
+pub fn card(book: &[u8], cards: Cards, k: usize) -> &[u8]
     requires { ⌜ (Placed (now book) cards) × (k < cards .count) ⌝ }
     ensures { λ r. ⌜ now r ≡ «card» (now (book .entry)) k ⌝ }
 {

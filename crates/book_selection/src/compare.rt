@@ -30,7 +30,7 @@ ghost use Rattle.workspace.specs.Prepare.{workSize};
 ghost use Rattle.book.specs.Form.{mostCards};
 ghost use Rattle.book.specs.Selection.{subsumesAnother};
 ghost use Rattle.book_tables.specs.Cache.{CardsCached};
-ghost use Rattle.book_selection.specs.Comparing.{Comparable, Compared, ComparedTo, LowerHalf, Paired, undecided};
+ghost use Rattle.book_selection.specs.Comparing.{Comparable, Compared, undecided};
 ghost use Rattle.book_form.specs.Places.{With, WithEach};
 
 // The word with card k if the second table, which is card k's, covers the first.
@@ -80,34 +80,6 @@ fn compare_tables(
     mark_redundant(more, n, low, a, links, high, b, &others, depth)
 }
 
-// Card m, whose table of a rows stands in the lower half, and card n, each with the other.
-fn compare_with(
-    book: &[u8],
-    cards: Cards,
-    limits: Limits,
-    cache: &[u8],
-    spans: &[usize; SPANS],
-    m: usize,
-    a: usize,
-    links: &[u8; LINKS],
-    n: usize,
-    redundant: u32,
-    work: &mut [u8],
-) -> u32
-    requires { ⌜ (Bounded limits) × ((CardsCached limits (now book) cards (now cache) (now spans)) × (((m < cards .count) × (n < cards .count)) × (LowerHalf limits (now book) m a (now links) (now work)))) ⌝ }
-    ensures { λ r. ⌜ (Paired limits (now (book .entry)) m n redundant r) × (LowerHalf limits (now (book .entry)) m a (now (links .entry)) (now (work .exit))) ⌝ }
-{
-    let half = half_size(limits);
-    let b = load(book, cards, n, limits, cache, spans, &mut work[half..]);
-    let pair = Pair {
-        first: a,
-        second: b,
-    };
-    let low = first_table(work, pair);
-    let high = second_table(work, limits, pair);
-    compare_tables(low, high, pair, links, limits.depth, m, n, redundant)
-}
-
 // Whether card n is to be compared with card m: it covers the case, and not both are redundant already.
 fn is_undecided(covering: u32, redundant: u32, m: usize, n: usize) -> bool
     requires { ⌜ (m < mostCards) × (n < mostCards) ⌝ }
@@ -137,45 +109,6 @@ fn next_undecided(covering: u32, redundant: u32, m: usize, from: usize, end: usi
     n
 }
 
-// Card m, whose table stands in the lower half, with the earlier ones from one on.
-fn compare_rest(
-    book: &[u8],
-    cards: Cards,
-    limits: Limits,
-    cache: &[u8],
-    spans: &[usize; SPANS],
-    covering: u32,
-    m: usize,
-    a: usize,
-    links: &[u8; LINKS],
-    from: usize,
-    redundant: u32,
-    work: &mut [u8],
-) -> u32
-    requires { ⌜ (Bounded limits) × ((CardsCached limits (now book) cards (now cache) (now spans)) × (((m < cards .count) × (from < m)) × (((has covering m ≡ true) × (undecided covering redundant m from ≡ true)) × ((ComparedTo limits (now book) covering m from redundant) × (LowerHalf limits (now book) m a (now links) (now work)))))) ⌝ }
-    ensures { λ r. ⌜ (Compared limits (now (book .entry)) covering (m + 1) r) × (length (now (work .exit)) ≡ length (now (work .entry))) ⌝ }
-{
-    let mut word = redundant;
-    let mut n = from;
-    while n < m {
-        word = compare_with(
-            book,
-            cards,
-            limits,
-            cache,
-            spans,
-            m,
-            a,
-            links,
-            n,
-            word,
-            work,
-        );
-        n = next_undecided(covering, word, m, n + 1, m);
-    }
-    word
-}
-
 // Card m, if it covers the case, with all earlier ones.
 fn compare_card(
     book: &[u8],
@@ -194,28 +127,27 @@ fn compare_card(
     if !has_card(covering, m) {
         return redundant;
     }
-    let from = next_undecided(covering, redundant, m, 0, m);
-    if from == m {
+    let mut n = next_undecided(covering, redundant, m, 0, m);
+    if n == m {
         return redundant;
     }
     let half = half_size(limits);
     let a = load(book, cards, m, limits, cache, spans, &mut work[..half]);
     let mut links = [0u8; LINKS];
     fill_links(&work[..place(a, END_SIZE)], a, &mut links);
-    compare_rest(
-        book,
-        cards,
-        limits,
-        cache,
-        spans,
-        covering,
-        m,
-        a,
-        &links,
-        from,
-        redundant,
-        work,
-    )
+    let mut word = redundant;
+    while n < m {
+        let b = load(book, cards, n, limits, cache, spans, &mut work[half..]);
+        let pair = Pair {
+            first: a,
+            second: b,
+        };
+        let low = first_table(work, pair);
+        let high = second_table(work, limits, pair);
+        word = compare_tables(low, high, pair, &links, limits.depth, m, n, word);
+        n = next_undecided(covering, word, m, n + 1, m);
+    }
+    word
 }
 
 // Those of the covering cards that cover another of them.
