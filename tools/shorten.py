@@ -1,7 +1,7 @@
 #!/usr/bin/env python3
 """Binds what an answer of a proof file reads more than once, two or more places back, by a `let` of the thing's name.
 
-    tools/shorten.py FILE ..        as: tools/shorten.py crates/book_tables/proofs/subsumers/test_card/Proof.antt
+    tools/shorten.py FILE ..        as: tools/shorten.py crates/book_tables/proofs/subsumers/test_cards/Proof.antt
 
 `c .before .before .kind .result` used twice becomes `let kind = c .before .before .kind in` and `kind .result`. A thing
 whose name the answer uses for something else is left. tools/renumber.py moves such a `let` with the code.

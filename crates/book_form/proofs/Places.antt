@@ -18,7 +18,8 @@ use Rattle.table.proofs.Bools.{by-test}
 use Rattle.table.proofs.Ranges.{left-suc}
 use Rattle.table.specs.Layout.{headSize}
 use Rattle.book.specs.Form.{card, cardAt, cardCount, cardTag, cardsFrom, fieldPlace, lengthSaid, mostCards, nextPlace}
-use Rattle.book_form.specs.Places.{CardPlaced, Placed}
+use Rattle.book_form.specs.Places.{Placed}
+use Rattle.book_form.specs.declared.form.Cards.{Cards}
 use Rattle.book.proofs.Forms.{after-card}
 
 -- ---- one field
@@ -73,18 +74,18 @@ pub record Scanned (book places : List ℕ) (k at : ℕ) : Type 0 where
   pub counted : cardCount book ≡ cardsFrom book (mostCards - k) k
 
 module _ (book places : List ℕ) where
-  pub scan-start : length places ≡ mostCards + 1 → Scanned book (set places 0 0) 0 0
+  pub scan-start : length places ≡ mostCards + 1 → getD places 0 0 ≡ 0 → Scanned book places 0 0
   unfolding cardCount
-  scan-start size =
+  scan-start size begins =
       let first = field-first book in
       record {
         most = omega arith;
-        size = length-set places 0 0 ∙ size;
+        size = size;
         at-is = sym first;
         at-inside = omega arith;
         placed = λ j l.
             let zeroth : j ≡ 0 = omega arith in
-            ap (λ (i : ℕ). getD (set places 0 0) i 0) zeroth ∙ getD-set-same places 0 0 0 (omega (arith, size)) ∙ sym (ap (fieldPlace book) zeroth ∙ first);
+            ap (λ (i : ℕ). getD places i 0) zeroth ∙ begins ∙ sym (ap (fieldPlace book) zeroth ∙ first);
         inside = λ j l. let zeroth : j ≡ 0 = omega arith in omega (arith, ap (fieldPlace book) zeroth ∙ first);
         counted = refl;
       }
@@ -112,36 +113,36 @@ module _ (book places : List ℕ) where
           counted = scanned .counted ∙ cards-on book mostCards k l here;
         }
 
-    kept : Placed book places k
-    kept = record { size = scanned .size; most = scanned .most; placed = scanned .placed; inside = scanned .inside }
+    kept : cardsFrom book (mostCards - k) k ≡ k → Placed book (record { places = places; count = k })
+    kept e = record { size = scanned .size; counted = sym (scanned .counted ∙ e); most = scanned .most; placed = scanned .placed; inside = scanned .inside }
 
-    pub scan-stop : k < mostCards → cardAt book at ≡ false → (k ≡ cardCount book) × Placed book places k
-    scan-stop l is = (sym (scanned .counted ∙ cards-stop book mostCards k l (subst (λ n. cardAt book n ≡ false) (scanned .at-is) is)), kept)
+    pub scan-stop : k < mostCards → cardAt book at ≡ false → Placed book (record { places = places; count = k })
+    scan-stop l is = kept (cards-stop book mostCards k l (subst (λ n. cardAt book n ≡ false) (scanned .at-is) is))
 
-    pub scan-full : mostCards ≤ k → (k ≡ cardCount book) × Placed book places k
-    scan-full l = (sym (scanned .counted ∙ cards-full book mostCards k l), kept)
+    pub scan-full : mostCards ≤ k → Placed book (record { places = places; count = k })
+    scan-full l = kept (cards-full book mostCards k l)
 
 -- ---- a card as a part of the book
 
-module _ (book places : List ℕ) (k : ℕ) (here : CardPlaced book places k) where
-  from-is : getD places k 0 ≡ fieldPlace book k
-  from-is = here .places-are .placed k (omega (arith, here .below))
+module _ (book : List ℕ) (cards : Cards) (k : ℕ) (so : Placed book cards) (l : k < cards .count) where
+  from-is : getD (cards .places) k 0 ≡ fieldPlace book k
+  from-is = so .placed k (omega (arith, l))
 
-  to-is : getD places (k + 1) 0 ≡ fieldPlace book (k + 1)
-  to-is = here .places-are .placed (k + 1) (omega (arith, here .below))
+  to-is : getD (cards .places) (k + 1) 0 ≡ fieldPlace book (k + 1)
+  to-is = so .placed (k + 1) (omega (arith, l))
 
-  next-place : getD places (k + 1) 0 ≡ getD places k 0 + headSize + lengthSaid book (fieldPlace book k)
+  next-place : getD (cards .places) (k + 1) 0 ≡ getD (cards .places) k 0 + headSize + lengthSaid book (fieldPlace book k)
   next-place = to-is ∙ after-card book k ∙ ap (λ (n : ℕ). n + headSize + lengthSaid book (fieldPlace book k)) (sym from-is)
 
-  pub place-from : getD places k 0 + headSize ≤ getD places (k + 1) 0
+  pub place-from : getD (cards .places) k 0 + headSize ≤ getD (cards .places) (k + 1) 0
   place-from = omega (arith, next-place)
 
-  pub place-to : getD places (k + 1) 0 ≤ length book
-  place-to = omega (arith, to-is, here .places-are .inside (k + 1) (omega (arith, here .below)))
+  pub place-to : getD (cards .places) (k + 1) 0 ≤ length book
+  place-to = omega (arith, to-is, so .inside (k + 1) (omega (arith, l)))
 
-  pub place-part : take (getD places (k + 1) 0 - (getD places k 0 + headSize)) (drop (getD places k 0 + headSize) book) ≡ card book k
+  pub place-part : take (getD (cards .places) (k + 1) 0 - (getD (cards .places) k 0 + headSize)) (drop (getD (cards .places) k 0 + headSize) book) ≡ card book k
   unfolding card
   place-part =
-      let long : getD places (k + 1) 0 - (getD places k 0 + headSize) ≡ lengthSaid book (fieldPlace book k) = omega (arith, next-place) in
-      ap (λ (n : ℕ). take n (drop (getD places k 0 + headSize) book)) long
+      let long : getD (cards .places) (k + 1) 0 - (getD (cards .places) k 0 + headSize) ≡ lengthSaid book (fieldPlace book k) = omega (arith, next-place) in
+      ap (λ (n : ℕ). take n (drop (getD (cards .places) k 0 + headSize) book)) long
       ∙ ap (λ (n : ℕ). take (lengthSaid book (fieldPlace book k)) (drop (n + headSize) book)) from-is

@@ -5,10 +5,10 @@ use table::number::load16;
 use table_rows::row::ends_at;
 ghost use mathlib.Core.Path.{_≡_};
 ghost use mathlib.Core.Bool.{true};
-ghost use Prim.Native.Nat.{ℕ, _+_, _≤_};
+ghost use Prim.Native.Nat.{ℕ, _<_, _≤_};
 ghost use lib.ListN.{length};
-ghost use Rattle.book.specs.Form.{bookForm, «card», cardAt, cardCount, mostCards, nextPlace};
-ghost use Rattle.book_form.specs.Places.{CardPlaced, Placed};
+ghost use Rattle.book.specs.Form.{bookForm, «card», cardAt, nextPlace};
+ghost use Rattle.book_form.specs.Places.{Placed};
 
 pub const CARD_TAG: u8 = 0x51;
 
@@ -16,6 +16,12 @@ pub const MAX_CARDS: usize = 32;
 
 // Where each card's field begins, and where the field after the last card does.
 pub const PLACES: usize = MAX_CARDS + 1;
+
+// The cards of a book: their places, and how many there are. It goes from call to call by value.
+pub struct Cards {
+    pub places: [usize; PLACES],
+    pub count: usize,
+}
 
 // Whether a whole field with the tag of a card stands at a place.
 fn card_at(book: &[u8], at: usize) -> bool
@@ -41,39 +47,38 @@ fn next_place(book: &[u8], at: usize) -> usize
     at + HEAD_SIZE + load16(book, at + LENGTH_AT) as usize
 }
 
-// The cards of a book, counted, and their places.
-pub fn find_cards(book: &[u8], places: &mut [usize; PLACES]) -> usize
-    requires { ⌜ length (now places) ≡ mostCards + 1 ⌝ }
-    ensures { λ r. ⌜ (r ≡ cardCount (now (book .entry))) × (Placed (now (book .entry)) (now (places .exit)) r) ⌝ }
+// The cards of a book, by one pass along its fields; the first begins at 0, which the array has from the start.
+pub fn find_cards(book: &[u8]) -> Cards
+    ensures { λ r. ⌜ Placed (now (book .entry)) r ⌝ }
 {
+    let mut places = [0usize; PLACES];
     let mut k = 0;
     let mut at = 0;
-    places[0] = 0;
     while k < MAX_CARDS {
         if !card_at(book, at) {
-            return k;
+            return Cards { places, count: k };
         }
         at = next_place(book, at);
         k += 1;
         places[k] = at;
     }
-    k
+    Cards { places, count: k }
 }
 
 // 24
-pub fn has_form(book: &[u8], places: &[usize; PLACES], count: usize) -> bool
-    requires { ⌜ (count ≡ cardCount (now book)) × (Placed (now book) (now places) count) ⌝ }
+pub fn has_form(book: &[u8], cards: Cards) -> bool
+    requires { ⌜ Placed (now book) cards ⌝ }
     ensures { λ r. ⌜ r ≡ bookForm (now (book .entry)) ⌝ }
 {
-    ends_at(book, places[count])
+    ends_at(book, cards.places[cards.count])
 }
 
 // Card k, as a part of the book: from after its field's head to where the next field begins.
-pub fn card<'a>(book: &'a [u8], places: &[usize; PLACES], k: usize) -> &'a [u8]
-    requires { ⌜ CardPlaced (now book) (now places) k ⌝ }
+pub fn card(book: &[u8], cards: Cards, k: usize) -> &[u8]
+    requires { ⌜ (Placed (now book) cards) × (k < cards .count) ⌝ }
     ensures { λ r. ⌜ now r ≡ «card» (now (book .entry)) k ⌝ }
 {
-    let start = places[k] + HEAD_SIZE;
-    let end = places[k + 1];
+    let start = cards.places[k] + HEAD_SIZE;
+    let end = cards.places[k + 1];
     &book[start..end]
 }

@@ -30,6 +30,7 @@ use Rattle.prepare_pair.specs.declared.prepare.Pair.{Pair}
 use Rattle.book.specs.Form.{card}
 use Rattle.book.specs.Selection.{cardCovers}
 use Rattle.book_tables.specs.Tables.{CardsTaken}
+use Rattle.book_form.specs.declared.form.Cards.{Cards}
 use Rattle.book_selection.specs.Comparing.{BothHalves, Comparable, LowerHalf, Paired}
 use Rattle.book_form.specs.Places.{With, WithEach}
 use Rattle.normal_writer.proofs.Tablings.{tabled-checked, tabled-file, tabled-fits}
@@ -40,8 +41,8 @@ with-each word m test more n other r p q i = q i ∙ ap (λ (b : Bool). b || (eq
 
 -- ---- the two halves
 
-module _ (limits : Limits) (book places : List ℕ) (count : ℕ) (taken : CardsTaken limits book places count) (bounded : Bounded limits) (half : ℕ) (is : half ≡ pictureSize limits) where
-  module _ (m a : ℕ) (l : m < count) (work end : List ℕ) (long : length work ≡ workSize limits) (tabled : Tabled limits (card book m) (take half work) a end) where
+module _ (limits : Limits) (book : List ℕ) (cards : Cards) (taken : CardsTaken limits book cards) (bounded : Bounded limits) (half : ℕ) (is : half ≡ pictureSize limits) where
+  module _ (m a : ℕ) (l : m < cards .count) (work end : List ℕ) (long : length work ≡ workSize limits) (tabled : Tabled limits (card book m) (take half work) a end) where
     abbrev lower-few : mergedCount limits (card book m) ≤ limits .rows
     lower-few = taken .few m l
 
@@ -73,7 +74,7 @@ module _ (limits : Limits) (book places : List ℕ) (count : ℕ) (taken : Cards
           linked = subst (λ k. LinkedTable (take k (end ++ drop half work)) a links) e there;
         }
 
-  module _ (m a : ℕ) (l : m < count) (links work : List ℕ) (lower : LowerHalf limits book m a links work) (n : ℕ) (l₂ : n < count) where
+  module _ (m a : ℕ) (l : m < cards .count) (links work : List ℕ) (lower : LowerHalf limits book m a links work) (n : ℕ) (l₂ : n < cards .count) where
     upper-rest : midOf half (length work - half) work ≡ drop half work
     upper-rest = upper-part half work
 
@@ -142,8 +143,8 @@ module _ (limits : Limits) (book places : List ℕ) (count : ℕ) (taken : Cards
 
 -- ---- the parts that are the two tables
 
-module _ {limits : Limits} {book places : List ℕ} {count : ℕ} (taken : CardsTaken limits book places count)
-    (bounded : Bounded limits) {m n : ℕ} (l : m < count) (l₂ : n < count) {pair : Pair} {links work : List ℕ}
+module _ {limits : Limits} {book : List ℕ} {cards : Cards} (taken : CardsTaken limits book cards)
+    (bounded : Bounded limits) {m n : ℕ} (l : m < cards .count) (l₂ : n < cards .count) {pair : Pair} {links work : List ℕ}
     (both : BothHalves limits book m n pair links work) {s t : List ℕ} (e : s ≡ firstIn pair work)
     (f : t ≡ secondIn limits pair work) where
   pub parts-comparable : Comparable s t pair links m n
@@ -156,7 +157,7 @@ module _ {limits : Limits} {book places : List ℕ} {count : ℕ} (taken : Cards
       }
 
   covers-is : (u v : List ℕ) (i j : ℕ) → u ≡ normalFile limits (card book i) → v ≡ normalFile limits (card book j) →
-      i < count → j < count → rowMaps u v (limits .depth) 0 0 ≡ cardCovers limits book j i
+      i < cards .count → j < cards .count → rowMaps u v (limits .depth) 0 0 ≡ cardCovers limits book j i
   covers-is u v i j d h b₁ b₂ =
       ap (λ (x : List ℕ). rowMaps x v (limits .depth) 0 0) d
       ∙ ap (λ (x : List ℕ). rowMaps (normalFile limits (card book i)) x (limits .depth) 0 0) h

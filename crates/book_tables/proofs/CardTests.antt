@@ -1,13 +1,12 @@
 -- Laws of testing the cards: 14 of each, and whether it covers the case, over the case's table t.
 --   test-start, test-all                none is tested; all are
---   test-many, test-not, test-covers    one card more: 14 is answered no; it does not cover the case; it does
---   test-fits                           the word has room for it
---   test-no                             then 14 decides
+--   test-room, test-next                one card more: the word has room for it; what was tested with it
+--   test-no                             14 of it is answered no, and decides
 --   case-many, case-tested              14 of the case is answered no; else the table is the case's
-use Prim.Native.Nat.{_+_, _<_, _^_, _≤_, ℕ}
+use Prim.Native.Nat.{_*_, _+_, _<_, _^_, _≤_, ℕ}
 use lib.Dec.{leb}
-use lib.Pow.{pow-mono}
-use mathlib.Core.Bool.{Bool, false, true}
+use lib.Pow.{pow-add, pow-mono}
+use mathlib.Core.Bool.{Bool, false}
 use mathlib.Core.List.{List}
 use mathlib.Core.Path.{_∙_, _≡_, ap, refl, sym}
 use native.Mathlib.Decide.{ℕ-discrete}
@@ -17,7 +16,6 @@ use Rattle.homomorphism_search.specs.Search.{rowMaps}
 use Rattle.meaning.specs.NormalTable.{mergedCount, normalFile}
 use Rattle.picture.specs.Refusal.{tooMany}
 use Rattle.picture.specs.declared.answer.Input.the-variants.{Card, First}
-use Rattle.picture.specs.declared.answer.Refusal.{Refusal}
 use Rattle.table.specs.Bounds.{Bounded}
 use Rattle.table_rows.specs.Links.{Zeros}
 use Rattle.table.specs.Pick.{pick}
@@ -54,46 +52,33 @@ module _ (limits : Limits) (t book : List ℕ) (count : ℕ) where
         cache-is = none-cached limits book cache spans blank;
       }
 
-  pub test-many : (k : ℕ) → leb (mergedCount limits (card book k)) (limits .rows) ≡ false → cardMerged limits book k ≡ No (tooMany (Card k))
-  test-many k many = merged-many limits (Card k) (card book k) many
-
   module _ (cache spans : List ℕ) (subsumers : Subsumers) (k : ℕ) (so : SubsumersBelow limits t book count cache spans subsumers k) (l : k < count) where
+    pub test-room : count ≤ mostCards → subsumers .word + 2 ^ k < 2 ^ mostCards
+    test-room most =
+        let wide : 2 ^ (k + 1) ≤ 2 ^ mostCards = pow-mono {j = mostCards} (omega arith) in
+        let twice : 2 ^ (k + 1) ≡ 2 ^ k * 2 = pow-add 2 k 1 in
+        omega (arith, so .word-is, cardWord-below (coversTable limits t book) k, wide, twice)
+
     module _ (few : mergedCount limits (card book k) ≤ limits .rows) (says : Bool) (u : List ℕ) (is : says ≡ rowMaps t u (limits .depth) 0 0) (table : u ≡ normalFile limits (card book k)) where
       answer : says ≡ coversTable limits t book k
       answer = is ∙ ap (λ (v : List ℕ). rowMaps t v (limits .depth) 0 0) table
 
-      all-few : (j : ℕ) → j < k + 1 → cardMerged limits book j ≡ Yes
-      all-few = yes-on (cardMerged limits book) k (merged-decides limits (Card k) (card book k) .yes .1 few) (so .few)
-
-      -- the word with what the card adds
-      added : (one : ℕ) → one ≡ pick (coversTable limits t book k) (2 ^ k) 0 → subsumers .word + one ≡ cardWord (coversTable limits t book) (k + 1)
-      added one e = ap (λ (n : ℕ). n + one) (so .word-is) ∙ ap (λ (n : ℕ). cardWord (coversTable limits t book) k + n) e ∙ sym (cardWord-suc (coversTable limits t book) k)
-
-      pub test-not : says ≡ false → SubsumersBelow limits t book count cache spans subsumers (k + 1)
-      test-not said =
-          let none : 0 ≡ pick (coversTable limits t book k) (2 ^ k) 0 = sym (ap (λ (b : Bool). pick b (2 ^ k) 0) (sym answer ∙ said)) in
+      pub test-next : (next : Subsumers) (cache₂ spans₂ : List ℕ) → next .word ≡ subsumers .word + pick says (2 ^ k) 0 → Cached limits book cache₂ spans₂ (next .at) →
+          SubsumersBelow limits t book count cache₂ spans₂ next (k + 1)
+      test-next next cache₂ spans₂ e there =
           record {
             most = omega arith;
-            few = all-few;
-            word-is = omega (arith, added 0 none);
-            cache-is = so .cache-is;
+            few = yes-on (cardMerged limits book) k (merged-decides limits (Card k) (card book k) .yes .1 few) (so .few);
+            word-is =
+                e
+                ∙ ap (λ (b : Bool). subsumers .word + pick b (2 ^ k) 0) answer
+                ∙ ap (λ (n : ℕ). n + pick (coversTable limits t book k) (2 ^ k) 0) (so .word-is)
+                ∙ sym (cardWord-suc (coversTable limits t book) k);
+            cache-is = there;
           }
 
-      module _ (said : says ≡ true) (one : ℕ) (bit : one ≡ 2 ^ k) where
-        more : subsumers .word + one ≡ cardWord (coversTable limits t book) (k + 1)
-        more = added one (bit ∙ sym (ap (λ (b : Bool). pick b (2 ^ k) 0) (sym answer ∙ said)))
-
-        pub test-fits : count ≤ mostCards → subsumers .word + one < 2 ^ mostCards
-        test-fits most =
-            let wide : 2 ^ (k + 1) ≤ 2 ^ mostCards = pow-mono {j = mostCards} (omega arith) in
-            omega (arith, more, cardWord-below (coversTable limits t book) (k + 1), wide)
-
-        pub test-covers : (cache₂ spans₂ : List ℕ) (at : ℕ) → Cached limits book cache₂ spans₂ at →
-            SubsumersBelow limits t book count cache₂ spans₂ (record { word = subsumers .word + one; at = at }) (k + 1)
-        test-covers cache₂ spans₂ at there = record { most = omega arith; few = all-few; word-is = more; cache-is = there }
-
-    pub test-no : (r : Refusal) → cardMerged limits book k ≡ No r → Refused r ≡ Answer
-    test-no r stopped = sym (rw (to-no (cardMerged limits book) count k r l stopped (so .few)))
+    pub test-no : leb (mergedCount limits (card book k)) (limits .rows) ≡ false → Refused (tooMany (Card k)) ≡ Answer
+    test-no many = sym (rw (to-no (cardMerged limits book) count k (tooMany (Card k)) l (merged-many limits (Card k) (card book k) many) (so .few)))
 
   pub test-all : (cache spans : List ℕ) (subsumers : Subsumers) (k : ℕ) → SubsumersBelow limits t book count cache spans subsumers k → count ≤ k → Cards (subsumers .word) ≡ Answer
   test-all cache spans subsumers k so done =

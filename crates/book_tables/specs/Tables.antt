@@ -5,29 +5,28 @@
 use Prim.Native.Nat.{_<_, _≤_, ℕ}
 use mathlib.Core.Bool.{Bool}
 use mathlib.Core.List.{List}
-use mathlib.Core.Path.{_≡_}
 use Rattle.table.specs.declared.layout.Limits.{Limits}
 use Rattle.picture.specs.Asked.{onAsked}
 use Rattle.picture.specs.Readable.{Readable}
 use Rattle.picture.specs.declared.answer.Asked.{Asked}
 use Rattle.meaning.specs.NormalTable.{mergedCount, normalFile}
 use Rattle.homomorphism_search.specs.Search.{rowMaps}
-use Rattle.book.specs.Form.{card, cardCount}
+use Rattle.book.specs.Form.{card}
 use Rattle.book.specs.declared.answer.Selected.{Selected}
-use Rattle.book.specs.declared.answer.Selected.the-variants.{Cards, Refused}
+use Rattle.book.specs.declared.answer.Selected.the-variants as selected
 use Rattle.book_form.specs.Places.{Placed}
+use Rattle.book_form.specs.declared.form.Cards.{Cards}
 
-pub record CardsRead (limits : Limits) (book places : List ℕ) (count : ℕ) : Type 0 where
-  pub places-are : Placed book places count
-  pub counted : count ≡ cardCount book
-  pub readable : (k : ℕ) → k < count → Readable limits (card book k)
+pub record CardsRead (limits : Limits) (book : List ℕ) (cards : Cards) : Type 0 where
+  pub places-are : Placed book cards
+  pub readable : (k : ℕ) → k < cards .count → Readable limits (card book k)
 
-pub record CardsTaken (limits : Limits) (book places : List ℕ) (count : ℕ) : Type 0 where
-  pub cards-read : CardsRead limits book places count
-  pub few : (k : ℕ) → k < count → mergedCount limits (card book k) ≤ limits .rows
+pub record CardsTaken (limits : Limits) (book : List ℕ) (cards : Cards) : Type 0 where
+  pub cards-read : CardsRead limits book cards
+  pub few : (k : ℕ) → k < cards .count → mergedCount limits (card book k) ≤ limits .rows
 
 abbrev pub selectedOn : Asked → ℕ → Selected
-selectedOn a word = onAsked Refused a (Cards word)
+selectedOn a word = onAsked selected.Refused a (selected.Cards word)
 
 abbrev pub coversTable : Limits → List ℕ → List ℕ → ℕ → Bool
 coversTable limits t book k = rowMaps t (normalFile limits (card book k)) (limits .depth) 0 0

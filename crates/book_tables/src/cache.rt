@@ -1,6 +1,6 @@
 // A cache of the tables of covering cards, one after the other in an array of the call's own, so that they are copied and not made again.
+use book_form::form::Cards;
 use book_form::form::MAX_CARDS;
-use book_form::form::PLACES;
 use book_form::form::card;
 use normal_writer::write::TABLE;
 use normal_writer::write::normal_table;
@@ -50,20 +50,19 @@ pub fn store(
 // The table of card k, copied if it is cached and else made, at the start of a lent part; its rows.
 pub fn load(
     book: &[u8],
-    places: &[usize; PLACES],
-    count: usize,
+    cards: Cards,
     k: usize,
     limits: Limits,
     cache: &[u8],
     spans: &[usize; SPANS],
     out: &mut [u8],
 ) -> usize
-    requires { ⌜ (Bounded limits) × ((CardsCached limits (now book) (now places) count (now cache) (now spans)) × ((k < count) × (pictureSize limits ≤ length (now out)))) ⌝ }
+    requires { ⌜ (Bounded limits) × ((CardsCached limits (now book) cards (now cache) (now spans)) × ((k < cards .count) × (pictureSize limits ≤ length (now out)))) ⌝ }
     ensures { λ r. ⌜ Tabled limits («card» (now (book .entry)) k) (now (out .entry)) r (now (out .exit)) ⌝ }
 {
     let m = spans[MAX_CARDS + k];
     if m == 0 {
-        return normal_table(card(book, places, k), limits, out);
+        return normal_table(card(book, cards, k), limits, out);
     }
     let start = spans[k];
     copy_in(out, 0, &cache[start..start + place(m, END_SIZE)]);

@@ -40,10 +40,11 @@ use Rattle.book.specs.Selection.{cardCovers, cardWord, caseCovered, mostSpecifi
 use Rattle.book_tables.specs.Tables.{CardsRead, CardsTaken, selectedOn}
 use Rattle.most_specific.specs.Asking.{afterCards, afterCase}
 use Rattle.book_form.specs.Places.{Placed}
+use Rattle.book_form.specs.declared.form.Cards.{Cards}
 use Rattle.picture.specs.declared.answer.Asked.{Asked}
 use Rattle.picture.specs.declared.answer.Asked.the-variants.{No, Yes}
 use Rattle.book.specs.declared.answer.Selected.{Selected}
-use Rattle.book.specs.declared.answer.Selected.the-variants.{Cards, Refused}
+use Rattle.book.specs.declared.answer.Selected.the-variants as selected
 use Rattle.book.proofs.CardWords.{has-cardWord, word-is}
 
 -- ---- the cards, read in turn
@@ -106,49 +107,49 @@ module _ (limits : Limits) (word : ℕ) (work : List ℕ) where
   abbrev pub Left : Asked → Selected → List ℕ → Type 0
   Left a r end = (r ≡ selectedOn a word) × (end ≡ kept a (put work 0 (zeros (workSize limits))) work)
 
-  pub stopped : (a : Asked) (r : Refusal) → a ≡ No r → Left a (Refused r) work
+  pub stopped : (a : Asked) (r : Refusal) → a ≡ No r → Left a (selected.Refused r) work
   stopped a r e = (rw e, rw e)
 
-  pub done : (a : Asked) → a ≡ Yes → (n : ℕ) (end : List ℕ) → n ≡ word → end ≡ put work 0 (zeros (workSize limits)) → Left a (Cards n) end
-  done a e n end is cleared = (rw e (ap Cards is), rw e cleared)
+  pub done : (a : Asked) → a ≡ Yes → (n : ℕ) (end : List ℕ) → n ≡ word → end ≡ put work 0 (zeros (workSize limits)) → Left a (selected.Cards n) end
+  done a e n end is cleared = (rw e (ap selected.Cards is), rw e cleared)
 
   pub left-as : (a b : Asked) → a ≡ b → (r : Selected) (end : List ℕ) → Left b r end → Left a r end
   left-as a b e r end = subst (λ q. Left q r end) (sym e)
 
 -- ---- after 2 to 13 of the cards
 
-module _ (limits : Limits) (case book : List ℕ) (count : ℕ) (counted : count ≡ cardCount book) where
+module _ (limits : Limits) (case book : List ℕ) (cards : Cards) (so : CardsRead limits book cards) where
   abbrev merged : Asked
-  merged = andThen (mergedAsked limits First case) (askedFrom (cardMerged limits book) count 0)
+  merged = andThen (mergedAsked limits First case) (askedFrom (cardMerged limits book) (cards .count) 0)
 
   merged-is : afterCards limits case book ≡ merged
-  merged-is = sym (ap (λ (n : ℕ). andThen (mergedAsked limits First case) (askedFrom (cardMerged limits book) n 0)) counted)
+  merged-is = sym (ap (λ (n : ℕ). andThen (mergedAsked limits First case) (askedFrom (cardMerged limits book) n 0)) (so .places-are .counted))
 
-  module _ (found : Selected) (is : found ≡ selectedOn merged (cardWord (caseCovered limits case book) count)) where
-    pub found-refused : (r : Refusal) → found ≡ Refused r → afterCards limits case book ≡ No r
+  module _ (found : Selected) (is : found ≡ selectedOn merged (cardWord (caseCovered limits case book) (cards .count))) where
+    pub found-refused : (r : Refusal) → found ≡ selected.Refused r → afterCards limits case book ≡ No r
     found-refused r e =
         merged-is
-        ∙ refused-by Refused (Cards (cardWord (caseCovered limits case book) count)) (λ q s h. cc) r
+        ∙ refused-by selected.Refused (selected.Cards (cardWord (caseCovered limits case book) (cards .count))) (λ q s h. cc) r
         (λ h. let z : _≡_ {A = ℕ} 0 1 = cc in omega arith) merged (sym is ∙ e)
 
-    module _ (covering : ℕ) (e : found ≡ Cards covering) where
-      parts : (merged ≡ Yes) × (Cards (cardWord (caseCovered limits case book) count) ≡ Cards covering)
-      parts = given Refused (Cards (cardWord (caseCovered limits case book) count)) (Cards covering)
+    module _ (covering : ℕ) (e : found ≡ selected.Cards covering) where
+      parts : (merged ≡ Yes) × (selected.Cards (cardWord (caseCovered limits case book) (cards .count)) ≡ selected.Cards covering)
+      parts = given selected.Refused (selected.Cards (cardWord (caseCovered limits case book) (cards .count))) (selected.Cards covering)
           (λ r h. let z : _≡_ {A = ℕ} 0 1 = cc in omega arith) merged (sym is ∙ e)
 
-      pub found-is : covering ≡ cardWord (caseCovered limits case book) count
+      pub found-is : covering ≡ cardWord (caseCovered limits case book) (cards .count)
       found-is = let same = parts .1 in cc
 
       pub found-all : afterCards limits case book ≡ Yes
       found-all = merged-is ∙ parts .0
 
-      pub found-taken : (places : List ℕ) → CardsRead limits book places count → CardsTaken limits book places count
-      found-taken places cards =
+      pub found-taken : CardsTaken limits book cards
+      found-taken =
           record {
-            cards-read = cards;
+            cards-read = so;
             few = λ k l.
-                let cards-merged = and-yes (mergedAsked limits First case) (askedFrom (cardMerged limits book) count 0) .0 (parts .0) .1 in
-                merged-decides limits (Card k) (card book k) .yes .0 (yes-to (cardMerged limits book) count cards-merged k l);
+                let cards-merged = and-yes (mergedAsked limits First case) (askedFrom (cardMerged limits book) (cards .count) 0) .0 (parts .0) .1 in
+                merged-decides limits (Card k) (card book k) .yes .0 (yes-to (cardMerged limits book) (cards .count) cards-merged k l);
           }
 
 -- ---- 24, and 2 to 13 of the cards
@@ -157,9 +158,9 @@ module _ (limits : Limits) (case book : List ℕ) where
   pub form-refused : bookForm book ≡ false → afterCase limits case book ≡ No noBook
   form-refused bad = rw bad
 
-  module _ (good : bookForm book ≡ true) (count : ℕ) (counted : count ≡ cardCount book) (a : Asked) (is : a ≡ askedFrom (cardRead limits book) count 0) where
+  module _ (good : bookForm book ≡ true) (cards : Cards) (placed : Placed book cards) (a : Asked) (is : a ≡ askedFrom (cardRead limits book) (cards .count) 0) where
     cards-are : askedFrom (cardRead limits book) (cardCount book) 0 ≡ a
-    cards-are = ap (λ (n : ℕ). askedFrom (cardRead limits book) n 0) (sym counted) ∙ sym is
+    cards-are = ap (λ (n : ℕ). askedFrom (cardRead limits book) n 0) (sym (placed .counted)) ∙ sym is
 
     pub cards-refused : (r : Refusal) → a ≡ No r → afterCase limits case book ≡ No r
     cards-refused r e = rw (good, cards-are, e)
@@ -167,12 +168,11 @@ module _ (limits : Limits) (case book : List ℕ) where
     pub cards-passed : a ≡ Yes → afterCase limits case book ≡ afterCards limits case book
     cards-passed e = rw (good, cards-are, e)
 
-    pub cards-readable : (places : List ℕ) → Placed book places count → a ≡ Yes → CardsRead limits book places count
-    cards-readable places placed e =
+    pub cards-readable : a ≡ Yes → CardsRead limits book cards
+    cards-readable e =
         record {
           places-are = placed;
-          counted = counted;
-          readable = λ k l. read-decides limits (Card k) (card book k) .yes .0 (yes-to (cardRead limits book) count (sym is ∙ e) k l);
+          readable = λ k l. read-decides limits (Card k) (card book k) .yes .0 (yes-to (cardRead limits book) (cards .count) (sym is ∙ e) k l);
         }
 
 -- ---- the call by its tests
@@ -188,14 +188,14 @@ module _ (limits : Limits) (case book work : List ℕ) where
   unfolding mostSpecificAnswer
   gives a e r end left = left-as limits (mostSpecificCards limits case book) work asks a e r end left
 
-  refused : (r : Refusal) → asks ≡ No r → Gives (Refused r) work
-  refused r e = gives asks refl (Refused r) work (stopped limits (mostSpecificCards limits case book) work asks r e)
+  refused : (r : Refusal) → asks ≡ No r → Gives (selected.Refused r) work
+  refused r e = gives asks refl (selected.Refused r) work (stopped limits (mostSpecificCards limits case book) work asks r e)
 
-  pub short-call : length work < workSize limits → Gives (Refused shortBuffer) work
+  pub short-call : length work < workSize limits → Gives (selected.Refused shortBuffer) work
   short-call short = refused shortBuffer (rw (lt-leb (workSize limits) (length work) short))
 
   module _ (long : workSize limits ≤ length work) (a : Answer) (is : a ≡ answerOf limits First case) where
-    pub case-refused : (r : Refusal) → a ≡ answer.Refused r → Gives (Refused r) work
+    pub case-refused : (r : Refusal) → a ≡ answer.Refused r → Gives (selected.Refused r) work
     unfolding bookAsked
     case-refused r e = refused r (rw (le-leb (workSize limits) (length work) long, refused-no limits First case r (sym is ∙ e)))
 

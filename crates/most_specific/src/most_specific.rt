@@ -1,6 +1,6 @@
 // The sixth call: question 1, the case, the book's form, its cards, 14 of each, and the word of the most specific cards.
 use book::answer::Selected;
-use book_form::form::PLACES;
+use book_form::form::Cards;
 use book_form::form::card;
 use book_form::form::find_cards;
 use book_form::form::has_form;
@@ -31,13 +31,13 @@ ghost use Rattle.most_specific.specs.Asking.{afterCase, afterCards};
 ghost use Rattle.book_form.specs.Places.{Placed};
 
 // 2 to 13 of each card in turn.
-fn read_cards(book: &[u8], places: &[usize; PLACES], count: usize, limits: Limits) -> Asked
-    requires { ⌜ (Bounded limits) × (Placed (now book) (now places) count) ⌝ }
-    ensures { λ r. ⌜ r ≡ askedFrom (cardRead limits (now (book .entry))) count 0 ⌝ }
+fn read_cards(book: &[u8], cards: Cards, limits: Limits) -> Asked
+    requires { ⌜ (Bounded limits) × (Placed (now book) cards) ⌝ }
+    ensures { λ r. ⌜ r ≡ askedFrom (cardRead limits (now (book .entry))) (cards .count) 0 ⌝ }
 {
     let mut k = 0;
-    while k < count {
-        match read(card(book, places, k), limits, Input::Card(k as u8)) {
+    while k < cards.count {
+        match read(card(book, cards, k), limits, Input::Card(k as u8)) {
             Answer::Rows(_) => {
                 k += 1;
             }
@@ -50,15 +50,8 @@ fn read_cards(book: &[u8], places: &[usize; PLACES], count: usize, limits: Limit
 }
 
 // 14 of the case and of each card; then the word.
-fn select(
-    case: &[u8],
-    book: &[u8],
-    places: &[usize; PLACES],
-    count: usize,
-    limits: Limits,
-    work: &mut [u8],
-) -> Selected
-    requires { ⌜ (Bounded limits) × ((Readable limits (now case)) × ((CardsRead limits (now book) (now places) count) × (workSize limits ≤ length (now work)))) ⌝ }
+fn select(case: &[u8], book: &[u8], cards: Cards, limits: Limits, work: &mut [u8]) -> Selected
+    requires { ⌜ (Bounded limits) × ((Readable limits (now case)) × ((CardsRead limits (now book) cards) × (workSize limits ≤ length (now work)))) ⌝ }
     ensures { λ r. ⌜ (r ≡ selectedOn (afterCards limits (now (case .entry)) (now (book .entry)))
         (mostSpecificCards limits (now (case .entry)) (now (book .entry))))
         × (now (work .exit) ≡ kept (afterCards limits (now (case .entry)) (now (book .entry)))
@@ -66,14 +59,13 @@ fn select(
 {
     let mut cache = [0u8; CACHE];
     let mut spans = [0usize; SPANS];
-    match find_subsumers(case, book, places, count, limits, &mut cache, &mut spans) {
+    match find_subsumers(case, book, cards, limits, &mut cache, &mut spans) {
         Selected::Cards(covering) => {
             let half = half_size(limits);
             let size = half + half;
             Selected::Cards(select_cards(
                 book,
-                places,
-                count,
+                cards,
                 limits,
                 &cache,
                 &spans,
@@ -93,13 +85,12 @@ fn ask_book(case: &[u8], book: &[u8], limits: Limits, work: &mut [u8]) -> Select
         × (now (work .exit) ≡ kept (afterCase limits (now (case .entry)) (now (book .entry)))
         (put (now (work .entry)) 0 (zeros (workSize limits))) (now (work .entry))) ⌝ }
 {
-    let mut places = [0usize; PLACES];
-    let count = find_cards(book, &mut places);
-    if !has_form(book, &places, count) {
+    let cards = find_cards(book);
+    if !has_form(book, cards) {
         return Selected::Refused(refuse(24, Input::Book));
     }
-    match read_cards(book, &places, count, limits) {
-        Asked::Yes => select(case, book, &places, count, limits, work),
+    match read_cards(book, cards, limits) {
+        Asked::Yes => select(case, book, cards, limits, work),
         Asked::No(refusal) => Selected::Refused(refusal),
     }
 }

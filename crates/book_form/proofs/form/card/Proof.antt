@@ -1,4 +1,4 @@
--- The part from after one kept place's head to the next place is the card.
+-- The part from after one kept place's head to the next place is the card. `t2` is `cards`, whose array is indexed.
 use Prim.Native.Nat.{_+_, _≤_}
 use native.Mathlib.Omega.{arith}
 use borrow.Author.Needs.{needs}
@@ -9,11 +9,11 @@ use Rattle.book_form.proofs.Places.{place-from, place-part, place-to}
 use Rattle.book_form.proofs.form.card.Statement.{statement}
 use Rattle.book_form.proofs.form.card.Tie as tie
 
-from : (c : tie.Start) → getD (now (c .args .places)) (c .args .k) 0 + headSize ≤ getD (now (c .args .places)) (c .args .k + 1) 0
-from c = place-from (now (c .args .book)) (now (c .args .places)) (c .args .k) (c .pre)
+from : (c : tie.Start) → getD (c .args .t2 .places) (c .args .k) 0 + headSize ≤ getD (c .args .t2 .places) (c .args .k + 1) 0
+from c = place-from (now (c .args .book)) (c .args .t2) (c .args .k) (c .pre .0) (c .pre .1)
 
-to : (c : tie.Start) → getD (now (c .args .places)) (c .args .k + 1) 0 ≤ length (now (c .args .book))
-to c = place-to (now (c .args .book)) (now (c .args .places)) (c .args .k) (c .pre)
+to : (c : tie.Start) → getD (c .args .t2 .places) (c .args .k + 1) 0 ≤ length (now (c .args .book))
+to c = place-to (now (c .args .book)) (c .args .t2) (c .args .k) (c .pre .0) (c .pre .1)
 
 mul-start : tie.Need-mul-start
 mul-start c = search needs
@@ -45,7 +45,7 @@ part-result-end c = to (c .before .before)
 returns : tie.Need-returns
 returns c =
     let start = c .before .before .before in
-    place-part (now (start .args .book)) (now (start .args .places)) (start .args .k) (start .pre)
+    place-part (now (start .args .book)) (start .args .t2) (start .args .k) (start .pre .0) (start .pre .1)
 
 pub card-spec : {M : Type 1} → statement M
 card-spec =

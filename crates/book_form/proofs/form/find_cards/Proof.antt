@@ -3,7 +3,7 @@ use Prim.Native.Nat.{_-_}
 use native.Mathlib.Omega.{arith}
 use borrow.Author.Tests.{not-false, not-true}
 use denote.Ref.{now}
-use mathlib.Core.Path.{_∙_, sym}
+use mathlib.Core.Path.{_∙_, refl, sym}
 use Rattle.book.specs.Form.{mostCards}
 use Rattle.book_form.proofs.Places.{Scanned, scan-full, scan-next, scan-start, scan-stop}
 use Rattle.book_form.proofs.form.find_cards.Statement.{statement}
@@ -15,11 +15,8 @@ Inv-loop book places₀ k₀ at₀ places k at = Scanned book places k at
 abbrev μ-loop : tie.MeasureT-loop
 μ-loop book places₀ k₀ at₀ places k at = mostCards - k
 
-element-write-places : tie.Need-element-write-places Inv-loop μ-loop
-element-write-places c = omega arith
-
 loop-holds : tie.Need-loop-holds Inv-loop μ-loop
-loop-holds c = scan-start (now (c .before .args .book)) (c .before .args .places .now) (c .before .pre)
+loop-holds c = scan-start (now (c .before .args .book)) _ refl refl
 
 card-at-requires : tie.Need-card-at-requires Inv-loop μ-loop
 card-at-requires c κs = c .before .loop .inv .at-inside
@@ -38,8 +35,8 @@ add-k c = omega (arith, c .before .before .before .loop-test .taken)
 mul-places : tie.Need-mul-places Inv-loop μ-loop
 mul-places c = omega (arith, c .before .before .before .loop-test .taken)
 
-element-write-places-2 : tie.Need-element-write-places-2 Inv-loop μ-loop
-element-write-places-2 c = omega (arith, c .before .before .before .loop-test .taken)
+array-write-places : tie.Need-array-write-places Inv-loop μ-loop
+array-write-places c = omega (arith, c .before .before .before .loop-test .taken)
 
 loop-less : tie.Need-loop-less Inv-loop μ-loop
 loop-less c = omega (arith, c .before .before .before .loop-test .taken)
@@ -61,14 +58,13 @@ find-cards-spec =
     (tie.spec
     Inv-loop
     μ-loop
-    element-write-places
     loop-holds
     card-at-requires
     returns
     next-place-requires
     add-k
     mul-places
-    element-write-places-2
+    array-write-places
     loop-less
     loop-again
     returns-2)

@@ -1,4 +1,4 @@
--- The place after the last card is kept.
+-- The place after the last card is kept. `t2` is `cards`, whose array is indexed.
 use mathlib.Core.Path.{_∙_, ap}
 use denote.Ref.{now}
 use native.Mathlib.Omega.{arith}
@@ -22,7 +22,7 @@ unfolding bookForm
 returns c =
     let start = c .before .before .before in
     let book = now (start .args .book) in
-    c .ends-at .ensures ∙ ap (endsAt book) (start .pre .1 .placed (start .args .count) (omega arith) ∙ ap (fieldPlace book) (start .pre .0))
+    c .ends-at .ensures ∙ ap (endsAt book) (start .pre .placed (start .args .t2 .count) (omega arith) ∙ ap (fieldPlace book) (start .pre .counted))
 
 pub has-form-spec : {M : Type 1} → statement M
 has-form-spec = tie.close (tie.spec mul-ends-at element-copy-out-ends-at ends-at-requires returns)

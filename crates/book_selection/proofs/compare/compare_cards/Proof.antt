@@ -11,10 +11,10 @@ use Rattle.book_selection.proofs.compare.compare_cards.Statement.{state
 use Rattle.book_selection.proofs.compare.compare_cards.Tie as tie
 
 abbrev Inv-loop : tie.InvT-loop
-Inv-loop book places count limits cache spans covering work₀ hidden₀ m₀ work redundant m = (m ≤ count) × ((length work ≡ workSize limits) × Compared limits book covering m redundant)
+Inv-loop book cards limits cache spans covering work₀ hidden₀ m₀ work redundant m = (m ≤ cards .count) × ((length work ≡ workSize limits) × Compared limits book covering m redundant)
 
 abbrev μ-loop : tie.MeasureT-loop
-μ-loop book places count limits cache spans covering work₀ hidden₀ m₀ work redundant m = count - m
+μ-loop book cards limits cache spans covering work₀ hidden₀ m₀ work redundant m = cards .count - m
 
 loop-holds : tie.Need-loop-holds Inv-loop μ-loop
 loop-holds c =
@@ -23,29 +23,29 @@ loop-holds c =
 
 compare-card-requires : tie.Need-compare-card-requires Inv-loop μ-loop
 compare-card-requires c κs =
-    let pre = c .before .before .before .before .before .before .pre in
-    let loop = c .before .before .loop in
-    (pre .0, (pre .1 .0, (c .before .loop-test .taken, (loop .inv .1 .1, loop .inv .1 .0))))
+    let pre = c .before .before .before .before .before .before .before .pre in
+    let loop = c .before .before .before .loop in
+    (pre .0, (pre .1 .0, (c .before .if1 .taken, (loop .inv .1 .1, loop .inv .1 .0))))
 
 add-m : tie.Need-add-m Inv-loop μ-loop
-add-m c = omega (arith, c .before .before .before .before .loop-test .taken, c .before .before .before .before .before .before .before .before .before .pre .1 .0 .taken .cards-read .places-are .most)
+add-m c = omega (arith, c .before .before .before .before .if1 .taken, c .before .before .before .before .before .before .before .before .before .before .pre .1 .0 .taken .cards-read .places-are .most)
 
 loop-less : tie.Need-loop-less Inv-loop μ-loop
-loop-less c = omega (arith, c .before .before .before .before .loop-test .taken)
+loop-less c = omega (arith, c .before .before .before .before .if1 .taken)
 
 loop-again : tie.Need-loop-again Inv-loop μ-loop
 loop-again c =
     let compare-card = c .before .before .compare-card in
-    (omega (arith, c .before .before .before .before .loop-test .taken), (compare-card .ensures .1 ∙ c .before .before .before .before .before .loop .inv .1 .0, compare-card .ensures .0))
+    (omega (arith, c .before .before .before .before .if1 .taken), (compare-card .ensures .1 ∙ c .before .before .before .before .before .before .loop .inv .1 .0, compare-card .ensures .0))
 
 same-length : tie.Need-same-length Inv-loop μ-loop
-same-length c = c .before .loop .inv .1 .0 ∙ sym (c .before .before .before .before .before .pre .1 .1)
+same-length c = c .before .before .loop .inv .1 .0 ∙ sym (c .before .before .before .before .before .before .pre .1 .1)
 
 returns : tie.Need-returns Inv-loop μ-loop
 returns c =
-    let args = c .before .before .before .before .before .args in
-    let end : c .before .loop .m ≡ args .count = omega (arith, c .before .loop .inv .0, c .loop-test .left) in
-    (subst (λ k. Compared (args .limits) (now (args .book)) (args .covering) k (c .before .loop .redundant)) end (c .before .loop .inv .1 .1), c .before .loop .inv .1 .0 ∙ sym (c .before .before .before .before .before .pre .1 .1))
+    let args = c .before .before .before .before .before .before .args in
+    let end : c .before .before .loop .m ≡ args .cards .count = omega (arith, c .before .before .loop .inv .0, c .if1 .left) in
+    (subst (λ k. Compared (args .limits) (now (args .book)) (args .covering) k (c .before .before .loop .redundant)) end (c .before .before .loop .inv .1 .1), c .before .before .loop .inv .1 .0 ∙ sym (c .before .before .before .before .before .before .pre .1 .1))
 
 pub compare-cards-spec : {M : Type 1} → statement M
 compare-cards-spec =

@@ -25,7 +25,7 @@ returns c =
     let pre = c .before .before .before .before .before .before .before .before .before .before .before .before .pre in
     let compare-cards = c .before .before .before .before .before .before .before .compare-cards in
     let clear = c .before .before .before .clear in (
-      selected-bits (args .limits) (now (args .book)) (args .covering) (args .count) (compare-cards .result) (c .without .result) (pre .1 .1 .0) (compare-cards .ensures .0) (c .without .ensures),
+      selected-bits (args .limits) (now (args .book)) (args .covering) (args .cards .count) (compare-cards .result) (c .without .result) (pre .1 .1 .0) (compare-cards .ensures .0) (c .without .ensures),
       cleared _ (clear .last .0) _ (workSize (args .limits)) refl (compare-cards .ensures .1 ∙ pre .1 .1 .1) (clear .ensures),
     )
 

@@ -6,7 +6,7 @@ use lib.ListN.{drop, getD}
 use lib.Seq.{length-take-le}
 use lib.ListN.{length-drop}
 use Rattle.book.specs.Form.{card, mostCards}
-use Rattle.book_tables.proofs.CardTables.{card-placed, card-room, card-tabled}
+use Rattle.book_tables.proofs.CardTables.{card-room, card-tabled}
 use Rattle.book_tables.proofs.Caches.{cached-tabled, cached-few}
 use borrow.Author.Needs.{needs}
 use Rattle.book_tables.proofs.cache.load.Statement.{statement}
@@ -22,7 +22,7 @@ element-copy-out-m : tie.Need-element-copy-out-m
 element-copy-out-m c = search needs
 
 card-requires : tie.Need-card-requires
-card-requires c κs = let pre = c .before .before .before .before .before .pre in card-placed (pre .1 .0 .taken .cards-read) (pre .1 .1 .0)
+card-requires c κs = let pre = c .before .before .before .before .before .pre in (pre .1 .0 .taken .cards-read .places-are, pre .1 .1 .0)
 
 normal-table-requires : tie.Need-normal-table-requires
 normal-table-requires c κs =

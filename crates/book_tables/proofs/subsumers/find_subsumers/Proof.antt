@@ -27,7 +27,7 @@ returns c =
     let start = c .before .before .before .before .before .before .before .before in
     let a = start .args in
     let many = none-many _ _ _ _ _ (start .pre .0) (c .before .before .before .normal-table .ensures) (c .before .if1 .taken) in
-    rw (c .too-many .ensures) (case-many (a .limits) (now (a .case)) (now (a .book)) (a .count) many, tt)
+    rw (c .too-many .ensures) (case-many (a .limits) (now (a .case)) (now (a .book)) (a .cards .count) many, tt)
 
 -- where a row was given, 14 is answered yes, and the table has all that a search needs
 few : (c : tie.Else1) → let a = c .before .before .before .before .before .before .before .args in mergedCount (a .limits) (now (a .case)) ≤ a .limits .rows
@@ -63,7 +63,7 @@ returns-2 c =
     let less = few (c .before .before .before .before .before .before .before .before .before .before) in
     let file = c .before .before .before .before .before .before .before .before .table-of .ensures ∙ c .before .before .before .before .before .before .before .before .before .before .before .before .normal-table .ensures .file less in
     let tested = c .before .before .test-cards in
-    (case-tested (a .limits) (now (a .case)) (now (a .book)) (a .count) (start .pre .0) less _ file (tested .result) (tested .ensures .0), tested .ensures .1)
+    (case-tested (a .limits) (now (a .case)) (now (a .book)) (a .cards .count) (start .pre .0) less _ file (tested .result) (tested .ensures .0), tested .ensures .1)
 
 pub find-subsumers-spec : {M : Type 1} → statement M
 find-subsumers-spec =

@@ -18,7 +18,7 @@ has-form-requires c κs = search needs
 
 returns : tie.Need-returns
 returns c =
-    let args = c .before .before .before .before .before .before .before .before .before .args in
+    let args = c .before .before .before .before .before .before .before .args in
     let no-is = form-refused (args .limits) (now (args .case)) (now (args .book)) (sym (c .before .before .has-form .ensures) ∙ not-true _ (c .before .if1 .taken)) in
     rw (c .refuse .ensures) (stopped (args .limits) (mostSpecificCards (args .limits) (now (args .case)) (now (args .book))) (now (args .work)) (afterCase (args .limits) (now (args .case)) (now (args .book))) noBook no-is)
 
@@ -30,11 +30,11 @@ enum-told c = search needs
 
 select-requires : tie.Need-select-requires
 select-requires c κs =
-    let pre = c .before .before .before .before .before .before .before .before .before .before .before .before .before .before .pre in
-    let args = c .before .before .before .before .before .before .before .before .before .before .before .before .before .before .args in
-    let find-cards = c .before .before .before .before .before .before .before .before .before .find-cards in
-    let read-cards = c .before .before .before .before .read-cards in
-    (pre .0, (pre .1 .0, (cards-readable (args .limits) (now (args .case)) (now (args .book)) (sym (c .before .before .before .before .before .before .before .has-form .ensures) ∙ not-false _ (c .before .before .before .before .before .before .if1 .left)) (find-cards .result) (find-cards .ensures .0) (read-cards .result) (read-cards .ensures) _ (find-cards .ensures .1) (c .before .before .enum-told .given .1), pre .1 .1)))
+    let pre = c .before .before .before .before .before .before .before .before .before .before .pre in
+    let args = c .before .before .before .before .before .before .before .before .before .before .args in
+    let find-cards = c .before .before .before .before .before .before .find-cards in
+    let read-cards = c .before .before .before .read-cards in
+    (pre .0, (pre .1 .0, (cards-readable (args .limits) (now (args .case)) (now (args .book)) (sym (c .before .before .before .before .before .has-form .ensures) ∙ not-false _ (c .before .before .before .before .if1 .left)) (find-cards .result) (find-cards .ensures) (read-cards .result) (read-cards .ensures) (c .before .enum-told .given .1), pre .1 .1)))
 
 enum-known-refusal : tie.Need-enum-known-refusal
 enum-known-refusal c = search needs
@@ -44,20 +44,20 @@ same-length c = search needs
 
 returns-2 : tie.Need-returns-2
 returns-2 c =
-    let args = c .before .before .before .before .before .before .before .before .before .before .before .before .before .before .before .before .before .args in
-    let find-cards = c .before .before .before .before .before .before .before .before .before .before .before .before .find-cards in
-    let read-cards = c .before .before .before .before .before .before .before .read-cards in
+    let args = c .before .before .before .before .before .before .before .before .before .before .before .before .before .args in
+    let find-cards = c .before .before .before .before .before .before .before .before .before .find-cards in
+    let read-cards = c .before .before .before .before .before .before .read-cards in
     let chosen = c .before .before .select in
-    let passed = cards-passed (args .limits) (now (args .case)) (now (args .book)) (sym (c .before .before .before .before .before .before .before .before .before .before .has-form .ensures) ∙ not-false _ (c .before .before .before .before .before .before .before .before .before .if1 .left)) (find-cards .result) (find-cards .ensures .0) (read-cards .result) (read-cards .ensures) (c .before .before .before .before .before .enum-told .given .1) in
+    let passed = cards-passed (args .limits) (now (args .case)) (now (args .book)) (sym (c .before .before .before .before .before .before .before .before .has-form .ensures) ∙ not-false _ (c .before .before .before .before .before .before .before .if1 .left)) (find-cards .result) (find-cards .ensures) (read-cards .result) (read-cards .ensures) (c .before .before .before .before .enum-told .given .1) in
     left-as (args .limits) (mostSpecificCards (args .limits) (now (args .case)) (now (args .book))) (now (args .work)) (afterCase (args .limits) (now (args .case)) (now (args .book))) (afterCards (args .limits) (now (args .case)) (now (args .book))) passed
     (chosen .result) _ (chosen .ensures)
 
 returns-3 : tie.Need-returns-3
 returns-3 c =
-    let args = c .before .before .before .before .before .before .before .before .before .before .before .before .before .args in
-    let find-cards = c .before .before .before .before .before .before .before .before .find-cards in
+    let args = c .before .before .before .before .before .before .before .before .before .before .args in
+    let find-cards = c .before .before .before .before .before .before .find-cards in
     let read-cards = c .before .before .before .read-cards in
-    let no-is = cards-refused (args .limits) (now (args .case)) (now (args .book)) (sym (c .before .before .before .before .before .before .has-form .ensures) ∙ not-false _ (c .before .before .before .before .before .if1 .left)) (find-cards .result) (find-cards .ensures .0) (read-cards .result) (read-cards .ensures) (c .before .refusal .given .0 .0) (c .before .refusal .given .1) in
+    let no-is = cards-refused (args .limits) (now (args .case)) (now (args .book)) (sym (c .before .before .before .before .before .has-form .ensures) ∙ not-false _ (c .before .before .before .before .if1 .left)) (find-cards .result) (find-cards .ensures) (read-cards .result) (read-cards .ensures) (c .before .refusal .given .0 .0) (c .before .refusal .given .1) in
     stopped (args .limits) (mostSpecificCards (args .limits) (now (args .case)) (now (args .book))) (now (args .work)) (afterCase (args .limits) (now (args .case)) (now (args .book))) (c .before .refusal .given .0 .0) no-is
 
 refuse-requires : tie.Need-refuse-requires

@@ -12,58 +12,58 @@ use Rattle.most_specific.proofs.most_specific.read_cards.Statement.{sta
 use Rattle.most_specific.proofs.most_specific.read_cards.Tie as tie
 
 abbrev Inv-loop : tie.InvT-loop
-Inv-loop book places count limits k₀ k = ReadTo limits book count k
+Inv-loop book cards limits k₀ k = ReadTo limits book (cards .count) k
 
 abbrev μ-loop : tie.MeasureT-loop
-μ-loop book places count limits k₀ k = count - k
+μ-loop book cards limits k₀ k = cards .count - k
 
 loop-holds : tie.Need-loop-holds Inv-loop μ-loop
-loop-holds c = read-start (c .before .args .limits) (now (c .before .args .book)) (c .before .args .count)
+loop-holds c = read-start (c .before .args .limits) (now (c .before .args .book)) (c .before .args .cards .count)
 
 card-requires : tie.Need-card-requires Inv-loop μ-loop
 card-requires c κs =
-    let start = c .before .before .before in record { count = start .args .count; places-are = start .pre .1; below = c .loop-test .taken }
+    (c .before .before .before .before .pre .1, c .if1 .taken)
 
-cast-t10 : tie.Need-cast-t10 Inv-loop μ-loop
-cast-t10 c = search needs
+cast-t9 : tie.Need-cast-t9 Inv-loop μ-loop
+cast-t9 c = search needs
 
 read-requires : tie.Need-read-requires Inv-loop μ-loop
 read-requires c κs = search needs
 
 -- the part that was read is card k
-says : (c : tie.After-read Inv-loop μ-loop) → let a = c .before .before .before .before .before .args in let k = c .before .before .before .loop .k in c .read .result ≡ answerOf (a .limits) (Card k) (card (now (a .book)) k)
-says c = c .read .ensures ∙ ap (answerOf (c .before .before .before .before .before .args .limits) (Card (c .before .before .before .loop .k))) (c .before .card .ensures)
+says : (c : tie.After-read Inv-loop μ-loop) → let a = c .before .before .before .before .before .before .args in let k = c .before .before .before .before .loop .k in c .read .result ≡ answerOf (a .limits) (Card k) (card (now (a .book)) k)
+says c = c .read .ensures ∙ ap (answerOf (c .before .before .before .before .before .before .args .limits) (Card (c .before .before .before .before .loop .k))) (c .before .card .ensures)
 
 enum-told : tie.Need-enum-told Inv-loop μ-loop
 enum-told c = search needs
 
 add-k : tie.Need-add-k Inv-loop μ-loop
-add-k c = omega (arith, c .before .before .before .before .loop-test .taken, c .before .before .before .before .before .before .before .pre .1 .most)
+add-k c = omega (arith, c .before .before .before .before .if1 .taken, c .before .before .before .before .before .before .before .before .pre .1 .most)
 
 loop-less : tie.Need-loop-less Inv-loop μ-loop
-loop-less c = omega (arith, c .before .before .before .before .loop-test .taken)
+loop-less c = omega (arith, c .before .before .before .before .if1 .taken)
 
 loop-again : tie.Need-loop-again Inv-loop μ-loop
 loop-again c =
-    let args = c .before .before .before .before .before .before .before .args in
-    let loop = c .before .before .before .before .before .loop in
+    let args = c .before .before .before .before .before .before .before .before .args in
+    let loop = c .before .before .before .before .before .before .loop in
     let told = c .enum-told .given in
-    read-next (args .limits) (now (args .book)) (args .count) (loop .k) (loop .inv) (c .before .before .before .before .loop-test .taken) (c .before .before .read .result) (says (c .before .before)) (told .0 .0) (told .1)
+    read-next (args .limits) (now (args .book)) (args .cards .count) (loop .k) (loop .inv) (c .before .before .before .before .if1 .taken) (c .before .before .read .result) (says (c .before .before)) (told .0 .0) (told .1)
 
 enum-known-refusal : tie.Need-enum-known-refusal Inv-loop μ-loop
 enum-known-refusal c = search needs
 
 returns : tie.Need-returns Inv-loop μ-loop
 returns c =
-    let args = c .before .before .before .before .before .before .before .before .args in
-    let loop = c .before .before .before .before .before .before .loop in
+    let args = c .before .before .before .before .before .before .before .before .before .args in
+    let loop = c .before .before .before .before .before .before .before .loop in
     let refusal = c .before .refusal .given in
-    read-refused (args .limits) (now (args .book)) (args .count) (loop .k) (loop .inv) (c .before .before .before .before .before .loop-test .taken) (c .before .before .before .read .result) (says (c .before .before .before)) (refusal .0 .0) (refusal .1)
+    read-refused (args .limits) (now (args .book)) (args .cards .count) (loop .k) (loop .inv) (c .before .before .before .before .before .if1 .taken) (c .before .before .before .read .result) (says (c .before .before .before)) (refusal .0 .0) (refusal .1)
 
 returns-2 : tie.Need-returns-2 Inv-loop μ-loop
 returns-2 c =
-    let args = c .before .before .before .args in
-    read-all (args .limits) (now (args .book)) (args .count) (c .before .loop .k) (c .before .loop .inv) (c .loop-test .left)
+    let args = c .before .before .before .before .args in
+    read-all (args .limits) (now (args .book)) (args .cards .count) (c .before .before .loop .k) (c .before .before .loop .inv) (c .if1 .left)
 
 pub read-cards-spec : {M : Type 1} → statement M
 read-cards-spec =
@@ -73,7 +73,7 @@ read-cards-spec =
     μ-loop
     loop-holds
     card-requires
-    cast-t10
+    cast-t9
     read-requires
     enum-told
     add-k

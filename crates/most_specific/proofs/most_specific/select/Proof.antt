@@ -52,11 +52,11 @@ select-cards-requires c κs =
     let covering = c .before .before .before .before .before .covering in
     let half-size = c .before .before .before .half-size in
     let lent = length-take-le (half-size .result + half-size .result) (now (args .work)) (omega (arith, half-size .ensures, pre .1 .1 .1)) in
-    let cache = subst (λ r. CachedAfter r (args .limits) (now (args .book)) (find-subsumers .last .1 .1 .1 .1 .1 .0) (find-subsumers .last .1 .1 .1 .1 .1 .1 .0)) (covering .given .1) (find-subsumers .ensures .1) in (
+    let cache = subst (λ r. CachedAfter r (args .limits) (now (args .book)) (find-subsumers .last .1 .1 .1 .1 .0) (find-subsumers .last .1 .1 .1 .1 .1 .0)) (covering .given .1) (find-subsumers .ensures .1) in (
       pre .0,
       (
-        record { taken = found-taken (args .limits) (now (args .case)) (now (args .book)) (args .count) (pre .1 .1 .0 .counted) (find-subsumers .result) (find-subsumers .ensures .0) (covering .given .0 .0) (covering .given .1) (now (args .places)) (pre .1 .1 .0); at = cache .0; cache-is = cache .1 },
-        (covering-inside (args .limits) (now (args .case)) (now (args .book)) (args .count) (covering .given .0 .0) (pre .1 .1 .0 .counted) (found-is (args .limits) (now (args .case)) (now (args .book)) (args .count) (pre .1 .1 .0 .counted) (find-subsumers .result) (find-subsumers .ensures .0) (covering .given .0 .0) (covering .given .1)), lent ∙ omega (arith, half-size .ensures)),
+        record { taken = found-taken (args .limits) (now (args .case)) (now (args .book)) (args .cards) (pre .1 .1 .0) (find-subsumers .result) (find-subsumers .ensures .0) (covering .given .0 .0) (covering .given .1); at = cache .0; cache-is = cache .1 },
+        (covering-inside (args .limits) (now (args .case)) (now (args .book)) (args .cards .count) (covering .given .0 .0) (pre .1 .1 .0 .places-are .counted) (found-is (args .limits) (now (args .case)) (now (args .book)) (args .cards) (pre .1 .1 .0) (find-subsumers .result) (find-subsumers .ensures .0) (covering .given .0 .0) (covering .given .1)), lent ∙ omega (arith, half-size .ensures)),
       ),
     )
 
@@ -74,17 +74,17 @@ returns c =
     let covering = c .before .before .before .before .before .before .before .before .covering in
     let half-size = c .before .before .before .before .before .before .half-size in
     let select-cards = c .before .before .select-cards in
-    let is = found-is (args .limits) (now (args .case)) (now (args .book)) (args .count) (pre .1 .1 .0 .counted) (find-subsumers .result) (find-subsumers .ensures .0) (covering .given .0 .0) (covering .given .1) in
+    let is = found-is (args .limits) (now (args .case)) (now (args .book)) (args .cards) (pre .1 .1 .0) (find-subsumers .result) (find-subsumers .ensures .0) (covering .given .0 .0) (covering .given .1) in
     done (args .limits) (mostSpecificCards (args .limits) (now (args .case)) (now (args .book))) (now (args .work)) (afterCards (args .limits) (now (args .case)) (now (args .book)))
-    (found-all (args .limits) (now (args .case)) (now (args .book)) (args .count) (pre .1 .1 .0 .counted) (find-subsumers .result) (find-subsumers .ensures .0) (covering .given .0 .0) (covering .given .1))
-    (select-cards .result) _ (selected-word (args .limits) (now (args .case)) (now (args .book)) (args .count) (covering .given .0 .0) (pre .1 .1 .0 .counted) is (select-cards .result) (select-cards .ensures .0))
+    (found-all (args .limits) (now (args .case)) (now (args .book)) (args .cards) (pre .1 .1 .0) (find-subsumers .result) (find-subsumers .ensures .0) (covering .given .0 .0) (covering .given .1))
+    (select-cards .result) _ (selected-word (args .limits) (now (args .case)) (now (args .book)) (args .cards .count) (covering .given .0 .0) (pre .1 .1 .0 .places-are .counted) is (select-cards .result) (select-cards .ensures .0))
     (ap (λ l. l ++ drop (half-size .result + half-size .result) (now (args .work))) (select-cards .ensures .1) ∙ cleared-part (now (args .work)) (workSize (args .limits)) (half-size .result + half-size .result) (omega (arith, half-size .ensures)))
 
 returns-2 : tie.Need-returns-2
 returns-2 c =
     let args = c .before .before .before .before .before .before .before .before .before .before .args in
     let find-subsumers = c .before .before .before .before .find-subsumers in
-    let no-is = found-refused (args .limits) (now (args .case)) (now (args .book)) (args .count) (c .before .before .before .before .before .before .before .before .before .before .pre .1 .1 .0 .counted) (find-subsumers .result) (find-subsumers .ensures .0) (c .before .refusal .given .0 .0) (c .before .refusal .given .1) in
+    let no-is = found-refused (args .limits) (now (args .case)) (now (args .book)) (args .cards) (c .before .before .before .before .before .before .before .before .before .before .pre .1 .1 .0) (find-subsumers .result) (find-subsumers .ensures .0) (c .before .refusal .given .0 .0) (c .before .refusal .given .1) in
     stopped (args .limits) (mostSpecificCards (args .limits) (now (args .case)) (now (args .book))) (now (args .work)) (afterCards (args .limits) (now (args .case)) (now (args .book))) (c .before .refusal .given .0 .0) no-is
 
 pub select-spec : {M : Type 1} → statement M
