@@ -2,12 +2,15 @@
 use borrow.Author.Needs.{needs}
 use denote.Ref.{now}
 use lib.ListN.{length}
+use Prim.Native.Nat.{_≤_}
+use mathlib.Core.Bool.{true}
 use mathlib.Core.Path.{_∙_, _≡_, ap, sym}
 use native.Mathlib.Omega.{arith}
 use Rattle.countermodel.proofs.Individuals.{within-most}
 use Rattle.picture.specs.declared.answer.Asked.the-variants.{No, Yes}
 use Rattle.workspace.proofs.Lendings.{room-both}
 use Rattle.workspace.specs.Lent.{roomy}
+use Rattle.workspace.specs.Prepare.{workSize}
 use Rattle.prepare_pair.proofs.TablesIn.{Lending, first-lies, long-enough, prepared-in, prepared-no, prepared-tables, prepared-yes}
 use Rattle.prepare_pair.specs.Tables.{NormalTables}
 use Rattle.subsumption.specs.Verdict.{evidenceSize}
@@ -36,16 +39,20 @@ room c =
     omega (arith, place .ensures, c .before .before .individuals-within .ensures) in
     c .has-room .ensures ∙ ap (λ n. roomy (a .limits) n (length (now (a .work))) (length (now (a .result)))) size
 
+long : (c : tie.After-has-room) → let a = entry c .args in c .has-room .result ≡ true →
+    (workSize (a .limits) ≤ length (now (a .work))) × (evidenceSize (a .limits) ≤ length (now (a .result)))
+long c e =
+    let a = entry c .args in
+    room-both (a .limits) (evidenceSize (a .limits)) (length (now (a .work))) (length (now (a .result)))
+    (sym (room c) ∙ e)
+
 lending : (c : tie.After-prepare) → let a = entry (tested c) .args in
     Lending (a .limits) (tested c .has-room .result) (now (a .first)) (now (a .second)) (now (a .work))
     (c .prepare .last .1 .1 .1 .1 .0) (c .prepare .result)
 lending c =
-    let start = entry (tested c) in
-    let a = start .args in
     record {
-      bounded = start .pre;
-      long = λ e. room-both (a .limits) (evidenceSize (a .limits)) (length (now (a .work))) (length (now (a .result)))
-          (sym (room (tested c)) ∙ e) .0;
+      bounded = entry (tested c) .pre;
+      long = λ e. long (tested c) e .0;
       is = c .prepare .ensures .0;
       written = c .prepare .ensures .1;
     }
@@ -70,12 +77,7 @@ has-room-requires : tie.Need-has-room-requires
 has-room-requires c κs = search needs
 
 prepare-requires : tie.Need-prepare-requires
-prepare-requires c κs =
-    let a = entry (c .before) .args in (
-      entry (c .before) .pre,
-      λ e. room-both (a .limits) (evidenceSize (a .limits)) (length (now (a .work))) (length (now (a .result)))
-          (sym (room (c .before)) ∙ e) .0,
-    )
+prepare-requires c κs = (entry (c .before) .pre, λ e. long (c .before) e .0)
 
 enum-known-pair : tie.Need-enum-known-pair
 enum-known-pair c = search needs
@@ -94,14 +96,12 @@ decide-requires c κs =
     let a = entry (tested (prepared (c .before))) .args in
     let l = lending (prepared (c .before)) in
     let tables = normal (c .before) in
-    let long = room-both (a .limits) (evidenceSize (a .limits)) (length (now (a .work))) (length (now (a .result)))
-    (sym (room (tested (prepared (c .before))))
-    ∙ long-enough l (c .before .before .before .before .before .pair .given .1)) .1 in (
+    let (_, most) =
+    long (tested (prepared (c .before))) (long-enough l (c .before .before .before .before .before .pair .given .1)) in (
       tables .first-checked,
       (
         tables .second-checked,
-        tables-settled (l .bounded) tables (length (now (a .result)))
-            long,
+        tables-settled (l .bounded) tables (length (now (a .result))) most,
       ),
     )
 
