@@ -1,4 +1,4 @@
-// Two pictures, in the order of every call on two: 2 to 13 of the first, of the second, then 14 of each. Nothing is written before all are answered yes.
+// Two pictures, in the order of every call on two: 1, 2 to 13 of the first, of the second, then 14 of each. Nothing is written before all are answered yes.
 use normal_writer::write::TABLE;
 use normal_writer::write::normal_table;
 use normal_writer::write::table_of;
