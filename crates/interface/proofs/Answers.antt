@@ -171,7 +171,8 @@ length-tables limits first second pair =
 -- their lines are the first three of the list
 pair-early : (c : Call) (more : List Line) →
     c .refusals ≡ questions 1 1 (the Buffer) ∷ questions 2 14 (the First) ∷ questions 2 14 (the Second) ∷ more →
-    (limits : Limits) (enough : Bool) (first second : List ℕ) → EveryRefusal (Early c) (lentAsked limits enough first second)
+    (limits : Limits) (enough : Bool) (first second : List ℕ) →
+    EveryRefusal (Early c) (lentAsked limits enough first second)
 pair-early c more list limits enough first second =
     lent-refuses limits first second (Early c)
     (λ q a b. early c (refusal q First) (subst (λ l. Listed l q First) (sym list) (inr (inl (a, b, refl))))

@@ -170,7 +170,8 @@ module _ (limits : Limits) (bounded : Bounded limits) where
     map-only : outcome (checkGiven limits first second evidence work) ≡ outcomeYes → Covers limits second first
     map-only h = let (pair, m) = map-shown h in map-covers limits first second evidence bounded pair m
 
-    refutation-only : outcome (checkGiven limits first second evidence work) ≡ outcomeNo → Covers limits second first → ⊥
+    refutation-only : outcome (checkGiven limits first second evidence work) ≡ outcomeNo →
+        Covers limits second first → ⊥
     refutation-only h = let (pair, r) = refutation-shown h in refutation-fails limits first second evidence bounded
         pair r
 
@@ -178,16 +179,16 @@ module _ (limits : Limits) (bounded : Bounded limits) where
       abbrev rows : ℕ
       rows = (pictureTable (normalFile limits second)) .rows
 
-      pub check-map : MapOf limits first second evidence → checkGiven limits first second evidence work
+      pub takes-map : MapOf limits first second evidence → checkGiven limits first second evidence work
           ≡ valueWord outcomeYes 0
-      check-map m =
+      takes-map m =
           let g = result-when _ _ _ _ check-answers (enough, omega arith, (pair, inl m)) in
           ⊎-elim (λ (o, n). omega (arith, o, g .value-is, g .word-is))
           (λ (o, r). absurd (forms-apart limits rows evidence (m .form) (r .form))) (g .outcome-is)
 
-      pub check-refutation : RefutationOf limits first second evidence → checkGiven limits first second evidence work
+      pub takes-refutation : RefutationOf limits first second evidence → checkGiven limits first second evidence work
           ≡ valueWord outcomeNo 0
-      check-refutation r =
+      takes-refutation r =
           let g = result-when _ _ _ _ check-answers (enough, omega arith, (pair, inr r)) in
           ⊎-elim (λ (o, m). absurd (forms-apart limits rows evidence (m .form) (r .form)))
           (λ (o, n). omega (arith, o, g .value-is, g .word-is)) (g .outcome-is)
@@ -199,12 +200,12 @@ module _ (limits : Limits) (bounded : Bounded limits) where
     -- our own evidence is taken
     yes-taken : verdictOf limits first second ≡ true → (work : List ℕ) → workSize limits ≤ length work →
         checkGiven limits first second evidence work ≡ valueWord outcomeYes 0
-    yes-taken e work enough = check-map first second evidence work enough pair
+    yes-taken e work enough = takes-map first second evidence work enough pair
         (yes-written limits first second bounded pair e)
 
     no-taken : verdictOf limits first second ≡ false → (work : List ℕ) → workSize limits ≤ length work →
         checkGiven limits first second evidence work ≡ valueWord outcomeNo 0
-    no-taken e work enough = check-refutation first second evidence work enough pair
+    no-taken e work enough = takes-refutation first second evidence work enough pair
         (no-written limits first second bounded pair e)
 
     some-yes : verdictOf limits first second ≡ true → (work : List ℕ) → workSize limits ≤ length work →
@@ -301,7 +302,8 @@ module _ (limits : Limits) (bounded : Bounded limits) where
   pub normal-words : (picture : List ℕ) → NormalWords limits picture
   normal-words picture =
       record {
-        readable = λ result h. let (few, known, is) = written result h in rw is (normal-readable limits picture few bounded);
+        readable = λ result h. let (few, known, is) = written result h in
+            rw is (normal-readable limits picture few bounded);
         equivalent = λ result h. let (few, known, is) = written result h in
             subst (λ t. Equivalent pictureSignature (pictureTree limits picture) (pictureTree limits t)) (sym is)
             (normalFile-equivalent limits picture few bounded known);

@@ -44,7 +44,7 @@ use Rattle.interface.specs.Calls.{validateWord}
 use Rattle.interface.specs.Starred.{empty, k1, k1-map}
 use Rattle.interface.specs.StarredClaims.{HasRows, Holds, TakesEvidence, WritesEvidence}
 use Rattle.interface.specs.Word.{outcomeYes}
-use Rattle.interface.proofs.Conditions.{check-map, writes-evidence}
+use Rattle.interface.proofs.Conditions.{takes-map, writes-evidence}
 use Rattle.interface.proofs.Words.{bench-bounded}
 
 abbrev q : Table pictureSignature
@@ -119,7 +119,7 @@ module _ (first : List ℕ) (few : mergedCount benchLimits first ≤ maxRows) wh
 
     empty-taken : TakesEvidence benchLimits first empty outcomeYes k1-map
     empty-taken work enough =
-        check-map benchLimits bench-bounded first empty k1-map work enough pair
+        takes-map benchLimits bench-bounded first empty k1-map work enough pair
         (record { form = empty-form; maps = empty-map })
 
 -- whatever fits a picture fits the empty row

@@ -42,7 +42,7 @@ use Rattle.interface.specs.StarredClaims.{WritesNormal, WritesCommon, Al
 use Rattle.interface.specs.Word.{outcome, outcomeNo, outcomeYes, valueWord}
 use Rattle.interface.proofs.EmptySubsumes.{empty-subsumes}
 use Rattle.interface.proofs.Answers.{lcs-shape, normalize-shape}
-use Rattle.interface.proofs.Conditions.{common-shown, map-shown, check-map, refutation-shown, check-refutation, writes-evidence}
+use Rattle.interface.proofs.Conditions.{common-shown, map-shown, takes-map, refutation-shown, takes-refutation, writes-evidence}
 use Rattle.interface.proofs.Shapes.{shape-given}
 use Rattle.interface.proofs.Words.{bench-bounded, validate-readable}
 use lib.Dec.{leb}
@@ -61,7 +61,7 @@ module _ (limits : Limits) (bounded : Bounded limits) (first second e : List ℕ
   shown decided taken =
       let (pair, map) = map-shown limits bounded first second e space (omega (arith, taken)) in (
         writes-evidence limits bounded first second pair e is true decided,
-        λ work long. check-map limits bounded first second e work long pair map,
+        λ work long. takes-map limits bounded first second e work long pair map,
         map-covers limits first second e bounded pair map,
       )
 
@@ -70,7 +70,7 @@ module _ (limits : Limits) (bounded : Bounded limits) (first second e : List ℕ
   shown-not decided taken =
       let (pair, refuting) = refutation-shown limits bounded first second e space (omega (arith, taken)) in (
         writes-evidence limits bounded first second pair e is false decided,
-        λ work long. check-refutation limits bounded first second e work long pair refuting,
+        λ work long. takes-refutation limits bounded first second e work long pair refuting,
         refutation-fails limits first second e bounded pair refuting,
       )
 

@@ -77,7 +77,10 @@ pub record Condition1Words (limits : Limits) : Type 0 where
 abbrev pub Lengths : Limits → ℕ → List ℕ → List ℕ → Type 0
 Lengths limits size work result = (workSize limits ≤ length work) × (size ≤ length result)
 
--- the words of the verdict, of the common picture, of the check and of the nearest cards, with given buffers
+-- the words of the normal table, the verdict, the common picture, the check and the nearest cards, with given buffers
+abbrev pub normalGiven : Limits → List ℕ → List ℕ → ℕ
+normalGiven limits picture result = normalizeWord limits picture (length result)
+
 abbrev pub verdictGiven : Limits → List ℕ → List ℕ → List ℕ → List ℕ → ℕ
 verdictGiven limits first second work result = subsumesWord limits first second (length work) (length result)
 
@@ -93,10 +96,8 @@ mostSpecificGiven limits case book work = mostSpecificWord limits case book (len
 -- the result buffer's bytes up to the length that a word reports
 abbrev pub evidenceWritten : Limits → List ℕ → List ℕ → List ℕ → List ℕ → List ℕ
 evidenceWritten limits first second work result =
-    take (value (verdictGiven limits first second work result)) (subsumesResult limits first second (length work) result)
-
-abbrev pub normalGiven : Limits → List ℕ → List ℕ → ℕ
-normalGiven limits picture result = normalizeWord limits picture (length result)
+    take (value (verdictGiven limits first second work result))
+    (subsumesResult limits first second (length work) result)
 
 abbrev pub tableWritten : Limits → List ℕ → List ℕ → List ℕ
 tableWritten limits picture result =
@@ -125,7 +126,8 @@ pub record Condition2Words (limits : Limits) (first second : List ℕ) : Type 0 
   -- "it is refused only when the product laid down in the papers exceeds 256 rows."
   pub common-refused : (work result : List ℕ) → Lengths limits (pictureSize limits) work result →
       (outcome (commonGiven limits first second work result) ≡ outcomeYes)
-      ⊎ ((commonGiven limits first second work result ≡ refused 15 Second) × (limits .rows < lcsCount limits first second))
+      ⊎ ((commonGiven limits first second work result ≡ refused 15 Second)
+      × (limits .rows < lcsCount limits first second))
 
 -- some bytes are taken: as a map with outcome 1, as a refutation with outcome 2
 abbrev pub Taken : Limits → List ℕ → List ℕ → List ℕ → ℕ → Type 0

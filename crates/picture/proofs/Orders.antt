@@ -13,7 +13,7 @@
 --   on-by                         a property of the value, where all is yes, and of every first no is one of the answer
 --   given                         an answer that is no refusal is the value, and all is yes
 --   refused-by                    a refusal that is answered is the first no
---   EveryRefusal                       every refusal has a property;
+--   EveryRefusal                  every refusal has a property;
 --   asked-refuses, and-refuses, from-refuses, read-refuses, refuses-no   of the same
 use Prim.Native.Nat.{_+_, _<_, _≤_, suc, zero, ℕ}
 use borrow.Author.Tests.{le-leb, leb-false, leb-true, lt-leb}

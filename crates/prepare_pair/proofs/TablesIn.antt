@@ -90,8 +90,8 @@ module _ {limits : Limits} {b : Bool} {first second old work : List ℕ} {answer
   accepted : Acceptable limits first second × (pair ≡ tablesOf limits first second)
   accepted = let (all, same) = prepared-yes in (lent-decides limits first second b .yes .0 all .1, cc)
 
-  enough : workSize limits ≤ length old
-  enough = l .long long-enough
+  long-work : workSize limits ≤ length old
+  long-work = l .long long-enough
 
   -- what is true of both tables once they are written
   as-written : (P : Pair → List ℕ → Type 0) → P (tablesOf limits first second) (halvesPut limits first second old) → P pair work
@@ -102,7 +102,7 @@ module _ {limits : Limits} {b : Bool} {first second old work : List ℕ} {answer
 
   pub prepared-in : TablesIn limits work pair
   prepared-in = as-written (λ q w. TablesIn limits w q) (tables-in limits first second old (l .bounded)
-      (accepted .0) enough)
+      (accepted .0) long-work)
 
   pub prepared-tables : {s t : List ℕ} → s ≡ firstIn pair work → t ≡ secondIn limits pair work →
       NormalTables limits first second pair s t
@@ -110,9 +110,9 @@ module _ {limits : Limits} {b : Bool} {first second old work : List ℕ} {answer
       record {
         accepted = accepted .0;
         first-is = e ∙ as-written (λ q w. firstIn q w ≡ normalFile limits first)
-            (first-is limits first second old (l .bounded) (accepted .0) enough);
+            (first-is limits first second old (l .bounded) (accepted .0) long-work);
         second-is = f ∙ as-written (λ q w. secondIn limits q w ≡ normalFile limits second)
-            (second-is limits first second old (l .bounded) (accepted .0) enough);
+            (second-is limits first second old (l .bounded) (accepted .0) long-work);
         first-checked = subst (λ x. Checked x (pair .first)) (sym e) (prepared-in .first-checked);
         second-checked = subst (λ x. Checked x (pair .second)) (sym f) (prepared-in .second-checked);
       }

@@ -1,4 +1,4 @@
--- The definitions of the byte form. A reader has to believe them, but for Leaves.
+-- The definitions of the byte form. A reader has to believe them, but for NameValues.
 pub mod Pick
 pub mod Range
 pub mod Layout

@@ -3,8 +3,7 @@
 --   put-whole               bytes as many as were there take their place
 --   put-halves              bytes put into the lower half and then into the upper one are their join, put at the start
 --   length-join             two runs, each as long as a half; and of both put at the start:
---   join-whole, join-lower,
---   join-upper, join-past   the bytes of both, of the one and of the other, and those after them
+--   join-lower, join-upper  the bytes of the one and of the other
 use Prim.Native.Nat.{_+_, _-_, _≤_, ℕ}
 use borrow.Rule.Slice.PartMut.{midOf, putMid}
 use lib.ListN.{drop, drop-of-length-le, getD, length, length-append, length-drop, take}
@@ -58,9 +57,6 @@ module _ (a : ℕ) (s t : List ℕ) (lower : length s ≡ a) (upper : length t �
   length-join = omega (arith, length-append s t)
 
   module _ (d : List ℕ) where
-    pub join-whole : take (a + a) (put d 0 (s ++ t)) ≡ s ++ t
-    join-whole = rw (put-start d (s ++ t)) (take-at (s ++ t) (drop (length (s ++ t)) d) (a + a) length-join)
-
     pub join-lower : (n : ℕ) → n ≤ a → take n (put d 0 (s ++ t)) ≡ take n s
     join-lower n h =
         rw (put-start d (s ++ t))
@@ -71,8 +67,3 @@ module _ (a : ℕ) (s t : List ℕ) (lower : length s ≡ a) (upper : length t �
         let rest = drop (length (s ++ t)) d in
         rw (put-start d (s ++ t), drop-append-le a (s ++ t) rest (omega (arith, length-join)), drop-at s t a lower)
         (take-append-le n t rest (omega arith))
-
-    pub join-past : (i : ℕ) → a + a ≤ i → getD (put d 0 (s ++ t)) i 0 ≡ getD d i 0
-    join-past i h =
-        let k : 0 + length (s ++ t) + (i - length (s ++ t)) ≡ i = omega (arith, length-join) in
-        rw k at (put-after d 0 (s ++ t) (i - length (s ++ t)) (omega arith))

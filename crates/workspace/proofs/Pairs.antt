@@ -1,7 +1,6 @@
 -- Laws of the questions of every call on two pictures, at any limits.
 --   PairNo                        the first no: 2 to 13 of the first; of the second; 14 of the first; of the second
 --   pair-decides                  all are answered yes exactly of an acceptable pair, and the first no is exactly that
---   yes-acceptable                so such a pair is acceptable
 --   pair-refuses, lent-refuses    every refusal is 1 of the buffer, or 2 to 14 of the first or of the second
 --   lent-decides                  the questions after 1
 --   lent-short, lent-pair         1 is answered no; it is answered yes
@@ -58,9 +57,6 @@ module _ (limits : Limits) (first second : List ℕ) where
         λ a. (a .first-readable, (a .second-readable, (a .first-few, a .second-few))),
       )
       (λ r. (λ h. h, λ h. h))
-
-  pub yes-acceptable : pairAsked limits first second ≡ Yes → Acceptable limits first second
-  yes-acceptable h = pair-decides .yes .0 h
 
   module _ (enough : Bool) where
     pub lent-decides : Decides (lentAsked limits enough first second) ((enough ≡ true) × Acceptable limits first second)
