@@ -70,7 +70,10 @@ fn add_card(
     spans: &mut [usize; SPANS],
 ) -> Subsumers
     requires { ⌜ Addable (now scratch) m k subsumers (now cache) (now spans) ⌝ }
-    ensures { λ r. ⌜ (r .word ≡ subsumers .word + pick covers (2 ^ k) 0) × (((limits : Limits) (book : List ℕ) → Cached limits book (now (cache .entry)) (now (spans .entry)) (subsumers .at) → TableAt limits («card» book k) (now (scratch .entry)) m → Cached limits book (now (cache .exit)) (now (spans .exit)) (r .at)) × (length (now (cache .exit)) ≡ length (now (cache .entry)))) ⌝ }
+    ensures { λ r. ⌜ (r .word ≡ subsumers .word + pick covers (2 ^ k) 0)
+        × (((limits : Limits) (book : List ℕ) → Cached limits book (now (cache .entry)) (now (spans .entry)) (subsumers .at) →
+        TableAt limits («card» book k) (now (scratch .entry)) m → Cached limits book (now (cache .exit)) (now (spans .exit)) (r .at))
+        × (length (now (cache .exit)) ≡ length (now (cache .entry)))) ⌝ }
 {
     if !covers {
         return subsumers;

@@ -44,8 +44,16 @@ next-undecided-requires c κs = search needs
 
 returns-2 : tie.Need-returns-2 Inv-loop μ-loop
 returns-2 c =
-    let args = c .before .before .before .before .before .before .before .args in
-    (row-ended (args .limits) (now (args .book)) (args .covering) (args .m) (args .redundant) (subst (λ k. ComparedTo (args .limits) (now (args .book)) (args .covering) (args .m) k (args .redundant)) (c .if2 .taken) (row-skipped (args .limits) (now (args .book)) (args .covering) (args .m) (args .redundant) 0 (c .before .next-undecided .result) (c .before .next-undecided .ensures .1 .0) (c .before .before .before .before .before .before .before .pre .1 .1 .1 .0))), refl)
+    let start = c .before .before .before .before .before .before .before in
+    let args = start .args in
+    let found = c .before .next-undecided in
+    let skipped = row-skipped (args .limits) (now (args .book)) (args .covering) (args .m) (args .redundant) 0
+    (found .result) (found .ensures .1 .0) (start .pre .1 .1 .1 .0) in (
+      row-ended (args .limits) (now (args .book)) (args .covering) (args .m) (args .redundant)
+          (subst (λ k. ComparedTo (args .limits) (now (args .book)) (args .covering) (args .m) k (args .redundant))
+          (c .if2 .taken) skipped),
+      refl,
+    )
 
 half-size-requires : tie.Need-half-size-requires Inv-loop μ-loop
 half-size-requires c κs = search needs
@@ -198,7 +206,9 @@ loop-again c =
     let less = c .before .before .before .before .before .before .before .before .before .before .loop-test .taken in
     let compared = c .before .compare-tables in
     let found = c .next-undecided2 in
-    let covers : has (args .covering) (args .m) ≡ true = sym (c .before .before .before .before .before .before .before .before .before .before .before .before .before .before .before .before .before .before .before .before .before .before .before .before .has-card .ensures) ∙ not-false _ (c .before .before .before .before .before .before .before .before .before .before .before .before .before .before .before .before .before .before .before .before .before .before .before .if1 .left) in
+    let asked = c .before .before .before .before .before .before .before .before .before .before .before .before .before .before .before .before .before .before .before .before .before .before .before in
+    let covers : has (args .covering) (args .m) ≡ true =
+    sym (asked .before .has-card .ensures) ∙ not-false _ (asked .if1 .left) in
     let paired = parts-compared (pre .1 .0 .taken) (pre .0) (pre .1 .1 .0) (below d) (both d) (c .before .before .before .before .first-table .ensures) (c .before .before .before .second-table .ensures) (loop .word) (compared .result) (compared .ensures) in
     let pair = pair-compared (args .limits) (now (args .book)) (args .covering) (args .m) (loop .word) (loop .n) (compared .result) (loop .inv .1 .1 .0) less (omega (arith, pre .1 .1 .0, pre .1 .0 .taken .cards-read .places-are .counted)) covers (loop .inv .1 .0 less) paired in
     (found .ensures .0 .1, (found .ensures .1 .1, (row-skipped (args .limits) (now (args .book)) (args .covering) (args .m) (compared .result) (loop .n + 1) (found .result) (found .ensures .1 .0) pair, both d .lower)))

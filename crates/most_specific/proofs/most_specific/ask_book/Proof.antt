@@ -48,7 +48,10 @@ returns-2 c =
     let find-cards = c .before .before .before .before .before .before .before .before .before .find-cards in
     let read-cards = c .before .before .before .before .before .before .read-cards in
     let chosen = c .before .before .select in
-    let passed = cards-passed (args .limits) (now (args .case)) (now (args .book)) (sym (c .before .before .before .before .before .before .before .before .has-form .ensures) ∙ not-false _ (c .before .before .before .before .before .before .before .if1 .left)) (find-cards .result) (find-cards .ensures) (read-cards .result) (read-cards .ensures) (c .before .before .before .before .enum-told .given .1) in
+    let asked = c .before .before .before .before .before .before .before in
+    let passed = cards-passed (args .limits) (now (args .case)) (now (args .book))
+    (sym (asked .before .has-form .ensures) ∙ not-false _ (asked .if1 .left)) (find-cards .result) (find-cards .ensures)
+    (read-cards .result) (read-cards .ensures) (c .before .before .before .before .enum-told .given .1) in
     left-as (args .limits) (mostSpecificCards (args .limits) (now (args .case)) (now (args .book))) (now (args .work)) (afterCase (args .limits) (now (args .case)) (now (args .book))) (afterCards (args .limits) (now (args .case)) (now (args .book))) passed
     (chosen .result) _ (chosen .ensures)
 
