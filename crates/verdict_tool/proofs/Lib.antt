@@ -1,0 +1,5 @@
+-- The laws of what the verdict program prints, by subject.
+pub mod Decimals
+pub mod Gatherings
+pub mod MapLines
+pub mod Verdicts
