@@ -140,7 +140,8 @@ module _ (limits : Limits) (s : List ℕ) where
   unfolding validateWord
   readable-validate r = rw (reading-answer limits s First (r .rows) (r .reads), readable-count limits s r)
 
-  yes-reading : Bounded limits → (r : Reading) → readingOf limits s ≡ r → outcome (readWord (answered First r)) ≡ outcomeYes → Readable limits s
+  yes-reading : Bounded limits → (r : Reading) → readingOf limits s ≡ r →
+      outcome (readWord (answered First r)) ≡ outcomeYes → Readable limits s
   yes-reading bounded (reading.Rows n) e h = record { rows = n; reads = e }
   yes-reading bounded (reading.Failed q n) e h =
       let fits = field-fits limits bounded s First (omega arith) q n (failed-field limits s q n .0 e) in

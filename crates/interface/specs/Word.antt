@@ -6,8 +6,8 @@
 --
 --   outcomeYes, outcomeNo                   the outcomes of an answer
 --   inputCode, cardOf                       the code of an input, and its card's number
---   outcomeWeight .. rowWeight              the weights of the parts; the value is below `valueRange`, row and byte below
---                                           `placeRange`, the other parts below `partRange`
+--   outcomeWeight .. rowWeight              the weights of the parts; the value is below `valueRange`, row and byte are
+--                                           below `placeRange`, the other parts below `partRange`
 --   valueWord, refusalWord, refused         the word of an answer; of a refusal; of a refusal by its number and input
 --   outcome, question, input, card,
 --   row, byte, value                        the parts of a word

@@ -78,5 +78,6 @@ cases =
     ∷ []
 
 pub all-pass : runAll cases ≡ cases
-unfolding be depthIn depth tagOk lengthFor kindOk roleOk parentOk valueField rowField endField fieldAt scanFrom readingOf answerOf
+unfolding be depthIn depth tagOk lengthFor kindOk roleOk parentOk valueField rowField endField fieldAt
+    scanFrom readingOf answerOf
 all-pass = refl

@@ -96,7 +96,12 @@ module _ (limits : Limits) (s : List ℕ) where
       ⊎-elim
       (λ (z : n ≡ m). rw (z, stop .field) (stop .stops _))
       (λ (l : n < m). rw (ok-row limits s n (stop .rows n (omega arith) l)) (stops-scan left (n + 1) m f r
-      (record { below = omega arith; rows = λ k i j. stop .rows k (omega arith) j; field = stop .field; stops = stop .stops })
+      (record {
+        below = omega arith;
+        rows = λ k i j. stop .rows k (omega arith) j;
+        field = stop .field;
+        stops = stop .stops;
+      })
       (omega arith)))
       (eq-or-lt-of-le {n = n} {m = m} (stop .below))
 
@@ -139,7 +144,8 @@ module _ (limits : Limits) (s : List ℕ) where
 
   -- ---- and fails at the field after n rows exactly if these pass and that is refused
 
-  by-failed : (f : Field) (m q n : ℕ) → ((rest : Reading) → onField f m rest ≡ reading.Failed q n) → (f ≡ Bad q) × (m ≡ n)
+  by-failed : (f : Field) (m q n : ℕ) → ((rest : Reading) → onField f m rest ≡ reading.Failed q n) →
+      (f ≡ Bad q) × (m ≡ n)
   by-failed (Row d) m q n stops = absurd (let e = stops (reading.Rows 0) in let z : _≡_ {A = ℕ} 0 1 = cc in omega arith)
   by-failed End m q n stops = absurd (let e = stops (reading.Rows 0) in let z : _≡_ {A = ℕ} 0 1 = cc in omega arith)
   by-failed (Bad p) m q n stops = let e = stops (reading.Rows 0) in (ap Bad (let same : p ≡ q = cc in same), cc)
@@ -154,7 +160,10 @@ module _ (limits : Limits) (s : List ℕ) where
         let (m, f, stop) = reading-stops (reading.Failed q n) h in
         let (bad, same) = by-failed f m q n (stop .stops) in
         subst (FailsAt limits s q) same
-        (record { completed = λ k l. (_, ok-row limits s k (stop .rows k (omega arith) l)); meets = stop .field ∙ bad }),
+        (record {
+          completed = λ k l. (_, ok-row limits s k (stop .rows k (omega arith) l));
+          meets = stop .field ∙ bad;
+        }),
     λ f. stops-reading n (Bad q) (reading.Failed q n) (failed-rows q n f) (f .meets) (λ rest. refl),
   )
 

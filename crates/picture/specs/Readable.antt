@@ -22,7 +22,8 @@ pub record Readable (limits : Limits) (s : List ℕ) : Type 0 where
 unfoldable pub rowCount : List ℕ → ℕ
 rowCount s = length s / rowSize
 
--- 02, U1, "the row being read (rows completed so far)": n rows pass all their questions, and the field after them meets q
+-- 02, U1, "the row being read (rows completed so far)": n rows pass all their questions, and the field after them
+-- meets q
 pub record FailsAt (limits : Limits) (s : List ℕ) (q n : ℕ) : Type 0 where
   pub completed : (k : ℕ) → k < n → (d : ℕ) × (fieldAt limits s k ≡ Row d)
   pub meets : fieldAt limits s n ≡ Bad q

@@ -24,7 +24,8 @@ returns c = rw (sym (c .before .before .before .scan .ensures), c .before .n .gi
 returns-2 : tie.Need-returns-2
 unfolding answerOf
 returns-2 c =
-    rw (sym (c .before .before .before .before .scan .ensures), c .before .before .number .given .1, c .refuse-at .ensures)
+    let scanned = c .before .before .before .before .scan in
+    rw (sym (scanned .ensures), c .before .before .number .given .1, c .refuse-at .ensures)
 
 refuse-at-requires : tie.Need-refuse-at-requires
 refuse-at-requires c κs =
@@ -32,8 +33,10 @@ refuse-at-requires c κs =
     let limits = start .args .limits in
     let s = now (start .args .s) in
     let at = c .before .number .given in
-    let fails = failed-field limits s (at .0 .0) (at .0 .1 .0) .0 (sym (c .before .before .before .scan .ensures) ∙ at .1) in
-    omega (arith, failed-most limits s (at .0 .0) (at .0 .1 .0) fails, start .pre .0)
+    let number = at .0 .0 in
+    let n = at .0 .1 .0 in
+    let fails = failed-field limits s number n .0 (sym (c .before .before .before .scan .ensures) ∙ at .1) in
+    omega (arith, failed-most limits s number n fails, start .pre .0)
 
 pub read-spec : {M : Type 1} → statement M
 read-spec = tie.close (tie.spec
