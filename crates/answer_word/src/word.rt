@@ -19,6 +19,8 @@ const INPUT: u64 = 0x0000_0100_0000_0000;
 
 const CARD: u64 = 0x0000_0001_0000_0000;
 
+const ROW: u64 = 0x0000_0000_0001_0000;
+
 pub fn value_word(outcome: u64, value: u64) -> u64
     requires { ⌜ (outcome ≤ outcomeNo) × (value < valueRange) ⌝ }
     ensures { λ r. ⌜ r ≡ valueWord outcome value ⌝ }
@@ -59,5 +61,11 @@ pub fn refusal_word(refusal: Refusal) -> u64
     let number = refusal.number;
     let code = input_code(input);
     let card = card_of(input);
-    (number as u64) * NUMBER + (code as u64) * INPUT + (card as u64) * CARD
+    let row = refusal.row;
+    let byte = refusal.byte;
+    (number as u64) * NUMBER
+        + (code as u64) * INPUT
+        + (card as u64) * CARD
+        + (row as u64) * ROW
+        + (byte as u64)
 }

@@ -61,6 +61,10 @@ runAll (c ∷ cs) = ran c ∷ runAll cs
 abbrev refused : ℕ → Input → Selected
 refused q input = Refused (refusal q input)
 
+-- at a field: the rows before it, and the byte where it begins
+abbrev refusedAt : ℕ → Input → ℕ → ℕ → Selected
+refusedAt q input row byte = Refused (record { number = q; input = input; row = row; byte = byte })
+
 -- ---- pictures
 
 -- one row with names wanted
@@ -157,6 +161,10 @@ cases =
     ∷ asked benchLimits empty (bookOf (badTag ∷ badLength ∷ [])) 12294 (refused 3 (Card 0))
     ∷ asked benchLimits empty (bookOf (badLength ∷ badTag ∷ [])) 12294 (refused 4 (Card 0))
     ∷ asked benchLimits empty (bookOf (empty ∷ badLength ∷ [])) 12294 (refused 4 (Card 1))
+    -- with the row and the byte of the one that is refused, from its own first byte
+    ∷ asked benchLimits (root 0 ++ badTag) (bookOf (badTag ∷ [])) 12294 (refusedAt 3 First 1 24)
+    ∷ asked benchLimits empty (bookOf (names 8 ∷ (root 0 ++ (someRow 0 8 2 ++ badLength)) ∷ badTag ∷ [])) 12294
+    (refusedAt 4 (Card 1) 2 48)
     -- 14 after these, of the case and then of the cards in turn
     ∷ asked fourRows grows [] 198 (refused 24 Book)
     ∷ asked fourRows grows (bookOf (badTag ∷ [])) 198 (refused 3 (Card 0))

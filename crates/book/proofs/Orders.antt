@@ -11,12 +11,12 @@ use native.Mathlib.Omega.{arith}
 use Rattle.picture.proofs.Orders.{AllFrom, Decides, FirstFrom, EveryRefusal, Unreadable, and-decides, and-refuses, asked-decides, asked-refuses, from-decides, from-refuses, read-decides, read-refuses, said-so}
 use Rattle.picture.specs.Asked.{andThen, askedFrom, readAsked}
 use Rattle.picture.specs.Readable.{Readable}
-use Rattle.picture.specs.Refusal.{refusal, tooMany}
+use Rattle.picture.specs.Refusal.{refusalAt, tooMany}
 use Rattle.picture.specs.declared.answer.Input.the-variants.{Card, First}
 use Rattle.picture.specs.declared.answer.Refusal.{Refusal}
 use Rattle.table.specs.declared.layout.Limits.{Limits}
 use Rattle.meaning.specs.NormalTable.{mergedCount}
-use Rattle.normal.proofs.Answers.{TooMany, merged-decides, merged-refuses}
+use Rattle.normal.proofs.Answers.{OfPicture, TooMany, merged-decides, merged-refuses}
 use Rattle.normal.specs.Call.{mergedAsked}
 use Rattle.book.specs.Call.{AcceptableBook, bookAsked, cardMerged, cardRead, formAsked, noBook}
 use Rattle.book.specs.Form.{bookForm, card, cardCount}
@@ -65,8 +65,9 @@ module _ (limits : Limits) (case book : List ℕ) where
         (λ j l. before j (omega arith) l) many)
 
     cards-first : Readable limits case → bookForm book ≡ true → CardsNo r → FirstNo limits case book r
-    cards-first c f (inl (k, a, b, (q, e, is), before)) =
-        as-named (refusal q (Card k)) r is (card-unreadable c f k q (omega arith) (λ j l. before j (omega arith) l) e)
+    cards-first c f (inl (k, a, b, (q, n, e, is), before)) =
+        as-named (refusalAt q (Card k) n) r is
+        (card-unreadable c f k q n (omega arith) (λ j l. before j (omega arith) l) e)
     cards-first c f (inr (cards, rest)) = merged-first c f cards rest
 
     form-first : Readable limits case → FormNo r → FirstNo limits case book r
@@ -74,14 +75,14 @@ module _ (limits : Limits) (case book : List ℕ) where
     form-first c (inr (f, rest)) = cards-first c f rest
 
     case-first : CaseNo r → FirstNo limits case book r
-    case-first (inl (q, e, is)) = as-named (refusal q First) r is (case-unreadable q e)
+    case-first (inl (q, n, e, is)) = as-named (refusalAt q First n) r is (case-unreadable q n e)
     case-first (inr (c, rest)) = form-first c rest
 
   from-first : (r : Refusal) → FirstNo limits case book r → CaseNo r
-  from-first r (case-unreadable q e) = inl (q, e, refl)
+  from-first r (case-unreadable q n e) = inl (q, n, e, refl)
   from-first r (no-form c none) = inr (c, inl (none, refl))
-  from-first r (card-unreadable c f k q l before e) =
-      inr (c, inr (f, inl (k, omega arith, omega arith, (q, e, refl), λ j a b. before j b)))
+  from-first r (card-unreadable c f k q n l before e) =
+      inr (c, inr (f, inl (k, omega arith, omega arith, (q, n, e, refl), λ j a b. before j b)))
   from-first r (case-many c f cards many) = inr (c, inr (f, inr (λ j a b. cards j (omega arith), inl (many, refl))))
   from-first r (card-many c f cards few k l before many) =
       inr (
@@ -130,23 +131,22 @@ module _ (limits : Limits) (case book : List ℕ) where
       (λ r. (case-first r, from-first r))
 
   -- 2 to 14 of the case and of the cards, 24
-  pub book-refuses : (P : Refusal → Type 0) → ((q : ℕ) → 2 ≤ q → q ≤ 14 → P (refusal q First)) → P noBook →
-      ((k q : ℕ) → k < cardCount book → 2 ≤ q → q ≤ 14 → P (refusal q (Card k))) →
+  pub book-refuses : (P : Refusal → Type 0) → OfPicture limits First case P → P noBook →
+      ((k : ℕ) → k < cardCount book → OfPicture limits (Card k) (card book k) P) →
       EveryRefusal P (bookAsked limits case book)
   unfolding bookAsked
-  book-refuses P named none card-named =
+  book-refuses P of-case none of-card =
       let read = readAsked limits First case in
       let cards = askedFrom (cardRead limits book) (cardCount book) 0 in
       let merged = mergedAsked limits First case in
       let rest = askedFrom (cardMerged limits book) (cardCount book) 0 in
       and-refuses P read (andThen (formAsked book) (andThen cards (andThen merged rest)))
-      (read-refuses P limits First case (λ q a b. named q a (omega arith)))
+      (read-refuses P limits First case (of-case .reads))
       (and-refuses P (formAsked book) (andThen cards (andThen merged rest))
       (asked-refuses P (bookForm book) noBook none)
       (and-refuses P cards (andThen merged rest)
       (from-refuses P (cardRead limits book) (cardCount book) 0
-      (λ k a b. read-refuses P limits (Card k) (card book k) (λ q c d. card-named k q (omega arith) c (omega arith))))
-      (and-refuses P merged rest (merged-refuses limits First case P (named 14 (omega arith) (omega arith)))
+      (λ k a b. read-refuses P limits (Card k) (card book k) (of-card k (omega arith) .reads)))
+      (and-refuses P merged rest (merged-refuses limits First case P (of-case .merges))
       (from-refuses P (cardMerged limits book) (cardCount book) 0
-      (λ k a b. merged-refuses limits (Card k) (card book k) P (card-named k 14 (omega arith) (omega arith)
-      (omega arith)))))))
+      (λ k a b. merged-refuses limits (Card k) (card book k) P (of-card k (omega arith) .merges))))))

@@ -5,25 +5,23 @@ use mathlib.Core.Bool.{false, true}
 use mathlib.Core.List.{List}
 use mathlib.Core.Path.{_≡_}
 use Rattle.table.specs.declared.layout.Limits.{Limits}
-use Rattle.picture.specs.Refusal.{refusal, tooMany}
-use Rattle.picture.specs.Read.{readingOf}
-use Rattle.picture.specs.Readable.{Readable}
+use Rattle.picture.specs.Refusal.{refusalAt, tooMany}
+use Rattle.picture.specs.Readable.{FailsAt, Readable}
 use Rattle.picture.specs.declared.answer.Input.the-variants.{Card, First}
 use Rattle.picture.specs.declared.answer.Refusal.{Refusal}
-use Rattle.picture.specs.declared.read.Reading.the-variants as reading
 use Rattle.meaning.specs.NormalTable.{mergedCount}
 use Rattle.book.specs.Call.{noBook}
 use Rattle.book.specs.Form.{bookForm, card, cardCount}
 
 pub data FirstNo (limits : Limits) (case book : List ℕ) : Refusal → Type 0 where
   -- 2 to 13 of the case
-  case-unreadable : (q : ℕ) → readingOf limits case ≡ reading.Failed q → FirstNo limits case book (refusal q First)
+  case-unreadable : (q n : ℕ) → FailsAt limits case q n → FirstNo limits case book (refusalAt q First n)
   -- 24
   no-form : Readable limits case → bookForm book ≡ false → FirstNo limits case book noBook
   -- 2 to 13 of card k
   card-unreadable : Readable limits case → bookForm book ≡ true →
-      (k q : ℕ) → k < cardCount book → ((j : ℕ) → j < k → Readable limits (card book j)) →
-      readingOf limits (card book k) ≡ reading.Failed q → FirstNo limits case book (refusal q (Card k))
+      (k q n : ℕ) → k < cardCount book → ((j : ℕ) → j < k → Readable limits (card book j)) →
+      FailsAt limits (card book k) q n → FirstNo limits case book (refusalAt q (Card k) n)
   -- 14 of the case
   case-many : Readable limits case → bookForm book ≡ true → ((j : ℕ) → j < cardCount book → Readable limits (card book j)) →
       limits .rows < mergedCount limits case → FirstNo limits case book (tooMany First)

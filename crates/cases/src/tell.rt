@@ -50,13 +50,19 @@ fn say_input(input: Input) {
     }
 }
 
-// The end of the line of a refusal: the input, and the question's number.
+// The end of the line of a refusal: the input, the question's number, and the row and the byte.
 fn say_refused(refusal: Refusal) {
     let input = refusal.input;
     let number = refusal.number;
+    let row = refusal.row;
+    let byte = refusal.byte;
     io::write_all(STDOUT_FILENO, b": refused ");
     say_input(input);
-    say(b" ", number as u64);
+    io::write_all(STDOUT_FILENO, b" ");
+    io::print_decimal(STDOUT_FILENO, number as u64);
+    io::write_all(STDOUT_FILENO, b" row ");
+    io::print_decimal(STDOUT_FILENO, row as u64);
+    say(b" byte ", byte as u64);
 }
 
 fn tell_answer(s: &[u8]) {

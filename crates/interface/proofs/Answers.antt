@@ -18,21 +18,22 @@ use Rattle.table.specs.Pick.{pick}
 use Rattle.table.specs.Put.{put}
 use Rattle.table.specs.declared.layout.Limits.{Limits}
 use Rattle.picture.proofs.Orders.{EveryRefusal, and-refuses, asked-refuses, read-decides, read-refuses}
-use Rattle.picture.proofs.Readables.{readable-count, readable-most}
+use Rattle.picture.proofs.Readables.{failed-inside, failed-most, failed-number, failed-once, readable-count, readable-most}
 use Rattle.picture.specs.Asked.{kept, onAsked, readAsked, readingAsked, roomAsked}
 use Rattle.picture.specs.Read.{answerOf, answered, readingOf}
-use Rattle.picture.specs.Readable.{rowCount}
-use Rattle.picture.specs.Refusal.{refusal, shortBuffer}
+use Rattle.picture.specs.Readable.{FailsAt, rowCount}
+use Rattle.picture.specs.Refusal.{refusal, refusalAt, shortBuffer, tooMany}
 use Rattle.picture.specs.declared.answer.Asked.{Asked}
 use Rattle.picture.specs.declared.answer.Asked.the-variants.{No, Yes}
-use Rattle.picture.specs.declared.answer.Input.the-variants.{Buffer, Card, Evidence, First, Second}
+use Rattle.picture.specs.declared.answer.Input.{Input}
+use Rattle.picture.specs.declared.answer.Input.the-variants.{Book, Buffer, Card, Evidence, First, Second}
 use Rattle.picture.specs.declared.answer.Refusal.{Refusal}
 use Rattle.picture.specs.declared.read.Reading.{Reading}
 use Rattle.picture.specs.declared.read.Reading.the-variants as reading
 use Rattle.meaning.proofs.Normals.{normal-size}
 use Rattle.meaning.specs.Meaning.{pictureTable}
 use Rattle.meaning.specs.NormalTable.{normalFile}
-use Rattle.normal.proofs.Answers.{one-decides, one-refuses}
+use Rattle.normal.proofs.Answers.{OfPicture, one-decides, one-refuses}
 use Rattle.normal.proofs.Halves.{length-half}
 use Rattle.normal.specs.Call.{normalizeAnswer, normalizeResult, oneAsked}
 use Rattle.normal.specs.declared.normalize.Normalized.the-variants as normalized
@@ -68,17 +69,60 @@ use Rattle.book.specs.declared.answer.Selected.the-variants as selected
 use Rattle.interface.specs.Answers.{Call, Line, Listed, buffers, lcsCall, mostSpecificCall, normalizeCall, questions, subsumesCall, tables, the, validateCall, verifyCall}
 use Rattle.interface.specs.Calls.{LcsGives, MostSpecificGives, NormalizeGives, SubsumesGives, VerifyGives, lcsWord, mostSpecificWord, normalizeWord, subsumesWord, validateWord, verifyWord}
 use Rattle.interface.specs.Word.{cardOf, commonWord, normalizedWord, outcomeNo, outcomeYes, partRange, readWord, refusalWord, selectedWord, valueWord, verdictWord, verifiedWord}
-use Rattle.interface.proofs.Shapes.{Early, Late, Shape, is-early, is-late, then-yes, word-on}
+use Rattle.interface.proofs.Shapes.{Early, Late, OnList, Shape, is-early, is-late, then-yes, word-on}
+use Rattle.interface.proofs.Words.{field-fits}
 
 -- ---- lists
 
-early : (c : Call) (r : Refusal) → Listed (c .refusals) (r .number) (r .input) → r .number < 15 →
-    cardOf (r .input) < partRange → Early c r
-early c r on l few = (record { listed = on; fits = (omega arith, few) }, is-early (r .number) (inl l))
+early : (c : Call) (r : Refusal) → OnList c r → r .number < 15 → Early c r
+early c r on l = (on, is-early (r .number) (inl l))
 
-late : (c : Call) (r : Refusal) → Listed (c .refusals) (r .number) (r .input) → 15 ≤ r .number → r .number ≤ 23 →
-    cardOf (r .input) < partRange → Late c r
-late c r on least most few = (record { listed = on; fits = (omega arith, few) }, is-late (r .number) least most)
+late : (c : Call) (r : Refusal) → OnList c r → 15 ≤ r .number → r .number ≤ 23 → Late c r
+late c r on least most = (on, is-late (r .number) least most)
+
+-- a refusal that is of no field
+of-none : (c : Call) (number : ℕ) (input : Input) → Listed (c .refusals) number input →
+    (number < 2) ⊎ (13 < number) → number < partRange → cardOf input < partRange → OnList c (refusal number input)
+of-none c number input listed apart small few = record {
+  listed = listed;
+  fits = record { number = small; card = few; row = omega arith; byte = omega arith };
+  read-at = λ least most. absurd (⊎-elim (λ l. omega arith) (λ l. omega arith) apart);
+  else-zero = λ other. (refl, refl);
+}
+
+short : (c : Call) → Listed (c .refusals) 1 Buffer → Early c shortBuffer
+short c listed =
+    early c shortBuffer (of-none c 1 Buffer listed (inl (omega arith)) (omega arith) (omega arith)) (omega arith)
+
+-- 2 to 13, of a field; with 14, of a picture
+module _ (c : Call) (bounded : Bounded (c .limits)) (input : Input) (few : cardOf input < partRange) where
+  of-field : ((q : ℕ) → 2 ≤ q → q ≤ 13 → Listed (c .refusals) q input) →
+      (q n : ℕ) → FailsAt (c .limits) (c .picture input) q n → Early c (refusalAt q input n)
+  of-field listed q n fails =
+      let s = c .picture input in
+      let number = failed-number (c .limits) s q n fails in
+      early c (refusalAt q input n)
+      (record {
+        listed = listed q (number .least) (number .most);
+        fits = field-fits (c .limits) bounded s input few q n fails;
+        read-at = λ least most. record {
+          fails = fails;
+          only = λ p m f. failed-once (c .limits) s q n p m fails f;
+          few = failed-most (c .limits) s q n fails;
+          begins = refl;
+          inside = failed-inside (c .limits) s q n fails;
+        };
+        else-zero = ⊎-elim (λ l. absurd (omega (arith, number .least))) (λ l. absurd (omega (arith, number .most)));
+      })
+      (omega (arith, number .most))
+
+  of-picture : ((q : ℕ) → 2 ≤ q → q ≤ 14 → Listed (c .refusals) q input) →
+      OfPicture (c .limits) input (c .picture input) (Early c)
+  of-picture listed = record {
+    reads = of-field (λ q least most. listed q least (omega arith));
+    merges = early c (tooMany input) (of-none c 14 input (listed 14 (omega arith) (omega arith)) (inr (omega arith))
+        (omega arith) few) (omega arith);
+  }
 
 -- a buffer that is not lent
 not-lent : (a : Asked) → [] ≡ kept a (put [] 0 []) []
@@ -96,7 +140,7 @@ validate-word limits s = by (readingOf limits s) refl
     by : (t : Reading) → readingOf limits s ≡ t →
         readWord (answered First t) ≡ onAsked refusalWord (readingAsked First t) (valueWord outcomeYes (rowCount s))
     by (reading.Rows n) e = ap (valueWord outcomeYes) (sym (readable-count limits s (record { rows = n; reads = e })))
-    by (reading.Failed q) e = refl
+    by (reading.Failed q n) e = refl
 
 pub validate-shape : (limits : Limits) → Bounded limits → (picture : List ℕ) →
     Shape (validateCall limits picture) (buffers [] []) (buffers [] []) (validateWord limits picture) outcomeYes
@@ -109,8 +153,7 @@ validate-shape limits bounded picture =
       asked-all = refl;
       all-is = then-yes asks;
       early = read-refuses (Early (validateCall limits picture)) limits First picture
-          (λ q a b. early (validateCall limits picture) (refusal q First) (inl (a, b, refl)) (omega arith)
-          (omega arith));
+          (of-field (validateCall limits picture) bounded First (omega arith) (λ q a b. inl (a, b, refl)));
       late = tt;
       passes = (
         λ e. (omega arith, omega arith, read-decides limits First picture .yes .0 e),
@@ -141,8 +184,8 @@ normalize-shape limits bounded picture result word left gives =
       asked-all = refl;
       all-is = then-yes asks;
       early = one-refuses limits picture (length result) (Early c)
-          (early c shortBuffer (inl (omega arith, omega arith, refl)) (omega arith) (omega arith))
-          (λ q a b. early c (refusal q First) (inr (inl (a, b, refl))) (omega arith) (omega arith));
+          (short c (inl (omega arith, omega arith, refl)))
+          (of-picture c bounded First (omega arith) (λ q a b. inr (inl (a, b, refl))));
       late = tt;
       passes = (
         λ e. let a = decides .yes .0 e in (omega arith, a .enough, (a .readable, a .few)),
@@ -171,16 +214,15 @@ length-tables limits first second pair =
 -- their lines are the first three of the list
 pair-early : (c : Call) (more : List Line) →
     c .refusals ≡ questions 1 1 (the Buffer) ∷ questions 2 14 (the First) ∷ questions 2 14 (the Second) ∷ more →
-    (limits : Limits) (enough : Bool) (first second : List ℕ) →
-    EveryRefusal (Early c) (lentAsked limits enough first second)
-pair-early c more list limits enough first second =
-    lent-refuses limits first second (Early c)
-    (λ q a b. early c (refusal q First) (subst (λ l. Listed l q First) (sym list) (inr (inl (a, b, refl))))
-    (omega arith) (omega arith))
-    (λ q a b. early c (refusal q Second) (subst (λ l. Listed l q Second) (sym list) (inr (inr (inl (a, b, refl)))))
-    (omega arith) (omega arith))
-    (early c shortBuffer (subst (λ l. Listed l 1 Buffer) (sym list) (inl (omega arith, omega arith, refl)))
-    (omega arith) (omega arith)) enough
+    Bounded (c .limits) → (enough : Bool) →
+    EveryRefusal (Early c) (lentAsked (c .limits) enough (c .picture First) (c .picture Second))
+pair-early c more list bounded enough =
+    lent-refuses (c .limits) (c .picture First) (c .picture Second) (Early c)
+    (of-picture c bounded First (omega arith)
+    (λ q a b. subst (λ l. Listed l q First) (sym list) (inr (inl (a, b, refl)))))
+    (of-picture c bounded Second (omega arith)
+    (λ q a b. subst (λ l. Listed l q Second) (sym list) (inr (inr (inl (a, b, refl))))))
+    (short c (subst (λ l. Listed l 1 Buffer) (sym list) (inl (omega arith, omega arith, refl)))) enough
 
 -- yes or no, and so the word
 verdict-by : (v : Bool) (n : ℕ) → verdictWord (pick v (verdict.Yes n) (verdict.No n))
@@ -209,8 +251,8 @@ module _ (limits : Limits) (bounded : Bounded limits) (first second work result 
         all = asks;
         asked-all = refl;
         all-is = then-yes asks;
-        early = pair-early (subsumesCall limits first second) [] refl limits
-            (roomy limits (evidenceSize limits) (length work) (length result)) first second;
+        early = pair-early (subsumesCall limits first second) [] refl bounded
+            (roomy limits (evidenceSize limits) (length work) (length result));
         late = tt;
         passes = (
           λ e. let l = decides .yes .0 e in (l .work-long, l .result-long, l .pair),
@@ -248,11 +290,11 @@ module _ (limits : Limits) (bounded : Bounded limits) (first second work result 
         all = asks;
         asked-all = refl;
         all-is = refl;
-        early = pair-early c (questions 15 15 (the Second) ∷ []) refl limits
-            (roomy limits (pictureSize limits) (length work) (length result)) first second;
+        early = pair-early c (questions 15 15 (the Second) ∷ []) refl bounded
+            (roomy limits (pictureSize limits) (length work) (length result));
         late = asked-refuses (Late c) (leb (lcsCount limits first second) (limits .rows)) tooLarge
-            (late c tooLarge (inr (inr (inr (inl (omega arith, omega arith, refl))))) (omega arith) (omega arith)
-            (omega arith));
+            (late c tooLarge (of-none c 15 Second (inr (inr (inr (inl (omega arith, omega arith, refl)))))
+            (inr (omega arith)) (omega arith) (omega arith)) (omega arith) (omega arith));
         passes = (
           λ e. let (l, few) = decides .yes .0 e in (l .work-long, l .result-long, (l .pair, few)),
           λ (enough, long, (pair, few)). decides .yes .1
@@ -288,10 +330,10 @@ module _ (limits : Limits) (bounded : Bounded limits) (first second evidence wor
         all = asks;
         asked-all = refl;
         all-is = refl;
-        early = pair-early c (questions 16 23 (the Evidence) ∷ []) refl limits (leb (workSize limits) (length work))
-            first second;
+        early = pair-early c (questions 16 23 (the Evidence) ∷ []) refl bounded (leb (workSize limits) (length work));
         late = evidence-refuses (Late c)
-            (λ n a b. late c (refusal n Evidence) (inr (inr (inr (inl (a, b, refl))))) (omega arith) b (omega arith))
+            (λ n a b. late c (refusal n Evidence) (of-none c n Evidence (inr (inr (inr (inl (a, b, refl)))))
+            (inr (omega arith)) (omega arith) (omega arith)) (omega arith) b)
             limits first second evidence;
         passes = (
           λ e. let (enough, pair, taken) = decides .0 e in (enough, omega arith, (pair, taken)),
@@ -319,7 +361,7 @@ module _ (limits : Limits) (bounded : Bounded limits) (first second evidence wor
 
 -- ---- a case and a book
 
-module _ (limits : Limits) (case book work : List ℕ) (word : ℕ) (left : List ℕ) where
+module _ (limits : Limits) (bounded : Bounded limits) (case book work : List ℕ) (word : ℕ) (left : List ℕ) where
   pub cards-shape : MostSpecificGives limits case book work word left →
       Shape (mostSpecificCall limits case book) (buffers work []) (buffers left []) word outcomeYes
   unfolding mostSpecificWord mostSpecificAnswer
@@ -336,14 +378,15 @@ module _ (limits : Limits) (case book work : List ℕ) (word : ℕ) (left : List
         all-is = then-yes asks;
         early = and-refuses (Early c) (roomAsked (leb (workSize limits) (length work))) (bookAsked limits case book)
             (asked-refuses (Early c) (leb (workSize limits) (length work)) shortBuffer
-            (early c shortBuffer (inl (omega arith, omega arith, refl)) (omega arith) (omega arith)))
+            (short c (inl (omega arith, omega arith, refl))))
             (book-refuses limits case book (Early c)
-            (λ q a b. early c (refusal q First) (inr (inl (a, b, refl))) (omega arith) (omega arith)) (
-              record { listed = inr (inr (inl (omega arith, omega arith, refl))); fits = (omega arith, omega arith) },
+            (of-picture c bounded First (omega arith) (λ q a b. inr (inl (a, b, refl)))) (
+              of-none c 24 Book (inr (inr (inl (omega arith, omega arith, refl)))) (inr (omega arith)) (omega arith)
+                  (omega arith),
               refl,
             )
-            (λ k q l a b. early c (refusal q (Card k)) (inr (inr (inr (inl (a, b, (k, l, refl)))))) (omega arith)
-            (omega (arith, l, count-most book))));
+            (λ k l. of-picture c bounded (Card k) (omega (arith, l, count-most book))
+            (λ q a b. inr (inr (inr (inl (a, b, (k, l, refl))))))));
         late = tt;
         passes = (
           λ e. let (enough, acceptable) = decides .yes .0 e in (enough, omega arith, acceptable),

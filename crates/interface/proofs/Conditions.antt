@@ -72,7 +72,7 @@ module _ (limits : Limits) (bounded : Bounded limits) where
     verify = λ first second evidence work word left gives.
         shape-answers _ _ _ _ _ (verify-shape limits bounded first second evidence work word left gives);
     most-specific = λ case book work word left gives. shape-answers _ _ _ _ _
-        (cards-shape limits case book work word left gives);
+        (cards-shape limits bounded case book work word left gives);
   }
 
   -- ---- the verdict and the common picture

@@ -3,8 +3,8 @@
 -- written.
 --   then-yes                       nothing asked after a question
 --   word-on                        the word of an answer, by its questions
---   Fits                           a refusal whose number and card fit their parts of the word
---   Early, Late                    a refusal that is on the call's list: 1 to 14 or 24; 15 to 23
+--   OnList                         a refusal that is on the call's list, fits the word, and has its place or none
+--   Early, Late                    such a refusal: 1 to 14 or 24; 15 to 23
 --   Shape                          how a call answers: its questions, its word, and what is left in its buffers
 --   shape-answers                  so it gives a result or a numbered refusal, as it is laid down
 --   shape-given                    the word and the buffers where all is answered yes
@@ -26,9 +26,9 @@ use Rattle.picture.specs.Asked.{andThen, kept, onAsked}
 use Rattle.picture.specs.declared.answer.Asked.{Asked}
 use Rattle.picture.specs.declared.answer.Asked.the-variants.{No, Yes}
 use Rattle.picture.specs.declared.answer.Refusal.{Refusal}
-use Rattle.interface.specs.Answers.{Answers, Buffers, Call, Filled, GivesResult, Leaves, Listed, Passes, refusalBytes}
-use Rattle.interface.specs.Word.{cardOf, outcome, partRange, refusalWord, valueRange, valueWord}
-use Rattle.interface.proofs.Words.{refusal-card, refusal-input, refusal-outcome, refusal-question, value-outcome, value-value}
+use Rattle.interface.specs.Answers.{Answers, AtField, Buffers, Call, Filled, GivesResult, Leaves, Listed, Passes, refusalBytes}
+use Rattle.interface.specs.Word.{outcome, refusalWord, valueRange, valueWord}
+use Rattle.interface.proofs.Words.{Fits, refusal-byte, refusal-card, refusal-input, refusal-outcome, refusal-question, refusal-row, value-outcome, value-value}
 
 pub then-yes : (a : Asked) → a ≡ andThen a Yes
 then-yes Yes = refl
@@ -41,12 +41,11 @@ word-on wordOf none same (No r) value word e = same r
 
 -- ---- refusals
 
-abbrev pub Fits : Refusal → Type 0
-Fits r = (r .number < partRange) × (cardOf (r .input) < partRange)
-
 pub record OnList (c : Call) (r : Refusal) : Type 0 where
   pub listed : Listed (c .refusals) (r .number) (r .input)
   pub fits : Fits r
+  pub read-at : 2 ≤ r .number → r .number ≤ 13 → AtField (c .limits) (c .picture (r .input)) r
+  pub else-zero : (r .number < 2) ⊎ (13 < r .number) → (r .row ≡ 0) × (r .byte ≡ 0)
 
 abbrev pub Early : Call → Refusal → Type 0
 Early c r = OnList c r × ((leb 15 (r .number) && leb (r .number) 23) ≡ false)
@@ -122,17 +121,19 @@ module _ (c : Call) (lent left : Buffers) (word o : ℕ) (s : Shape c lent left 
       Answers c lent left word
   refuses r e on leaves =
       let told : word ≡ refusalWord r = s .word-by ∙ ap (λ a. onAsked refusalWord a (valueWord o (c .given))) e in
-      let (number, few) = on .fits in
       inr (record {
-        number = r .number;
-        names = r .input;
+        by = r;
         listed = on .listed;
+        read-at = on .read-at;
+        else-zero = on .else-zero;
         first-no = s .asked-all ∙ e;
         fails = λ p. let yes-is = s .passes .1 p in let z : _≡_ {A = ℕ} 0 1 = cc in omega arith;
-        outcome-is = ap outcome told ∙ refusal-outcome r number few;
-        question-is = rw told (refusal-question r number few);
-        input-is = rw told (refusal-input r number few);
-        card-is = rw told (refusal-card r number few);
+        outcome-is = ap outcome told ∙ refusal-outcome r (on .fits);
+        question-is = rw told (refusal-question r (on .fits));
+        input-is = rw told (refusal-input r (on .fits));
+        card-is = rw told (refusal-card r (on .fits));
+        row-is = rw told (refusal-row r (on .fits));
+        byte-is = rw told (refusal-byte r (on .fits));
         word-is = told;
         leaves = leaves;
       })

@@ -83,7 +83,7 @@ shown-normal limits bounded first table opened few is result long =
     let small = leb-true (mergedCount limits first) (limits .rows) few in
     let (told, work, left) = shape-given _ _ _ _ _
     (normalize-shape limits bounded first result _ _ (record { word-is = refl; buffer-is = refl }))
-    (omega arith, long, (validate-readable limits first opened, small)) in
+    (omega arith, long, (validate-readable limits first bounded opened, small)) in
     (told ∙ ap (λ (e : List ℕ). valueWord outcomeYes (length e)) is, left ∙ ap (λ (e : List ℕ). put result 0 e) is)
 
 -- a common picture that is given with buffers of the lengths laid down stands in any result buffer that is long enough,

@@ -3,6 +3,7 @@
 --   Whom, Names, Line, questions, Listed    questions that a call asks, by number, and whom they name
 --   Buffers, buffers, Filled, Leaves        what is lent for writing; what a buffer, and what both, hold then
 --   refusalBytes                            what a refusal writes
+--   pictures, AtField                       the picture that an input is; where in a picture a refusal is
 --   Call                                    what is laid down for a call on given inputs
 --   Passes, GivesResult, Refuses, Answers   all questions are answered yes; a result; a numbered refusal; one of these
 --   tables, OutcomeYes, EitherOutcome       both normal tables, each in its half; which outcome a result has
@@ -15,16 +16,17 @@ use mathlib.Core.List.{List, [], _++_, _∷_}
 use mathlib.Core.Logic.{_⊎_}
 use mathlib.Core.Path.{_≡_}
 use Rattle.table.specs.Bounds.{pictureSize}
+use Rattle.table.specs.Layout.{«place»}
 use Rattle.table.specs.Pick.{pick}
 use Rattle.table.specs.Put.{zeros}
 use Rattle.table.specs.declared.layout.Limits.{Limits}
-use Rattle.picture.specs.Readable.{Readable, rowCount}
+use Rattle.picture.specs.Readable.{FailsAt, Readable, rowCount}
 use Rattle.picture.specs.Asked.{readAsked}
-use Rattle.picture.specs.Refusal.{refusal}
 use Rattle.picture.specs.declared.answer.Asked.{Asked}
 use Rattle.picture.specs.declared.answer.Asked.the-variants.{No, Yes}
 use Rattle.picture.specs.declared.answer.Input.{Input}
 use Rattle.picture.specs.declared.answer.Input.the-variants.{Book, Buffer, Card, Evidence, First, Second}
+use Rattle.picture.specs.declared.answer.Refusal.{Refusal}
 use Rattle.meaning.specs.Covering.{Covers}
 use Rattle.meaning.specs.NormalTable.{mergedCount, normalFile}
 use Rattle.normal.specs.Call.{oneAsked}
@@ -38,8 +40,9 @@ use Rattle.lcs.specs.Call.{lcsAsked}
 use Rattle.lcs.specs.Product.{lcsCount, lcsFile}
 use Rattle.book.specs.Call.{AcceptableBook, mostSpecificAsked}
 use Rattle.book.specs.Form.{cardCount}
+use Rattle.book.specs.Form as form
 use Rattle.book.specs.Selection.{mostSpecificCards}
-use Rattle.interface.specs.Word.{card, cardOf, input, inputCode, outcome, outcomeNo, outcomeYes, question, refused, value, valueWord}
+use Rattle.interface.specs.Word.{byte, card, cardOf, input, inputCode, outcome, outcomeNo, outcomeYes, question, refusalWord, row, value, valueWord}
 
 -- ---- a call, whichever it is
 
@@ -88,12 +91,35 @@ pub record Leaves (lent bytes left : Buffers) : Type 0 where
 abbrev pub refusalBytes : ℕ → Buffers → Buffers
 refusalBytes number success = buffers (pick (leb 15 number && leb number 23) (success .work) []) []
 
+-- the picture that an input is: the first or the case, the second, or a card; the others are none
+abbrev pub pictures : List ℕ → List ℕ → (ℕ → List ℕ) → Input → List ℕ
+pictures first second cardAt Buffer = []
+pictures first second cardAt First = first
+pictures first second cardAt Second = second
+pictures first second cardAt Evidence = []
+pictures first second cardAt Book = []
+pictures first second cardAt (Card k) = cardAt k
+
+-- 02, U1, "the row being read (rows completed so far) and the byte where its field begins, from the picture's first",
+-- of a refusal of the picture s
+pub record AtField (limits : Limits) (s : List ℕ) (r : Refusal) : Type 0 where
+  -- so many rows pass all their questions, and the field after them meets this one
+  pub fails : FailsAt limits s (r .number) (r .row)
+  -- there is no other question and no other field of which that is so
+  pub only : (q n : ℕ) → FailsAt limits s q n → (q ≡ r .number) × (n ≡ r .row)
+  pub few : r .row ≤ limits .rows
+  -- it begins there, in the file or at its end
+  pub begins : r .byte ≡ place (r .row) 0
+  pub inside : r .byte ≤ length s
+
 pub record Call : Type 1 where
   -- 1: the lengths named of the work space and of the result buffer
   pub work-size : ℕ
   pub result-size : ℕ
-  -- its questions, by number and whom they name
+  -- its questions, by number and whom they name; the pictures among its inputs, and their limits
   pub refusals : List Line
+  pub limits : Limits
+  pub picture : Input → List ℕ
   -- and in their order, with the buffers as lent: all answered yes, or the first no
   pub asks : Buffers → Asked
   -- those after 1 are answered yes, by meaning
@@ -119,17 +145,21 @@ module _ (c : Call) (lent left : Buffers) (word : ℕ) where
     pub leaves : Leaves lent (c .bytes) left
 
   pub record Refuses : Type 0 where
-    pub number : ℕ
-    pub names : Input
-    pub listed : Listed (c .refusals) number names
+    pub by : Refusal
+    pub listed : Listed (c .refusals) (by .number) (by .input)
     pub fails : Passes c lent → ⊥
-    pub first-no : c .asks lent ≡ No (refusal number names)
+    pub first-no : c .asks lent ≡ No by
+    -- 2 to 13 carry where in the picture, "other refusals carry .. 0 for both"
+    pub read-at : 2 ≤ by .number → by .number ≤ 13 → AtField (c .limits) (c .picture (by .input)) by
+    pub else-zero : (by .number < 2) ⊎ (13 < by .number) → (by .row ≡ 0) × (by .byte ≡ 0)
     pub outcome-is : outcome word ≡ 0
-    pub question-is : question word ≡ number
-    pub input-is : input word ≡ inputCode names
-    pub card-is : card word ≡ cardOf names
-    pub word-is : word ≡ refused number names
-    pub leaves : Leaves lent (refusalBytes number (c .bytes)) left
+    pub question-is : question word ≡ by .number
+    pub input-is : input word ≡ inputCode (by .input)
+    pub card-is : card word ≡ cardOf (by .input)
+    pub row-is : row word ≡ by .row
+    pub byte-is : byte word ≡ by .byte
+    pub word-is : word ≡ refusalWord by
+    pub leaves : Leaves lent (refusalBytes (by .number) (c .bytes)) left
 
   abbrev pub Answers : Type 0
   Answers = GivesResult ⊎ Refuses
@@ -152,6 +182,8 @@ validateCall limits picture = record {
   work-size = 0;
   result-size = 0;
   refusals = questions 2 13 (the First) ∷ [];
+  limits = limits;
+  picture = pictures picture [] (λ k. []);
   asks = λ lent. readAsked limits First picture;
   Passed = Readable limits picture;
   Outcome = OutcomeYes;
@@ -166,6 +198,8 @@ normalizeCall limits picture = record {
   work-size = 0;
   result-size = pictureSize limits;
   refusals = questions 1 1 (the Buffer) ∷ questions 2 14 (the First) ∷ [];
+  limits = limits;
+  picture = pictures picture [] (λ k. []);
   asks = λ lent. oneAsked limits picture (length (lent .result));
   Passed = Readable limits picture × (mergedCount limits picture ≤ limits .rows);
   Outcome = OutcomeYes;
@@ -180,6 +214,8 @@ subsumesCall limits first second = record {
   work-size = workSize limits;
   result-size = evidenceSize limits;
   refusals = questions 1 1 (the Buffer) ∷ questions 2 14 (the First) ∷ questions 2 14 (the Second) ∷ [];
+  limits = limits;
+  picture = pictures first second (λ k. []);
   asks = λ lent. subsumesAsked limits first second (length (lent .work)) (length (lent .result));
   Passed = Acceptable limits first second;
   Outcome = EitherOutcome (Covers limits second first) (Covers limits second first → ⊥);
@@ -196,6 +232,8 @@ lcsCall limits first second = record {
   refusals =
       questions 1 1 (the Buffer) ∷ questions 2 14 (the First) ∷ questions 2 14 (the Second)
       ∷ questions 15 15 (the Second) ∷ [];
+  limits = limits;
+  picture = pictures first second (λ k. []);
   asks = λ lent. lcsAsked limits first second (length (lent .work)) (length (lent .result));
   Passed = Acceptable limits first second × (lcsCount limits first second ≤ limits .rows);
   Outcome = OutcomeYes;
@@ -212,6 +250,8 @@ verifyCall limits first second evidence = record {
   refusals =
       questions 1 1 (the Buffer) ∷ questions 2 14 (the First) ∷ questions 2 14 (the Second)
       ∷ questions 16 23 (the Evidence) ∷ [];
+  limits = limits;
+  picture = pictures first second (λ k. []);
   asks = λ lent. verifyAsked limits first second evidence (length (lent .work));
   Passed =
       Acceptable limits first second × (MapOf limits first second evidence ⊎ RefutationOf limits first second evidence);
@@ -229,6 +269,8 @@ mostSpecificCall limits case book = record {
   refusals =
       questions 1 1 (the Buffer) ∷ questions 2 14 (the First) ∷ questions 24 24 (the Book)
       ∷ questions 2 14 (cards (cardCount book)) ∷ [];
+  limits = limits;
+  picture = pictures case [] (form.card book);
   asks = λ lent. mostSpecificAsked limits case book (length (lent .work));
   Passed = AcceptableBook limits case book;
   Outcome = OutcomeYes;

@@ -2,12 +2,12 @@
 -- the field that says it. proofs/Conditions shows that all of it holds, at any limits that are `Bounded` and at paper
 -- 01's. By its contract a C call gives the word and leaves the buffers that Calls says (`..Gives`).
 --
--- A word is taken apart by `outcome`, `question`, `input`, `card` and `value` (Word). `Acceptable` says that two
--- pictures are readable, each at most 256 rows when merged (workspace, specs/Prepare), `AcceptableBook` the same of a
--- case and of the cards of a book (book, specs/Call). `Covers limits second first` says that in every finite
--- interpretation each individual fitting the first picture fits the second, by the published meaning (meaning,
--- specs/Covering). The lengths laid down are `workSize`, `evidenceSize` and `pictureSize`: at 256 rows, 12,294, 46,595
--- and 6,147 bytes.
+-- A word is taken apart by `outcome`, `question`, `input`, `card`, `row`, `byte` and `value` (Word). What a refusal
+-- carries, also its row and byte (02, U1), is said by `Refuses` (Answers). `Acceptable` says that two pictures are
+-- readable, each at most 256 rows when merged (workspace, specs/Prepare), `AcceptableBook` the same of a case and of
+-- the cards of a book (book, specs/Call). `Covers limits second first` says that in every finite interpretation each
+-- individual fitting the first picture fits the second, by the published meaning (meaning, specs/Covering). The lengths
+-- laid down are `workSize`, `evidenceSize` and `pictureSize`: at 256 rows, 12,294, 46,595 and 6,147 bytes.
 --
 --   Condition1Words                       condition 1, by what is laid down for each call (Answers)
 --   Lengths                               buffers of the lengths laid down

@@ -1,13 +1,16 @@
 -- The 64-bit answer word of a call: how it is put together, and how include/zuvaropy.h takes it apart.
 --   bits 63..56  outcome: 0 a refusal; 1 a value, verdict yes or map taken; 2 verdict no or refutation taken
---   a refusal:   bits 55..48 the question's number, 47..40 the input's code, 39..32 the card's number or 0, the rest 0
+--   a refusal:   bits 55..48 the question's number, 47..40 the input's code, 39..32 the card's number or 0, 31..16 the
+--                row, 15..0 the byte, as the refusal carries them (02, U1)
 --   an answer:   bits 31..0 the value, the rest 0
 --
 --   outcomeYes, outcomeNo                   the outcomes of an answer
 --   inputCode, cardOf                       the code of an input, and its card's number
---   outcomeWeight .. cardWeight             the weights of the parts; a part but the value is below `partRange`, the value below `valueRange`
+--   outcomeWeight .. rowWeight              the weights of the parts; the value is below `valueRange`, row and byte are
+--                                           below `placeRange`, the other parts below `partRange`
 --   valueWord, refusalWord, refused         the word of an answer; of a refusal; of a refusal by its number and input
---   outcome, question, input, card, value   the parts of a word
+--   outcome, question, input, card,
+--   row, byte, value                        the parts of a word
 --   readWord, normalizedWord, verdictWord, commonWord, verifiedWord, selectedWord   the word of each call's answer
 use Prim.Native.Nat.{ℕ, _%_, _*_, _+_, _/_, _^_}
 use Rattle.picture.specs.Refusal.{refusal}
@@ -55,6 +58,12 @@ partRange = 2 ^ 8
 abbrev pub valueRange : ℕ
 valueRange = 2 ^ 32
 
+abbrev pub placeRange : ℕ
+placeRange = 2 ^ 16
+
+abbrev pub rowWeight : ℕ
+rowWeight = placeRange
+
 abbrev pub cardWeight : ℕ
 cardWeight = valueRange
 
@@ -71,7 +80,9 @@ abbrev pub valueWord : ℕ → ℕ → ℕ
 valueWord outcome value = outcome * outcomeWeight + value
 
 abbrev pub refusalWord : Refusal → ℕ
-refusalWord r = r .number * questionWeight + inputCode (r .input) * inputWeight + cardOf (r .input) * cardWeight
+refusalWord r =
+    r .number * questionWeight + inputCode (r .input) * inputWeight + cardOf (r .input) * cardWeight
+    + r .row * rowWeight + r .byte
 
 abbrev pub refused : ℕ → Input → ℕ
 refused number input = refusalWord (refusal number input)
@@ -87,6 +98,12 @@ input w = w / inputWeight % partRange
 
 abbrev pub card : ℕ → ℕ
 card w = w / cardWeight % partRange
+
+abbrev pub row : ℕ → ℕ
+row w = w / rowWeight % placeRange
+
+abbrev pub byte : ℕ → ℕ
+byte w = w % placeRange
 
 abbrev pub value : ℕ → ℕ
 value w = w % valueRange

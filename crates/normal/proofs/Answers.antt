@@ -1,6 +1,7 @@
 -- Laws of the second call at any limits: which answer is given for which picture and result buffer.
 --   merged-decides, merged-many,
 --   merged-refuses                   14 of a picture
+--   OfPicture                        what every refusal of a picture has, by 2 to 13 and by 14
 --   Accepted                         the buffer is long enough, the picture readable, and its merged rows are few
 --   OneNo                            the first no: the buffer is short; else a question from 2 to 13; else 14
 --   one-decides, one-refuses         the questions of the call: all yes exactly if accepted, the first no exactly that
@@ -22,8 +23,8 @@ use Rattle.table.specs.Put.{put}
 use Rattle.table.specs.declared.layout.Limits.{Limits}
 use Rattle.picture.proofs.Orders.{Decides, EveryRefusal, Unreadable, and-decides, and-refuses, asked-refuses, given, read-decides, read-refuses, said-so, test-decides}
 use Rattle.picture.specs.Asked.{andThen, kept, onAsked, readAsked, roomAsked}
-use Rattle.picture.specs.Readable.{Readable}
-use Rattle.picture.specs.Refusal.{refusal, shortBuffer, tooMany}
+use Rattle.picture.specs.Readable.{FailsAt, Readable}
+use Rattle.picture.specs.Refusal.{refusalAt, shortBuffer, tooMany}
 use Rattle.picture.specs.declared.answer.Asked.{Asked}
 use Rattle.picture.specs.declared.answer.Asked.the-variants.{No}
 use Rattle.picture.specs.declared.answer.Input.{Input}
@@ -51,6 +52,11 @@ module _ (limits : Limits) (input : Input) (s : List ℕ) where
   unfolding mergedAsked
   merged-refuses P h = asked-refuses P (leb (mergedCount limits s) (limits .rows)) (tooMany input) h
 
+  -- what every refusal of a picture has: 2 to 13, at the field that fails, and 14
+  pub record OfPicture (P : Refusal → Type 0) : Type 0 where
+    pub reads : (q n : ℕ) → FailsAt limits s q n → P (refusalAt q input n)
+    pub merges : P (tooMany input)
+
 module _ (limits : Limits) (s : List ℕ) (room : ℕ) where
   pub record Accepted : Type 0 where
     pub enough : pictureSize limits ≤ room
@@ -77,16 +83,16 @@ module _ (limits : Limits) (s : List ℕ) (room : ℕ) where
       (λ r. (λ h. h, λ h. h))
 
   -- the numbers are 1, 2 to 13, 14
-  pub one-refuses : (P : Refusal → Type 0) → P shortBuffer → ((q : ℕ) → 2 ≤ q → q ≤ 14 → P (refusal q First)) →
+  pub one-refuses : (P : Refusal → Type 0) → P shortBuffer → OfPicture limits First s P →
       EveryRefusal P (oneAsked limits s room)
   unfolding oneAsked
-  one-refuses P short named =
+  one-refuses P short picture =
       and-refuses P (roomAsked (leb (pictureSize limits) room))
       (andThen (readAsked limits First s) (mergedAsked limits First s))
       (asked-refuses P (leb (pictureSize limits) room) shortBuffer short)
       (and-refuses P (readAsked limits First s) (mergedAsked limits First s)
-      (read-refuses P limits First s (λ q a b. named q a (omega arith)))
-      (merged-refuses limits First s P (named 14 (omega arith) (omega arith))))
+      (read-refuses P limits First s (picture .reads))
+      (merged-refuses limits First s P (picture .merges)))
 
   pub one-long : pictureSize limits ≤ room → oneAsked limits s room ≡ andThen (readAsked limits First s)
       (mergedAsked limits First s)

@@ -27,8 +27,8 @@ use native.Mathlib.Omega.{arith}
 use Rattle.table.specs.declared.layout.Limits.{Limits}
 use Rattle.picture.specs.Asked.{andThen, asked, askedFrom, onAsked, readAsked, readingAsked}
 use Rattle.picture.specs.Read.{answerOf, answered, readingOf}
-use Rattle.picture.specs.Readable.{Readable}
-use Rattle.picture.specs.Refusal.{refusal}
+use Rattle.picture.specs.Readable.{FailsAt, Readable}
+use Rattle.picture.specs.Refusal.{refusalAt}
 use Rattle.picture.specs.declared.answer.Answer.{Answer}
 use Rattle.picture.specs.declared.answer.Answer.the-variants as answer
 use Rattle.picture.specs.declared.answer.Asked.{Asked}
@@ -37,7 +37,7 @@ use Rattle.picture.specs.declared.answer.Input.{Input}
 use Rattle.picture.specs.declared.answer.Refusal.{Refusal}
 use Rattle.picture.specs.declared.read.Reading.{Reading}
 use Rattle.picture.specs.declared.read.Reading.the-variants as reading
-use Rattle.picture.proofs.Readables.{reading-number}
+use Rattle.picture.proofs.Readables.{failed-field, failed-once}
 
 -- a no is no yes
 clash : (r : Refusal) → _≡_ {A = Asked} (No r) Yes → ⊥
@@ -188,25 +188,31 @@ module _ (ask : ℕ → Asked) where
 
 module _ (limits : Limits) (input : Input) (s : List ℕ) where
   abbrev pub Unreadable : Refusal → Type 0
-  Unreadable r = (q : ℕ) × (readingOf limits s ≡ reading.Failed q) × (r ≡ refusal q input)
+  Unreadable r = (q : ℕ) × (n : ℕ) × FailsAt limits s q n × (r ≡ refusalAt q input n)
 
   by-reading : (t : Reading) → readingOf limits s ≡ t → Decides (readingAsked input t) (Readable limits s) Unreadable
   by-reading (reading.Rows n) e = record {
     yes = (λ h. record { rows = n; reads = e }, λ h. refl);
-    no = λ r. (λ h. absurd (clash r (sym h)), λ (q, f, is). absurd (let z : _≡_ {A = ℕ} 0 1 = cc in omega arith));
-  }
-  by-reading (reading.Failed q) e = record {
-    yes = (
-      λ h. absurd (clash (refusal q input) h),
-      λ h. let f = h .reads in absurd
+    no = λ r. (
+      λ h. absurd (clash r (sym h)),
+      λ (q, m, f, is). let fails = failed-field limits s q m .1 f in absurd
           (let z : _≡_ {A = ℕ} 0 1 = cc in omega arith),
     );
-    no = λ r. (
-      λ h. (q, e, cc),
-      λ (n, f, is). let same : reading.Failed n ≡ reading.Failed q = sym f
-          ∙ e in ap No (let z : n ≡ q = cc in rw (← z) (sym is)),
-    );
   }
+  by-reading (reading.Failed q n) e =
+      let here : FailsAt limits s q n = failed-field limits s q n .0 e in
+      record {
+        yes = (
+          λ h. absurd (clash (refusalAt q input n) h),
+          λ h. let f = h .reads in absurd
+              (let z : _≡_ {A = ℕ} 0 1 = cc in omega arith),
+        );
+        no = λ r. (
+          λ h. (q, n, here, cc),
+          λ (p, m, f, is). let (same, there) = failed-once limits s q n p m here f in
+              ap No (sym (rw (same, there) at is)),
+        );
+      }
 
   abbrev answerAsked : Answer → Asked
   answerAsked (answer.Rows n) = Yes
@@ -214,7 +220,7 @@ module _ (limits : Limits) (input : Input) (s : List ℕ) where
 
   by-answer : (t : Reading) (a : Answer) → answered input t ≡ a → readingAsked input t ≡ answerAsked a
   by-answer (reading.Rows n) a e = rw (← e)
-  by-answer (reading.Failed q) a e = rw (← e)
+  by-answer (reading.Failed q n) a e = rw (← e)
 
   pub read-decides : Decides (readAsked limits input s) (Readable limits s) Unreadable
   unfolding readAsked
@@ -275,14 +281,14 @@ module _ (P : Refusal → Type 0) where
       and-refuses (ask k) (askedFrom ask more (k + 1)) (h k (omega arith) (omega arith))
       (from-refuses ask more (k + 1) (λ j a b. h j (omega arith) (omega arith)))
 
-  pub read-refuses : (limits : Limits) (input : Input) (s : List ℕ) → ((q : ℕ) → 2 ≤ q → q ≤ 13 → P (refusal q input)) →
-      EveryRefusal (readAsked limits input s)
+  pub read-refuses : (limits : Limits) (input : Input) (s : List ℕ) →
+      ((q n : ℕ) → FailsAt limits s q n → P (refusalAt q input n)) → EveryRefusal (readAsked limits input s)
   unfolding readAsked
   read-refuses limits input s h = by (readingOf limits s) refl
     where
       by : (t : Reading) → readingOf limits s ≡ t → EveryRefusal (readingAsked input t)
       by (reading.Rows n) e = tt
-      by (reading.Failed q) e = let number = reading-number limits s q e in h q (number .least) (number .most)
+      by (reading.Failed q n) e = h q n (failed-field limits s q n .0 e)
 
   pub refuses-no : (a : Asked) → EveryRefusal a → (r : Refusal) → a ≡ No r → P r
   refuses-no a h r e = subst EveryRefusal e h

@@ -1,7 +1,9 @@
 -- What a readable picture holds, and that a file which holds it is readable.
 --   WellFormed                         m rows, each with its questions answered yes, and then the end field
 --   reading-formed, formed-reading     a file reads as m rows exactly when it is so formed
---   reading-number                     a refusal's number is from 2 to 13
+--   failed-field                       it fails at the field after n rows exactly if these pass and that is refused
+--   failed-once, failed-number         at one field, by one question, which is from 2 to 13
+--   failed-most, failed-inside         the rows before it are within the limits; it begins in the file or at its end
 --   scan-enough                        more fields to come than the limit allows change nothing
 --   answer-reading, reading-answer     which input it is changes nothing of that
 --   answer-most                        an answer's rows are within the limits
@@ -14,8 +16,8 @@
 --   readable-parent, readable-root-parent  11
 --   readable-depth, readable-depth-under   12
 --   readable-impossible                13
-use mathlib.Core.Logic.{_⊎_, ⊎-elim}
-use mathlib.Core.Path.{_≡_, refl, ap, sym, subst}
+use mathlib.Core.Logic.{_↔_, _⊎_, ⊎-elim}
+use mathlib.Core.Path.{_∙_, _≡_, refl, ap, sym, subst}
 use mathlib.Core.List.{List}
 use Prim.Native.Nat.{ℕ, zero, suc, _+_, _≤_, _<_}
 use native.Mathlib.Nat.{eq-or-lt-of-le}
@@ -34,82 +36,155 @@ use Rattle.picture.specs.declared.read.Reading.the-variants as reading
 use Rattle.picture.specs.Depth.{depth}
 use Rattle.picture.specs.Questions.{fieldAt}
 use Rattle.picture.specs.Read.{onField, scanFrom, readingOf, answered, answerOf}
-use Rattle.picture.specs.Readable.{Readable, rowCount}
+use Rattle.picture.specs.Readable.{FailsAt, Readable, rowCount}
 use Rattle.picture.proofs.Depths.{depth-under}
 use Rattle.picture.proofs.Scans.{rest-same}
 use Rattle.picture.proofs.Questions.{kind-root, kind-later, role-root, role-below, parent-root, parent-below, depth-most, impossible-most}
 use Rattle.picture.proofs.Fields.{RowOk, EndOk, Asked, row-ok, end-ok, ok-row, ok-end, field-number}
 
--- from row n on: rows to row m, and there the end field
-record FormedFrom (limits : Limits) (s : List ℕ) (n m : ℕ) : Type 0 where
+-- from row n on: rows to row m, and there a field that is no row, which makes the reading r
+record StopsFrom (limits : Limits) (s : List ℕ) (n m : ℕ) (f : Field) (r : Reading) : Type 0 where
   below : n ≤ m
   rows : (k : ℕ) → n ≤ k → k < m → RowOk limits s k
-  end : EndOk s m
+  field : fieldAt limits s m ≡ f
+  stops : (rest : Reading) → onField f m rest ≡ r
 
 pub record WellFormed (limits : Limits) (s : List ℕ) (m : ℕ) : Type 0 where
   pub rows : (k : ℕ) → k < m → RowOk limits s k
   pub end : EndOk s m
 
--- ---- a file that reads as rows is so formed
+-- ---- a reading stops at a field that is no row, and is what that field makes of it
 
 module _ (limits : Limits) (s : List ℕ) where
-  one-field : (f : Field) (n m : ℕ) (rest : Reading) → fieldAt limits s n ≡ f → onField f n rest ≡ reading.Rows m → (rest ≡ reading.Rows m → FormedFrom limits s (n + 1) m) → FormedFrom limits s n m
-  one-field (Row d) n m rest e h more =
-      let f = more h in
-      let here = row-ok limits s n d e .0 in
-      record {
-        below = omega (arith, f .below);
-        rows = λ k i j. ⊎-elim (λ z. subst (λ (x : ℕ). RowOk limits s x) z here) (λ l. f .rows k (omega arith) j) (eq-or-lt-of-le {n = n} {m = k} i);
-        end = f .end;
-      }
-  one-field End n m rest e h more =
-      let z : n ≡ m = cc in
-      record { below = omega arith; rows = λ k i j. absurd (omega arith); end = subst (λ (x : ℕ). EndOk s x) z (end-ok limits s n e) }
-  one-field (Bad q) n m rest e h more = absurd (let z : _≡_ {A = ℕ} 0 1 = cc in omega arith)
+  Stops : ℕ → Reading → Type 0
+  Stops n r = (m : ℕ) × (f : Field) × StopsFrom limits s n m f r
 
-  scan-formed : (left n m : ℕ) → scanFrom left limits s n ≡ reading.Rows m → FormedFrom limits s n m
+  -- by the field after n rows: there are more rows to come, or it stops here
+  one-field : (f : Field) (n : ℕ) (rest : Reading) → fieldAt limits s n ≡ f → (RowOk limits s n → Stops (n + 1) rest) →
+      Stops n (onField f n rest)
+  unfolding Stops
+  one-field (Row d) n rest e more =
+      let here = row-ok limits s n d e .0 in
+      let (m, f, after) = more here in (
+        m,
+        f,
+        record {
+          below = omega (arith, after .below);
+          rows = λ k i j. ⊎-elim (λ z. subst (λ (x : ℕ). RowOk limits s x) z here) (λ l. after .rows k (omega arith) j)
+              (eq-or-lt-of-le {n = n} {m = k} i);
+          field = after .field;
+          stops = after .stops;
+        },
+      )
+  one-field End n rest e more =
+      (n, End, record { below = omega arith; rows = λ k i j. absurd (omega arith); field = e; stops = λ any. refl })
+  one-field (Bad q) n rest e more =
+      (n, Bad q, record { below = omega arith; rows = λ k i j. absurd (omega arith); field = e; stops = λ any. refl })
+
+  scan-stops : (left n : ℕ) → n ≤ limits .rows → limits .rows < n + left → Stops n (scanFrom left limits s n)
   unfolding scanFrom
-  scan-formed zero n m h = absurd (let z : _≡_ {A = ℕ} 0 1 = cc in omega arith)
-  scan-formed (suc left) n m h = one-field (fieldAt limits s n) n m (scanFrom left limits s (n + 1)) refl h (λ r. scan-formed left (n + 1) m r)
+  scan-stops zero n few enough = absurd (omega arith)
+  scan-stops (suc left) n few enough =
+      one-field (fieldAt limits s n) n (scanFrom left limits s (n + 1)) refl
+      (λ row. scan-stops left (n + 1) (omega (arith, row .few)) (omega arith))
+
+  stops-scan : (left n m : ℕ) (f : Field) (r : Reading) → StopsFrom limits s n m f r → m < n + left →
+      scanFrom left limits s n ≡ r
+  unfolding scanFrom
+  stops-scan zero n m f r stop h = absurd (omega (arith, stop .below))
+  stops-scan (suc left) n m f r stop h =
+      ⊎-elim
+      (λ (z : n ≡ m). rw (z, stop .field) (stop .stops _))
+      (λ (l : n < m). rw (ok-row limits s n (stop .rows n (omega arith) l)) (stops-scan left (n + 1) m f r
+      (record {
+        below = omega arith;
+        rows = λ k i j. stop .rows k (omega arith) j;
+        field = stop .field;
+        stops = stop .stops;
+      })
+      (omega arith)))
+      (eq-or-lt-of-le {n = n} {m = m} (stop .below))
+
+  reading-stops : (r : Reading) → readingOf limits s ≡ r → Stops 0 r
+  unfolding readingOf
+  reading-stops r e = subst (Stops 0) e (scan-stops (suc (limits .rows)) 0 (omega arith) (omega arith))
+
+  rows-most : (m : ℕ) → ((k : ℕ) → k < m → RowOk limits s k) → m ≤ limits .rows
+  rows-most zero rows = omega arith
+  rows-most (suc m) rows = omega (arith, rows m (omega arith) .few)
+
+  stops-reading : (m : ℕ) (f : Field) (r : Reading) → ((k : ℕ) → k < m → RowOk limits s k) → fieldAt limits s m ≡ f →
+      ((rest : Reading) → onField f m rest ≡ r) → readingOf limits s ≡ r
+  unfolding readingOf
+  stops-reading m f r rows field stops =
+      stops-scan (suc (limits .rows)) 0 m f r
+      (record { below = omega arith; rows = λ k i j. rows k j; field = field; stops = stops })
+      (omega (arith, rows-most m rows))
+
+  -- ---- a file reads as m rows exactly when it is so formed
+
+  by-rows : (f : Field) (m n : ℕ) → ((rest : Reading) → onField f m rest ≡ reading.Rows n) → (f ≡ End) × (m ≡ n)
+  by-rows (Row d) m n stops = absurd (let e = stops (reading.Failed 0 0) in let z : _≡_ {A = ℕ} 0 1 = cc in omega arith)
+  by-rows End m n stops = (refl, (let e = stops (reading.Rows 0) in cc))
+  by-rows (Bad q) m n stops = absurd (let e = stops (reading.Rows 0) in let z : _≡_ {A = ℕ} 0 1 = cc in omega arith)
 
   pub reading-formed : (m : ℕ) → readingOf limits s ≡ reading.Rows m → WellFormed limits s m
-  unfolding readingOf
-  reading-formed m h = let f = scan-formed (suc (limits .rows)) 0 m h in record { rows = λ k j. f .rows k (omega arith) j; end = f .end }
-
-  -- ---- and a file that is so formed reads as its rows
-
-  formed-scan : (left n m : ℕ) → FormedFrom limits s n m → m < n + left → scanFrom left limits s n ≡ reading.Rows m
-  unfolding scanFrom
-  formed-scan zero n m f h = absurd (omega (arith, f .below))
-  formed-scan (suc left) n m f h =
-      ⊎-elim
-      (λ z. rw (ok-end limits s n (subst (λ (x : ℕ). EndOk s x) (sym z) (f .end)), z))
-      (λ l. rw (ok-row limits s n (f .rows n (omega arith) l)) (formed-scan left (n + 1) m (record { below = omega arith; rows = λ k i j. f .rows k (omega arith) j; end = f .end }) (omega arith)))
-      (eq-or-lt-of-le {n = n} {m = m} (f .below))
+  unfolding Stops
+  reading-formed m h =
+      let (k, f, stop) = reading-stops (reading.Rows m) h in
+      let (end, same) = by-rows f k m (stop .stops) in
+      subst (WellFormed limits s) same
+      (record { rows = λ j l. stop .rows j (omega arith) l; end = end-ok limits s k (stop .field ∙ end) })
 
   formed-most : (m : ℕ) → WellFormed limits s m → m ≤ limits .rows
-  formed-most zero f = omega arith
-  formed-most (suc m) f = omega (arith, f .rows m (omega arith) .few)
+  formed-most m f = rows-most m (f .rows)
 
   pub formed-reading : (m : ℕ) → WellFormed limits s m → readingOf limits s ≡ reading.Rows m
-  unfolding readingOf
-  formed-reading m f = formed-scan (suc (limits .rows)) 0 m (record { below = omega arith; rows = λ k i j. f .rows k j; end = f .end }) (omega (arith, formed-most m f))
+  formed-reading m f = stops-reading m End (reading.Rows m) (f .rows) (ok-end limits s m (f .end)) (λ rest. refl)
 
-  -- ---- a refusal's number, and that the fields left are always enough
+  -- ---- and fails at the field after n rows exactly if these pass and that is refused
 
-  number-at : (f : Field) (n q : ℕ) (rest : Reading) → fieldAt limits s n ≡ f → (rest ≡ reading.Failed q → Asked q) → onField f n rest ≡ reading.Failed q → Asked q
-  number-at (Row d) n q rest e more h = more h
-  number-at End n q rest e more h = absurd (let z : _≡_ {A = ℕ} 0 1 = cc in omega arith)
-  number-at (Bad p) n q rest e more h = let i : p ≡ q = cc in field-number limits s n q (rw i at e)
+  by-failed : (f : Field) (m q n : ℕ) → ((rest : Reading) → onField f m rest ≡ reading.Failed q n) →
+      (f ≡ Bad q) × (m ≡ n)
+  by-failed (Row d) m q n stops = absurd (let e = stops (reading.Rows 0) in let z : _≡_ {A = ℕ} 0 1 = cc in omega arith)
+  by-failed End m q n stops = absurd (let e = stops (reading.Rows 0) in let z : _≡_ {A = ℕ} 0 1 = cc in omega arith)
+  by-failed (Bad p) m q n stops = let e = stops (reading.Rows 0) in (ap Bad (let same : p ≡ q = cc in same), cc)
 
-  scan-number : (left n q : ℕ) → scanFrom left limits s n ≡ reading.Failed q → Asked q
-  unfolding scanFrom
-  scan-number zero n q h = let e : 5 ≡ q = cc in record { least = omega arith; most = omega arith }
-  scan-number (suc left) n q h = number-at (fieldAt limits s n) n q _ refl (λ r. scan-number left (n + 1) q r) h
+  failed-rows : (q n : ℕ) → FailsAt limits s q n → (k : ℕ) → k < n → RowOk limits s k
+  failed-rows q n f k l = let (d, e) = f .completed k l in row-ok limits s k d e .0
 
-  pub reading-number : (q : ℕ) → readingOf limits s ≡ reading.Failed q → Asked q
-  unfolding readingOf
-  reading-number q h = scan-number (suc (limits .rows)) 0 q h
+  pub failed-field : (q n : ℕ) → (readingOf limits s ≡ reading.Failed q n) ↔ FailsAt limits s q n
+  unfolding Stops
+  failed-field q n = (
+    λ h.
+        let (m, f, stop) = reading-stops (reading.Failed q n) h in
+        let (bad, same) = by-failed f m q n (stop .stops) in
+        subst (FailsAt limits s q) same
+        (record {
+          completed = λ k l. (_, ok-row limits s k (stop .rows k (omega arith) l));
+          meets = stop .field ∙ bad;
+        }),
+    λ f. stops-reading n (Bad q) (reading.Failed q n) (failed-rows q n f) (f .meets) (λ rest. refl),
+  )
+
+  -- there is one such field, and one question
+  pub failed-once : (q n p m : ℕ) → FailsAt limits s q n → FailsAt limits s p m → (p ≡ q) × (m ≡ n)
+  failed-once q n p m f g =
+      let same : reading.Failed p m ≡ reading.Failed q n = sym (failed-field p m .1 g) ∙ failed-field q n .1 f in
+      (cc, cc)
+
+  pub failed-number : (q n : ℕ) → FailsAt limits s q n → Asked q
+  failed-number q n f = field-number limits s n q (f .meets)
+
+  pub failed-most : (q n : ℕ) → FailsAt limits s q n → n ≤ limits .rows
+  failed-most q n f = rows-most n (failed-rows q n f)
+
+  -- the field begins in the file, or at its end
+  pub failed-inside : (q n : ℕ) → FailsAt limits s q n → place n 0 ≤ length s
+  failed-inside q zero f = omega arith
+  failed-inside q (suc n) f = omega (arith, failed-rows q (suc n) f n (omega arith) .whole)
+
+  -- ---- more fields to come than the limit allows change nothing
 
   pub scan-enough : (more left n : ℕ) → limits .rows ≤ n + left → scanFrom (suc (left + more)) limits s n ≡ scanFrom (suc left) limits s n
   unfolding scanFrom
@@ -122,7 +197,7 @@ module _ (limits : Limits) (s : List ℕ) where
 
   rows-answered : (input : Input) (r : Reading) (n : ℕ) → answered input r ≡ answer.Rows n → r ≡ reading.Rows n
   rows-answered input (reading.Rows m) n h = let e : m ≡ n = cc in ap reading.Rows e
-  rows-answered input (reading.Failed q) n h = absurd (let z : _≡_ {A = ℕ} 0 1 = cc in omega arith)
+  rows-answered input (reading.Failed q m) n h = absurd (let z : _≡_ {A = ℕ} 0 1 = cc in omega arith)
 
   pub answer-reading : (input : Input) (n : ℕ) → answerOf limits input s ≡ answer.Rows n → readingOf limits s ≡ reading.Rows n
   unfolding answerOf

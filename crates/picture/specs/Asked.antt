@@ -14,7 +14,7 @@ use mathlib.Core.List.{List}
 use Rattle.table.specs.Pick.{pick}
 use Rattle.table.specs.declared.layout.Limits.{Limits}
 use Rattle.picture.specs.Read.{readingOf}
-use Rattle.picture.specs.Refusal.{refusal, shortBuffer}
+use Rattle.picture.specs.Refusal.{refusalAt, shortBuffer}
 use Rattle.picture.specs.declared.answer.Asked.{Asked}
 use Rattle.picture.specs.declared.answer.Asked.the-variants.{No, Yes}
 use Rattle.picture.specs.declared.answer.Input.{Input}
@@ -38,7 +38,7 @@ roomAsked enough = asked enough shortBuffer
 
 abbrev pub readingAsked : Input → Reading → Asked
 readingAsked input (Rows n) = Yes
-readingAsked input (Failed q) = No (refusal q input)
+readingAsked input (Failed q n) = No (refusalAt q input n)
 
 unfoldable pub readAsked : Limits → Input → List ℕ → Asked
 readAsked limits input s = readingAsked input (readingOf limits s)

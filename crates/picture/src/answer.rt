@@ -1,6 +1,9 @@
 // What reading a picture answers, and the refusal of every call, which is made here.
+use table::layout::place;
 ghost use mathlib.Core.Path.{_≡_};
-ghost use Rattle.picture.specs.Refusal.{refusal, shortBuffer, tooMany};
+ghost use Prim.Native.Nat.{_≤_};
+ghost use Rattle.table.specs.Bounds.{maxRows};
+ghost use Rattle.picture.specs.Refusal.{refusal, refusalAt, shortBuffer, tooMany};
 
 // Which input a refusal concerns. A card book's cards are numbered from 0.
 pub enum Input {
@@ -12,10 +15,13 @@ pub enum Input {
     Card(u8),
 }
 
-// The number of the question that was answered no, and the input it concerns.
+// The number of the question that was answered no, and the input it concerns; where a field of a picture is refused (2
+// to 13), the rows before it and the byte where it begins, from the picture's first, else 0 and 0.
 pub struct Refusal {
     pub number: u8,
     pub input: Input,
+    pub row: u16,
+    pub byte: u16,
 }
 
 // Questions in their order: all answered yes, or the first that is answered no.
@@ -33,7 +39,26 @@ pub enum Answer {
 pub fn refuse(number: u8, input: Input) -> Refusal
     ensures { λ r. ⌜ r ≡ refusal number input ⌝ }
 {
-    Refusal { number, input }
+    Refusal {
+        number,
+        input,
+        row: 0,
+        byte: 0,
+    }
+}
+
+// The field after so many rows of a picture.
+pub fn refuse_at(number: u8, input: Input, row: usize) -> Refusal
+    requires { ⌜ row ≤ maxRows ⌝ }
+    ensures { λ r. ⌜ r ≡ refusalAt number input row ⌝ }
+{
+    let byte = place(row, 0);
+    Refusal {
+        number,
+        input,
+        row: row as u16,
+        byte: byte as u16,
+    }
 }
 
 // 1: a buffer lent for writing is shorter than the length named.

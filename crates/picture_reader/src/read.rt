@@ -2,7 +2,7 @@
 use crate::field::field_at;
 use picture::answer::Answer;
 use picture::answer::Input;
-use picture::answer::refuse;
+use picture::answer::refuse_at;
 use picture::field::Field;
 use picture::read::Reading;
 use table::layout::Limits;
@@ -24,7 +24,7 @@ fn close(field: Field, n: usize) -> Reading
     match field {
         Field::Row(_) => Reading::Rows(n),
         Field::End => Reading::Rows(n),
-        Field::Bad(number) => Reading::Failed(number),
+        Field::Bad(number) => Reading::Failed(number, n),
     }
 }
 
@@ -84,6 +84,6 @@ pub fn read(s: &[u8], limits: Limits, input: Input) -> Answer
 {
     match scan(s, limits) {
         Reading::Rows(n) => Answer::Rows(n),
-        Reading::Failed(number) => Answer::Refused(refuse(number, input)),
+        Reading::Failed(number, n) => Answer::Refused(refuse_at(number, input, n)),
     }
 }

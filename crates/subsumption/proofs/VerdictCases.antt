@@ -50,6 +50,10 @@ runAll (c ∷ cs) = ran c ∷ runAll cs
 abbrev refused : ℕ → Input → Verdict
 refused q input = Refused (refusal q input)
 
+-- at a field: the rows before it, and the byte where it begins
+abbrev refusedAt : ℕ → Input → ℕ → ℕ → Verdict
+refusedAt q input row byte = Refused (record { number = q; input = input; row = row; byte = byte })
+
 -- ---- pictures
 
 abbrev wanting : ℕ → List ℕ
@@ -158,6 +162,9 @@ cases =
     ∷ asked benchLimits badLength badTag 12294 46595 (refused 4 First)
     ∷ asked benchLimits badTag empty 12294 46595 (refused 3 First)
     ∷ asked benchLimits empty badLength 12294 46595 (refused 4 Second)
+    -- with the row and the byte of the one that is refused
+    ∷ asked benchLimits (root 0 ++ badLength) (root 0 ++ (someRow 0 8 0 ++ badTag)) 12294 46595 (refusedAt 4 First 1 24)
+    ∷ asked benchLimits (one 2) (root 0 ++ (someRow 0 8 0 ++ badTag)) 12294 46595 (refusedAt 3 Second 2 48)
     -- 14 of the first, 14 of the second, after both are read
     ∷ asked fourRows grows badTag 198 171 (refused 3 Second)
     ∷ asked fourRows badTag grows 198 171 (refused 3 First)

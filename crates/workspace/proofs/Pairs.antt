@@ -5,7 +5,6 @@
 --   lent-decides                  the questions after 1
 --   lent-short, lent-pair         1 is answered no; it is answered yes
 use Prim.Native.Nat.{_≤_, ℕ}
-use native.Mathlib.Omega.{arith}
 use mathlib.Core.Bool.{Bool, false, true}
 use mathlib.Core.List.{List}
 use mathlib.Core.Logic.{_⊎_, inl}
@@ -14,13 +13,13 @@ use Rattle.table.specs.declared.layout.Limits.{Limits}
 use Rattle.picture.proofs.Orders.{Decides, EveryRefusal, Unreadable, and-decides, and-refuses, asked-decides, asked-refuses, read-decides, read-refuses, said-so}
 use Rattle.picture.specs.Asked.{andThen, readAsked, roomAsked}
 use Rattle.picture.specs.Readable.{Readable}
-use Rattle.picture.specs.Refusal.{refusal, shortBuffer}
+use Rattle.picture.specs.Refusal.{shortBuffer}
 use Rattle.picture.specs.declared.answer.Asked.{Asked}
 use Rattle.picture.specs.declared.answer.Asked.the-variants.{No, Yes}
 use Rattle.picture.specs.declared.answer.Input.the-variants.{First, Second}
 use Rattle.picture.specs.declared.answer.Refusal.{Refusal}
 use Rattle.meaning.specs.NormalTable.{mergedCount}
-use Rattle.normal.proofs.Answers.{TooMany, merged-decides, merged-refuses}
+use Rattle.normal.proofs.Answers.{OfPicture, TooMany, merged-decides, merged-refuses}
 use Rattle.normal.specs.Call.{mergedAsked}
 use Rattle.workspace.specs.Lent.{lentAsked}
 use Rattle.workspace.specs.Prepare.{Acceptable, pairAsked}
@@ -73,20 +72,20 @@ module _ (limits : Limits) (first second : List ℕ) where
     lent-pair e = rw e
 
   -- the numbers are 2 to 14, of the first and of the second
-  module _ (P : Refusal → Type 0) (named : (q : ℕ) → 2 ≤ q → q ≤ 14 → P (refusal q First)) (named-second : (q : ℕ) →
-      2 ≤ q → q ≤ 14 → P (refusal q Second)) where
+  module _ (P : Refusal → Type 0) (of-first : OfPicture limits First first P)
+      (of-second : OfPicture limits Second second P) where
     pub pair-refuses : EveryRefusal P (pairAsked limits first second)
     unfolding pairAsked
     pair-refuses =
         let read = readAsked limits First first in
         let read-second = readAsked limits Second second in
         and-refuses P read (andThen read-second merged)
-        (read-refuses P limits First first (λ q a b. named q a (omega arith)))
+        (read-refuses P limits First first (of-first .reads))
         (and-refuses P read-second merged
-        (read-refuses P limits Second second (λ q a b. named-second q a (omega arith)))
+        (read-refuses P limits Second second (of-second .reads))
         (and-refuses P (mergedAsked limits First first) (mergedAsked limits Second second)
-        (merged-refuses limits First first P (named 14 (omega arith) (omega arith)))
-        (merged-refuses limits Second second P (named-second 14 (omega arith) (omega arith)))))
+        (merged-refuses limits First first P (of-first .merges))
+        (merged-refuses limits Second second P (of-second .merges))))
 
     pub lent-refuses : P shortBuffer → (enough : Bool) → EveryRefusal P (lentAsked limits enough first second)
     unfolding lentAsked

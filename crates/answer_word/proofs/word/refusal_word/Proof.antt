@@ -33,6 +33,21 @@ mul-result-3 c = search needs
 add-result-2 : tie.Need-add-result-2
 add-result-2 c = search needs
 
+cast-result-4 : tie.Need-cast-result-4
+cast-result-4 c = search needs
+
+mul-result-4 : tie.Need-mul-result-4
+mul-result-4 c = search needs
+
+add-result-3 : tie.Need-add-result-3
+add-result-3 c = search needs
+
+cast-result-5 : tie.Need-cast-result-5
+cast-result-5 c = search needs
+
+add-result-4 : tie.Need-add-result-4
+add-result-4 c = search needs
+
 returns : tie.Need-returns
 returns c = search needs
 
@@ -50,4 +65,9 @@ refusal-word-spec =
     cast-result-3
     mul-result-3
     add-result-2
+    cast-result-4
+    mul-result-4
+    add-result-3
+    cast-result-5
+    add-result-4
     returns)
