@@ -1,4 +1,5 @@
 -- The laws of what the verdict program prints, by subject.
+pub mod CasesPrinted
 pub mod Decimals
 pub mod Gatherings
 pub mod MapLines

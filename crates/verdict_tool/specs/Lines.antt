@@ -71,7 +71,7 @@ refusalLine input question row byte = refusedInput input ++ number question " " 
 unfoldable pub output : Verdict → List ℕ → List ℕ
 output (Yes n) e = text "verdict yes\n" ++ mapLines e (mapRows n)
 output (No n) e = text "verdict no\n"
-output (Refused r) e = refusalLine (r .input) (r .number) 0 0
+output (Refused r) e = refusalLine (r .input) (r .number) (r .row) (r .byte)
 
 unfoldable pub printed : List ℕ → List ℕ → List ℕ
 printed first second =

@@ -82,7 +82,7 @@ pub fn gather(verdict: Verdict, result: &[u8], out: &mut [u8]) -> usize
         Verdict::No(_) => put_text(out, 0, b"verdict no\n"),
         Verdict::Refused(refusal) => {
             let input = refusal.input;
-            put_refusal(out, input, refusal.number, 0, 0)
+            put_refusal(out, input, refusal.number, refusal.row, refusal.byte)
         }
     }
 }
