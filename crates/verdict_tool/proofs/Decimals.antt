@@ -1,13 +1,12 @@
 -- Laws of decimal numbers.
 --   decimal-digits   the fewest digits that hold a number of 64 bits are its decimal digits
 --   decimal-short    a number below 10 ^ k has at most k of them, and 0 has one
-use Prim.Native.Nat.{_%_, _+_, _-_, _/_, _<_, _^_, _≤_, suc, zero, ℕ}
-use borrow.Author.Tests.{le-ltb, lt-ltb, ltb-false, ltb-true}
+use Prim.Native.Nat.{_%_, _-_, _/_, _<_, _^_, _≤_, suc, zero, ℕ}
+use borrow.Author.Tests.{le-ltb, lt-ltb}
 use lib.Dec.{ltb}
 use lib.ListN.{length, length-append}
 use mathlib.Core.Bool.{false, true}
-use mathlib.Core.List.{List, [], _++_, _∷_}
-use mathlib.Core.Path.{_∙_, _≡_, ap, refl}
+use mathlib.Core.Path.{_≡_, ap}
 use native.Mathlib.Nat.{one-le-pow, pow-le-pow-right, pow-suc}
 use native.Mathlib.Omega.{arith}
 use Rattle.io.specs.Digits.{Fewest, digits, glyph}

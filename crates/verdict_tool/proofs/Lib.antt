@@ -3,4 +3,5 @@ pub mod CasesPrinted
 pub mod Decimals
 pub mod Gatherings
 pub mod MapLines
+pub mod RefusedInputs
 pub mod Verdicts

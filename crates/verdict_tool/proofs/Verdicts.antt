@@ -1,11 +1,11 @@
 -- What the call leaves is what the lines are made of.
 --   image-front   the images of a map that stands at a buffer's start are its images
 --   call-lines    where the verdict is yes the result buffer begins with a map; the lines are those of the two files
-use Prim.Native.Nat.{_+_, _<_, _≤_, ℕ}
+use Prim.Native.Nat.{_+_, _≤_, ℕ}
 use lib.ListN.{getD, length}
 use mathlib.Core.Bool.{true}
 use mathlib.Core.List.{List, _++_}
-use mathlib.Core.Path.{_∙_, _≡_, ap, refl, subst, sym}
+use mathlib.Core.Path.{_∙_, _≡_, ap, refl, subst}
 use native.Mathlib.Omega.{arith}
 use Rattle.ale.specs.PictureSignature.{pictureSignature}
 use Rattle.ale.specs.RowMap.{image}
@@ -13,7 +13,7 @@ use Rattle.ale.specs.Table.{Table}
 use Rattle.evidence.proofs.NormalTables.{normal-rows}
 use Rattle.homomorphism.proofs.MapFiles.{length-mapFile}
 use Rattle.homomorphism.specs.Layout.{imageOf, imagePlace}
-use Rattle.homomorphism.specs.Map.{lowestMap, mapFile}
+use Rattle.homomorphism.specs.Map.{lowestMap}
 use Rattle.meaning.proofs.Normals.{normal-count}
 use Rattle.meaning.specs.Meaning.{pictureTable}
 use Rattle.meaning.specs.NormalTable.{mergedCount, normalFile}
@@ -36,7 +36,7 @@ use Rattle.table.specs.declared.layout.Limits.{Limits}
 use Rattle.workspace.proofs.Lendings.{two-decides}
 use Rattle.workspace.specs.Prepare.{Acceptable, workSize}
 use Rattle.verdict_tool.specs.Gathering.{MapIn, Told}
-use Rattle.verdict_tool.specs.Lines.{mapLines, mapRows, output, printed, text}
+use Rattle.verdict_tool.specs.Lines.{mapRows, output, printed, text}
 use Rattle.verdict_tool.proofs.MapLines.{lines-same}
 
 pub image-front : (d e : List ℕ) (i : ℕ) → imagePlace i + numberSize ≤ length e → imageOf (put d 0 e) i ≡ imageOf e i

@@ -1,6 +1,6 @@
 -- 01, the verdict program, and 02, U1, "refusal line ends with row, then byte": what it prints, byte by byte. Every
 -- line ends with a newline.
---   text          the characters of a text, in ASCII
+--   text          a text as bytes, in ASCII
 --   digit         a digit
 --   digitsUpTo    the digits of a number below 10 ^ k, without zeros in front; 0 has one
 --   decimal       those of a number below 10 ^ 20, so of each that the code can hold
@@ -8,7 +8,7 @@
 --   mapRows       the rows that a map of n bytes has an image for
 --   mapLine       a row of the second normal table, and its image
 --   mapLines      those of the rows below n
---   refusedInput  which picture is refused; no other input is
+--   refusedInput  which picture is refused; no other input is (proofs/RefusedInputs: `refused-named`)
 --   refusalLine   that, the number of the question, the row and the byte
 --   output        the lines of a verdict, whose evidence is e
 --   printed       those of two files

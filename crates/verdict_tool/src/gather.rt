@@ -46,6 +46,7 @@ fn put_map(out: &mut [u8], at: usize, e: &[u8], n: usize) -> usize
     end
 }
 
+// Which picture is refused.
 fn put_input(out: &mut [u8], input: Input) -> usize
     requires { ⌜ outputSize ≤ length (now out) ⌝ }
     ensures { λ r. ⌜ Added (now (out .entry)) 0 (refusedInput input) r (now (out .exit)) ⌝ }

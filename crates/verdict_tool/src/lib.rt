@@ -27,7 +27,7 @@ const WORK: usize = 2 * (ROW_SIZE * MAX_ROWS + END_SIZE);
 // That for a result buffer: the longest refutation, which is longer than any map.
 const RESULT: usize = INDIVIDUAL_SIZE * MAX_INDIVIDUALS + END_SIZE;
 
-// The lines on two pictures, at the start of a buffer, with a work space and a result buffer; their length.
+// Puts the lines on two pictures at the start of a buffer; their length. It is lent a work space and a result buffer.
 fn answer(first: &[u8], second: &[u8], work: &mut [u8], result: &mut [u8], out: &mut [u8]) -> usize
     requires { ⌜ Lengths (length (now work)) (length (now result)) (length (now out)) ⌝ }
     ensures { λ r. ⌜ Front (now (out .exit)) (printed (now (first .entry)) (now (second .entry))) r ⌝ }
@@ -36,6 +36,7 @@ fn answer(first: &[u8], second: &[u8], work: &mut [u8], result: &mut [u8], out: 
     gather(verdict, result, out)
 }
 
+// The same, with a work space and a result buffer of its own.
 fn decide(first: &[u8], second: &[u8], out: &mut [u8]) -> usize
     requires { ⌜ outputSize ≤ length (now out) ⌝ }
     ensures { λ r. ⌜ Front (now (out .exit)) (printed (now (first .entry)) (now (second .entry))) r ⌝ }
@@ -45,7 +46,7 @@ fn decide(first: &[u8], second: &[u8], out: &mut [u8]) -> usize
     answer(first, second, &mut work, &mut result, out)
 }
 
-// Of the files with these names.
+// Prints the lines on the files with these names, by one write.
 pub fn run(first_name: &[u8], second_name: &[u8]) {
     let mut first = [0u8; PICTURE];
     let n = load(first_name, &mut first);

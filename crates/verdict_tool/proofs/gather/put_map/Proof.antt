@@ -1,6 +1,6 @@
 -- At the loop's head the lines of the rows before this one stand in the buffer; there is room for all. The measure is
 -- the number of rows to come.
-use Prim.Native.Nat.{_-_, _≤_, ℕ}
+use Prim.Native.Nat.{_-_, _≤_}
 use borrow.Author.Needs.{needs}
 use denote.Ref.{now}
 use lib.ListN.{length}
@@ -8,7 +8,7 @@ use mathlib.Core.Path.{_≡_, refl, subst}
 use native.Mathlib.Omega.{arith}
 use Rattle.homomorphism.specs.Layout.{imageOf}
 use Rattle.verdict_tool.specs.Gathering.{Added}
-use Rattle.verdict_tool.specs.Lines.{mapLine, mapLines, mapRows}
+use Rattle.verdict_tool.specs.Lines.{mapLines, mapRows}
 use Rattle.verdict_tool.proofs.Gatherings.{added-none}
 use Rattle.verdict_tool.proofs.MapLines.{lines-turn, lines-within}
 use Rattle.verdict_tool.proofs.gather.put_map.Statement.{statement}
