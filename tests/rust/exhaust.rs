@@ -1,5 +1,5 @@
-//! Comparisons that leave nothing out: every truncation of files and of cards, buffers of every sort, every refusal of a
-//! picture at every row, and each with every other.
+//! Comparisons that leave nothing out: every truncation of files and of cards, buffers of every sort, every refusal of
+//! a picture at every row, and of one picture with that of another.
 
 use super::book;
 use super::both::{Both, Words};

@@ -1,8 +1,8 @@
 //! The library and the reference agree on pairs of pictures, and on cases with books, made at random: on the words, on
 //! every byte of the buffers lent, and on evidence, whole and damaged. Which refutation is written is the library's
 //! choice; whichever it is, both checks take it. Before that they agree on inputs made by hand: on every truncation of
-//! their files, on buffers of every sort, and on every refusal at every row. Each refusal that a call can give has to be
-//! met, at each row that it can name, and no other.
+//! their files, on buffers of every sort, and on every refusal at every row. Each refusal that a call can give has to
+//! be met, at each row that it can name, and no other.
 //!
 //!     random [--seed S] [--seconds N]
 //!
