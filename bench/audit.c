@@ -180,7 +180,7 @@ static uint64_t refusal(unsigned int input, unsigned int question)
     return (uint64_t)question << ZUVAROPY_QUESTION_SHIFT | (uint64_t)input << ZUVAROPY_INPUT_SHIFT;
 }
 
-/* A refusal of the only picture as one of the second: what else it says stays. */
+/* A refusal of the first picture as one of the second, at the same place. */
 static uint64_t of_second(uint64_t word)
 {
     return word + ((uint64_t)(ZUVAROPY_INPUT_SECOND - ZUVAROPY_INPUT_FIRST) << ZUVAROPY_INPUT_SHIFT);

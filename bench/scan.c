@@ -2,11 +2,10 @@
 
 #include "zuvaropy.h"
 
-/* With the row and the byte where its field begins. */
 static uint64_t refusal(unsigned int question, unsigned int row)
 {
     return (uint64_t)question << ZUVAROPY_QUESTION_SHIFT | (uint64_t)ZUVAROPY_INPUT_FIRST << ZUVAROPY_INPUT_SHIFT |
-           (uint64_t)row << 16 | row * ZUVAROPY_ROW_BYTES;
+           (uint64_t)row << ZUVAROPY_ROW_SHIFT | (uint64_t)row * ZUVAROPY_ROW_BYTES << ZUVAROPY_BYTE_SHIFT;
 }
 
 static unsigned int number(const uint8_t *two_bytes)
