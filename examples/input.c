@@ -26,12 +26,6 @@ unsigned int input_number(const uint8_t *bytes)
     return bytes[0] * 256u + bytes[1];
 }
 
-/* Does a refusal by this question say where in the picture? */
-static int has_place(unsigned int question)
-{
-    return question >= ZUVAROPY_QUESTION_HEAD && question <= ZUVAROPY_QUESTION_IMPOSSIBLE;
-}
-
 void input_print_refusal(uint64_t word)
 {
     const unsigned int question = zuvaropy_question(word), input = zuvaropy_input(word);
@@ -39,7 +33,7 @@ void input_print_refusal(uint64_t word)
     printf("refused %u, %s", question, zuvaropy_input_text(input));
     if (input == ZUVAROPY_INPUT_CARD)
         printf(" %u", zuvaropy_card(word));
-    if (has_place(question))
+    if (zuvaropy_has_place(word))
         printf(", row %u, byte %u", zuvaropy_row(word), zuvaropy_byte(word));
     printf(": %s\n", zuvaropy_question_text(question));
 }

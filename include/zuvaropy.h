@@ -208,7 +208,7 @@ extern "C" {
  * Asked of a picture: field by field, those of one field in the order of their
  * numbers; 5 and 9 to 13 of a row, 7 and 8 of the end field. In row 0 the parent
  * (11) has to be 0. These refusals, and no others, say at which field: see
- * zuvaropy_row and zuvaropy_byte.
+ * zuvaropy_has_place, zuvaropy_row and zuvaropy_byte.
  */
 #define ZUVAROPY_QUESTION_HEAD         2  /* are the three bytes of the head there? */
 #define ZUVAROPY_QUESTION_TAG          3  /* is the tag that of a row or of the end? */
@@ -305,13 +305,20 @@ static inline unsigned int zuvaropy_card(uint64_t word)
     return (unsigned int)(word >> ZUVAROPY_CARD_SHIFT & 0xFFu);
 }
 
-/* Of a refusal by question 2 to 13: the row being read, that is, how many were completed. */
+/* Does the word say at which row and byte? Not 0 of a refusal by question 2 to 13, else 0. */
+static inline int zuvaropy_has_place(uint64_t word)
+{
+    return zuvaropy_outcome(word) == ZUVAROPY_OUTCOME_REFUSAL && zuvaropy_question(word) >= ZUVAROPY_QUESTION_HEAD &&
+           zuvaropy_question(word) <= ZUVAROPY_QUESTION_IMPOSSIBLE;
+}
+
+/* Of a refusal that has a place: the row being read, that is, how many were completed. */
 static inline unsigned int zuvaropy_row(uint64_t word)
 {
     return (unsigned int)(word >> ZUVAROPY_ROW_SHIFT & 0xFFFFu);
 }
 
-/* Of a refusal by question 2 to 13: where the field of that row begins, from the picture's first byte. */
+/* Of a refusal that has a place: where the field of that row begins, from the picture's first byte. */
 static inline unsigned int zuvaropy_byte(uint64_t word)
 {
     return (unsigned int)(word >> ZUVAROPY_BYTE_SHIFT & 0xFFFFu);
@@ -432,8 +439,8 @@ static inline uint8_t *zuvaropy_lent_writable(uint8_t *buffer)
  *          input ZUVAROPY_INPUT_FIRST, with row and byte.
  *
  * Any bytes of any length may be given. An empty buffer is refused by
- * ZUVAROPY_QUESTION_HEAD, row 0, byte 0. The call takes at most ZUVAROPY_VALIDATE_STACK_BYTES
- * of stack.
+ * ZUVAROPY_QUESTION_HEAD, row 0, byte 0. The call takes at most
+ * ZUVAROPY_VALIDATE_STACK_BYTES of stack.
  */
 uint64_t zuvaropy_validate(const uint8_t *picture, size_t picture_len);
 #define zuvaropy_validate(picture, picture_len) \

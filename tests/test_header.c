@@ -155,6 +155,22 @@ static void test_word(void)
     CHECK(second_unit_question(word) == 0x34);
 }
 
+/* A refusal by 2 to 13 has a place, by any other question not, and an answer has none. */
+static void test_has_place(void)
+{
+    uint64_t question;
+
+    for (question = 0; question <= 255; question++) {
+        const uint64_t refusal = question << ZUVAROPY_QUESTION_SHIFT;
+        const uint64_t yes = (uint64_t)ZUVAROPY_OUTCOME_YES << ZUVAROPY_OUTCOME_SHIFT;
+        const uint64_t no = (uint64_t)ZUVAROPY_OUTCOME_NO << ZUVAROPY_OUTCOME_SHIFT;
+
+        CHECK((zuvaropy_has_place(refusal) != 0) == (question >= 2 && question <= 13));
+        CHECK(zuvaropy_has_place(yes | refusal) == 0);
+        CHECK(zuvaropy_has_place(no | refusal) == 0);
+    }
+}
+
 static void test_shifts(void)
 {
     CHECK(ZUVAROPY_OUTCOME_SHIFT == 56);
@@ -435,6 +451,7 @@ int main(void)
     test_codes();
     test_questions();
     test_word();
+    test_has_place();
     test_shifts();
     test_texts();
     test_numbers_in_texts();

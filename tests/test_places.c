@@ -30,6 +30,7 @@ static void check_place(uint64_t word, const struct place *place, unsigned int i
     CHECK_WORD(zuvaropy_row(word), place->row, at);
     CHECK_WORD(zuvaropy_byte(word), place->byte, at);
     CHECK_WORD(zuvaropy_value(word), 0, at);
+    CHECK((zuvaropy_has_place(word) != 0) == (place->question >= 2 && place->question <= 13));
 }
 
 /* The calls on two pictures. The evidence of the last is refused after both. */
