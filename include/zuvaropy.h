@@ -34,8 +34,8 @@ extern "C" {
  * header has to be compiled again, the minor one when something is added.
  */
 
-#define ZUVAROPY_VERSION_MAJOR  1
-#define ZUVAROPY_VERSION_MINOR  1
+#define ZUVAROPY_VERSION_MAJOR  2
+#define ZUVAROPY_VERSION_MINOR  0
 #define ZUVAROPY_VERSION_PATCH  0
 
 /*
