@@ -180,6 +180,12 @@ static uint64_t refusal(unsigned int input, unsigned int question)
     return (uint64_t)question << ZUVAROPY_QUESTION_SHIFT | (uint64_t)input << ZUVAROPY_INPUT_SHIFT;
 }
 
+/* A refusal of the first picture as one of the second, at the same place. */
+static uint64_t of_second(uint64_t word)
+{
+    return word + ((uint64_t)(ZUVAROPY_INPUT_SECOND - ZUVAROPY_INPUT_FIRST) << ZUVAROPY_INPUT_SHIFT);
+}
+
 static uint64_t answer(unsigned int outcome, unsigned int question)
 {
     return question == 0 ? (uint64_t)outcome << ZUVAROPY_OUTCOME_SHIFT : refusal(ZUVAROPY_INPUT_EVIDENCE, question);
@@ -217,7 +223,7 @@ uint64_t audit_verify(const uint8_t *first, size_t first_len, const uint8_t *sec
         return first_word;
     second_word = scan_validate(second, second_len);
     if (zuvaropy_outcome(second_word) == ZUVAROPY_OUTCOME_REFUSAL)
-        return refusal(ZUVAROPY_INPUT_SECOND, zuvaropy_question(second_word));
+        return of_second(second_word);
 
     /* The first waits until the second is seen to have a table too: a refusal writes nothing. */
     first_size = merge_table(first, zuvaropy_value(first_word), table);

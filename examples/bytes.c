@@ -4,7 +4,8 @@
  *
  *   bytes
  *
- * Prints "a picture of N rows", or which question refused it, and then exits 1.
+ * Prints "a picture of N rows", or which question refused it and where, and then
+ * exits 1.
  */
 
 #include "zuvaropy.h"
@@ -28,7 +29,8 @@ int main(void)
     uint64_t word = zuvaropy_validate(picture, sizeof picture);
 
     if (zuvaropy_outcome(word) == ZUVAROPY_OUTCOME_REFUSAL) {
-        printf("refused by question %u\n", zuvaropy_question(word));
+        printf("refused %u, row %u, byte %u: %s\n", zuvaropy_question(word), zuvaropy_row(word), zuvaropy_byte(word),
+               zuvaropy_question_text(zuvaropy_question(word)));
         return 1;
     }
     printf("a picture of %" PRIu32 " rows\n", zuvaropy_value(word));

@@ -7,8 +7,8 @@
  * Prints a line for each card: whether it is one of them or else whether it
  * subsumes the case, with the evidence of zuvaropy_subsumes and whether
  * zuvaropy_verify takes it. Of those that are, also each row of the card's normal
- * table and the row of the case's that it goes to. Or "refused WHICH N": which
- * input was refused, and by which question. Exits 1 if a file cannot be read or
+ * table and the row of the case's that it goes to. Or "refused N, ..": which
+ * question refused which input, and where. Exits 1 if a file cannot be read or
  * evidence is not taken.
  */
 
@@ -101,7 +101,7 @@ int main(int argc, char **argv)
         return 1;
     word = zuvaropy_most_specific(case_picture.bytes, case_picture.length, book, book_length, work, sizeof work);
     if (zuvaropy_outcome(word) == ZUVAROPY_OUTCOME_REFUSAL) {
-        input_print_refused(word);
+        input_print_refusal(word);
         return 0;
     }
     return explain_cards(&case_picture, book, zuvaropy_value(word)) != 0;

@@ -17,11 +17,8 @@ int input_read(const char *name, uint8_t *bytes, size_t room, size_t *length);
 /* A number of two bytes, the high byte first. */
 unsigned int input_number(const uint8_t *bytes);
 
-/* A line that says which question about a file was answered no. */
-void input_print_refusal(const char *name, uint64_t word);
-
-/* A line "refused WHICH N": which input was refused, and by which question. A
- * card is "card" and its number. */
-void input_print_refused(uint64_t word);
+/* A line that says which question refused which input and where, in words, such as
+ * "refused 11, card 4, row 3, byte 72: is the parent below the row's number?". */
+void input_print_refusal(uint64_t word);
 
 #endif

@@ -4,8 +4,8 @@
  *
  *   lcs FIRST SECOND
  *
- * Prints "a common picture of N rows" and the rows, or "refused WHICH N": which
- * input was refused, and by which question. Exits 1 if a file cannot be read.
+ * Prints "a common picture of N rows" and the rows, or "refused N, ..": which
+ * question refused which input, and where. Exits 1 if a file cannot be read.
  */
 
 #include "input.h"
@@ -37,7 +37,7 @@ int main(int argc, char **argv)
         return 1;
     word = zuvaropy_lcs(first, first_length, second, second_length, work, sizeof work, common, sizeof common);
     if (zuvaropy_outcome(word) == ZUVAROPY_OUTCOME_REFUSAL)
-        input_print_refused(word);
+        input_print_refusal(word);
     else
         print_common(common, zuvaropy_value(word));
     return 0;

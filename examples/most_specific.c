@@ -3,8 +3,8 @@
  *
  *   most_specific CASE BOOK
  *
- * Prints "no card", or "card" or "cards" and their numbers, or "refused WHICH N":
- * which input was refused, and by which question. Exits 1 if a file cannot be
+ * Prints "no card", or "card" or "cards" and their numbers, or "refused N, ..":
+ * which question refused which input, and where. Exits 1 if a file cannot be
  * read.
  */
 
@@ -41,7 +41,7 @@ int main(int argc, char **argv)
         return 1;
     word = zuvaropy_most_specific(case_picture, case_length, book, book_length, work, sizeof work);
     if (zuvaropy_outcome(word) == ZUVAROPY_OUTCOME_REFUSAL)
-        input_print_refused(word);
+        input_print_refusal(word);
     else
         print_cards(zuvaropy_value(word));
     return 0;

@@ -12,11 +12,11 @@
 
 #include <stdio.h>
 
-static void print_table(const char *name, const uint8_t *table, size_t length)
+static void print_table(const uint8_t *table, size_t length)
 {
     const unsigned int rows = (unsigned int)(length / ZUVAROPY_ROW_BYTES);
 
-    printf("%s: normal table of %u row%s\n", name, rows, rows == 1 ? "" : "s");
+    printf("normal table of %u row%s\n", rows, rows == 1 ? "" : "s");
     rows_print(table, rows);
 }
 
@@ -30,10 +30,11 @@ static int normalize_file(const char *name)
     if (input_read(name, picture, sizeof picture, &length) != 0)
         return -1;
     word = zuvaropy_normalize(picture, length, table, sizeof table);
+    printf("%s: ", name);
     if (zuvaropy_outcome(word) == ZUVAROPY_OUTCOME_REFUSAL)
-        input_print_refusal(name, word);
+        input_print_refusal(word);
     else
-        print_table(name, table, zuvaropy_value(word));
+        print_table(table, zuvaropy_value(word));
     return 0;
 }
 

@@ -5,8 +5,8 @@
  *   subsumes FIRST SECOND EVIDENCE
  *
  * Prints "yes, a map of N rows" and each row with its image, "no, a refutation
- * of N individuals", or "refused WHICH N": which input was refused, and by which
- * question. A refusal leaves the file empty. Exits 1 if a file cannot be read or
+ * of N individuals", or "refused N, ..": which question refused which input, and
+ * where. A refusal leaves the file empty. Exits 1 if a file cannot be read or
  * written.
  */
 
@@ -28,7 +28,7 @@ static void print_images(unsigned int rows)
 static void print_word(uint64_t word)
 {
     if (zuvaropy_outcome(word) == ZUVAROPY_OUTCOME_REFUSAL) {
-        input_print_refused(word);
+        input_print_refusal(word);
         return;
     }
     printf(zuvaropy_outcome(word) == ZUVAROPY_OUTCOME_YES ? "yes, " : "no, ");

@@ -10,14 +10,14 @@
 
 #include <stdio.h>
 
-static void print_word(const char *name, uint64_t word)
+static void print_word(uint64_t word)
 {
     const unsigned int rows = zuvaropy_value(word);
 
     if (zuvaropy_outcome(word) == ZUVAROPY_OUTCOME_REFUSAL)
-        input_print_refusal(name, word);
+        input_print_refusal(word);
     else
-        printf("%s: a picture of %u row%s\n", name, rows, rows == 1 ? "" : "s");
+        printf("a picture of %u row%s\n", rows, rows == 1 ? "" : "s");
 }
 
 /* 0, or -1 if the file cannot be read. */
@@ -28,7 +28,8 @@ static int validate_file(const char *name)
 
     if (input_read(name, picture, sizeof picture, &length) != 0)
         return -1;
-    print_word(name, zuvaropy_validate(picture, length));
+    printf("%s: ", name);
+    print_word(zuvaropy_validate(picture, length));
     return 0;
 }
 

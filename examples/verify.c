@@ -4,8 +4,8 @@
  *
  *   verify FIRST SECOND EVIDENCE
  *
- * Prints "map taken", "refutation taken" or "refused WHICH N": which input was
- * refused, and by which question. Exits 1 if a file cannot be read.
+ * Prints "map taken", "refutation taken" or "refused N, ..": which question
+ * refused which input, and where. Exits 1 if a file cannot be read.
  */
 
 #include "input.h"
@@ -22,7 +22,7 @@ static void print_word(uint64_t word)
         printf("refutation taken\n");
         break;
     default:
-        input_print_refused(word);
+        input_print_refusal(word);
     }
 }
 

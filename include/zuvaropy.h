@@ -34,7 +34,7 @@ extern "C" {
  * header has to be compiled again, the minor one when something is added.
  */
 
-#define ZUVAROPY_VERSION_MAJOR  1
+#define ZUVAROPY_VERSION_MAJOR  2
 #define ZUVAROPY_VERSION_MINOR  0
 #define ZUVAROPY_VERSION_PATCH  0
 
@@ -197,7 +197,8 @@ extern "C" {
 #define ZUVAROPY_INPUT_CARD      5  /* a card of the book */
 
 /*
- * Questions. The first one whose answer is no refuses the input.
+ * Questions. The first one whose answer is no refuses the input. Each stands here
+ * as zuvaropy_question_text says it.
  */
 
 /* Asked before anything else is looked at. */
@@ -205,41 +206,43 @@ extern "C" {
 
 /*
  * Asked of a picture: field by field, those of one field in the order of their
- * numbers.
+ * numbers; 5 and 9 to 13 of a row, 7 and 8 of the end field. In row 0 the parent
+ * (11) has to be 0. These refusals, and no others, say at which field: see
+ * zuvaropy_has_place, zuvaropy_row and zuvaropy_byte.
  */
-#define ZUVAROPY_QUESTION_HEAD         2  /* are the bytes of the head there? */
+#define ZUVAROPY_QUESTION_HEAD         2  /* are the three bytes of the head there? */
 #define ZUVAROPY_QUESTION_TAG          3  /* is the tag that of a row or of the end? */
 #define ZUVAROPY_QUESTION_LENGTH       4  /* is the length the one that goes with the tag? */
-#define ZUVAROPY_QUESTION_ROWS         5  /* row: have fewer than ZUVAROPY_MAX_ROWS been read? */
+#define ZUVAROPY_QUESTION_ROWS         5  /* have fewer than 256 rows been read? */
 #define ZUVAROPY_QUESTION_VALUE        6  /* is the whole value there? */
-#define ZUVAROPY_QUESTION_NONEMPTY     7  /* end: was there a row? */
-#define ZUVAROPY_QUESTION_STOP         8  /* end: does the file stop there? */
-#define ZUVAROPY_QUESTION_KIND         9  /* row: is the kind root in row 0, else exists or forall? */
-#define ZUVAROPY_QUESTION_ROLE        10  /* row: is the role below ZUVAROPY_ROLES, and 0 in row 0? */
-#define ZUVAROPY_QUESTION_PARENT      11  /* row: is the parent below the row's number (0 in row 0)? */
-#define ZUVAROPY_QUESTION_DEPTH       12  /* row: is the depth at most ZUVAROPY_MAX_DEPTH? */
-#define ZUVAROPY_QUESTION_IMPOSSIBLE  13  /* row: is the impossible byte 0 or 1? */
+#define ZUVAROPY_QUESTION_NONEMPTY     7  /* was there a row before the end? */
+#define ZUVAROPY_QUESTION_STOP         8  /* does the file stop after the end field? */
+#define ZUVAROPY_QUESTION_KIND         9  /* is the kind root in row 0, else some or all? */
+#define ZUVAROPY_QUESTION_ROLE        10  /* is the role below 32, and 0 in row 0? */
+#define ZUVAROPY_QUESTION_PARENT      11  /* is the parent below the row's number? */
+#define ZUVAROPY_QUESTION_DEPTH       12  /* is the depth at most 12? */
+#define ZUVAROPY_QUESTION_IMPOSSIBLE  13  /* is the impossible byte 0 or 1? */
 
 /* Asked when all pictures have been read. */
-#define ZUVAROPY_QUESTION_MERGED      14  /* has the merged table at most ZUVAROPY_MAX_ROWS rows? */
-#define ZUVAROPY_QUESTION_COMMON      15  /* has the common picture at most ZUVAROPY_MAX_ROWS rows? */
+#define ZUVAROPY_QUESTION_MERGED      14  /* has the merged table at most 256 rows? */
+#define ZUVAROPY_QUESTION_COMMON      15  /* has the common picture at most 256 rows? */
 
 /* Asked of evidence. */
-#define ZUVAROPY_QUESTION_FORM        16  /* is it a map or a refutation, exactly, to its last byte? */
+#define ZUVAROPY_QUESTION_FORM        16  /* is the evidence a map or a refutation, to its last byte? */
 
-/* Asked of a map: for each row of the second normal table in turn. */
-#define ZUVAROPY_QUESTION_IMAGE       17  /* is the image a row of the first? */
-#define ZUVAROPY_QUESTION_ROOT_IMAGE  18  /* row 0: is the image row 0? */
+/* Asked of a map: for each row of the second normal table in turn; 18 of row 0, 20 of the others. */
+#define ZUVAROPY_QUESTION_IMAGE       17  /* is the image a row of the first normal table? */
+#define ZUVAROPY_QUESTION_ROOT_IMAGE  18  /* is the image of row 0 row 0? */
 #define ZUVAROPY_QUESTION_LABEL       19  /* has the image the row's names and its mark, or is it impossible? */
-#define ZUVAROPY_QUESTION_EDGE        20  /* other rows: does the edge from the parent agree? */
+#define ZUVAROPY_QUESTION_EDGE        20  /* does the edge from the parent agree? */
 
-/* Asked of a refutation. */
-#define ZUVAROPY_QUESTION_INDIVIDUAL  21  /* each: parent below its number, role below ZUVAROPY_ROLES (both 0 in 0)? */
+/* Asked of a refutation. In individual 0 parent and role (21) have to be 0. */
+#define ZUVAROPY_QUESTION_INDIVIDUAL  21  /* has each individual a parent below its number and a role below 32? */
 #define ZUVAROPY_QUESTION_INSTANCE    22  /* is individual 0 an instance of the first picture? */
-#define ZUVAROPY_QUESTION_REFUTED     23  /* is it not an instance of the second? */
+#define ZUVAROPY_QUESTION_REFUTED     23  /* is individual 0 not an instance of the second picture? */
 
-/* Asked of a book, before its cards are asked 2 to 13. */
-#define ZUVAROPY_QUESTION_BOOK        24  /* is it a book, by heads, lengths and number of fields, to its last byte? */
+/* Asked of a book, by heads, lengths and number of fields, before its cards are asked 2 to 13. */
+#define ZUVAROPY_QUESTION_BOOK        24  /* is it a book, to its last byte? */
 
 /*
  * The answer word
@@ -249,13 +252,28 @@ extern "C" {
  *   55..48    0        question
  *   47..40    0        input
  *   39..32    0        card, if the input is a card; else 0
- *   31..0     value    0
+ *   31..16    value    row, if the question is one of 2 to 13; else 0
+ *   15..0     value    byte, if the question is one of 2 to 13; else 0
+ *
+ * The value of an answer is one number of 32 bits.
+ *
+ * A picture that question 2 to 13 refuses is refused at a field. The row is the
+ * number of rows before that field, all of which passed; it is the number of the
+ * row that is being read. The byte is where the field begins, counted from the
+ * first byte of the picture, also where the picture is a card of a book. Since
+ * only rows come before it, it is ZUVAROPY_ROW_BYTES times the row.
+ *
+ * So where the picture stops before a head (2), the byte may be its length; where
+ * there is a row too many (5), the row is ZUVAROPY_MAX_ROWS; and where the picture
+ * goes on after its end field (8), the byte is that of the end field.
  */
 
 #define ZUVAROPY_OUTCOME_SHIFT   56
 #define ZUVAROPY_QUESTION_SHIFT  48
 #define ZUVAROPY_INPUT_SHIFT     40
 #define ZUVAROPY_CARD_SHIFT      32
+#define ZUVAROPY_ROW_SHIFT       16
+#define ZUVAROPY_BYTE_SHIFT       0
 
 /* The outcome: one of ZUVAROPY_OUTCOME_.... */
 static inline unsigned int zuvaropy_outcome(uint64_t word)
@@ -263,10 +281,10 @@ static inline unsigned int zuvaropy_outcome(uint64_t word)
     return (unsigned int)(word >> ZUVAROPY_OUTCOME_SHIFT);
 }
 
-/* Of an answer: the value, whose meaning each call gives. */
+/* Of an answer: the value, whose meaning each call gives. Of a refusal 0. */
 static inline uint32_t zuvaropy_value(uint64_t word)
 {
-    return (uint32_t)(word & 0xFFFFFFFFu);
+    return zuvaropy_outcome(word) == ZUVAROPY_OUTCOME_REFUSAL ? 0 : (uint32_t)(word & 0xFFFFFFFFu);
 }
 
 /* Of a refusal: the question whose answer was no, one of ZUVAROPY_QUESTION_.... */
@@ -285,6 +303,106 @@ static inline unsigned int zuvaropy_input(uint64_t word)
 static inline unsigned int zuvaropy_card(uint64_t word)
 {
     return (unsigned int)(word >> ZUVAROPY_CARD_SHIFT & 0xFFu);
+}
+
+/* Does the word say at which row and byte? Not 0 of a refusal by question 2 to 13, else 0. */
+static inline int zuvaropy_has_place(uint64_t word)
+{
+    return zuvaropy_outcome(word) == ZUVAROPY_OUTCOME_REFUSAL && zuvaropy_question(word) >= ZUVAROPY_QUESTION_HEAD &&
+           zuvaropy_question(word) <= ZUVAROPY_QUESTION_IMPOSSIBLE;
+}
+
+/* Of a refusal that has a place: the row being read, that is, how many were completed. */
+static inline unsigned int zuvaropy_row(uint64_t word)
+{
+    return (unsigned int)(word >> ZUVAROPY_ROW_SHIFT & 0xFFFFu);
+}
+
+/* Of a refusal that has a place: where the field of that row begins, from the picture's first byte. */
+static inline unsigned int zuvaropy_byte(uint64_t word)
+{
+    return (unsigned int)(word >> ZUVAROPY_BYTE_SHIFT & 0xFFFFu);
+}
+
+/*
+ * A question in words, such as "is the parent below the row's number?". It is
+ * never NULL: of a number that is no question's it is "no such question".
+ */
+static inline const char *zuvaropy_question_text(unsigned int question)
+{
+    switch (question) {
+    case ZUVAROPY_QUESTION_BUFFER:
+        return "is each buffer lent for writing long enough?";
+    case ZUVAROPY_QUESTION_HEAD:
+        return "are the three bytes of the head there?";
+    case ZUVAROPY_QUESTION_TAG:
+        return "is the tag that of a row or of the end?";
+    case ZUVAROPY_QUESTION_LENGTH:
+        return "is the length the one that goes with the tag?";
+    case ZUVAROPY_QUESTION_ROWS:
+        return "have fewer than 256 rows been read?";
+    case ZUVAROPY_QUESTION_VALUE:
+        return "is the whole value there?";
+    case ZUVAROPY_QUESTION_NONEMPTY:
+        return "was there a row before the end?";
+    case ZUVAROPY_QUESTION_STOP:
+        return "does the file stop after the end field?";
+    case ZUVAROPY_QUESTION_KIND:
+        return "is the kind root in row 0, else some or all?";
+    case ZUVAROPY_QUESTION_ROLE:
+        return "is the role below 32, and 0 in row 0?";
+    case ZUVAROPY_QUESTION_PARENT:
+        return "is the parent below the row's number?";
+    case ZUVAROPY_QUESTION_DEPTH:
+        return "is the depth at most 12?";
+    case ZUVAROPY_QUESTION_IMPOSSIBLE:
+        return "is the impossible byte 0 or 1?";
+    case ZUVAROPY_QUESTION_MERGED:
+        return "has the merged table at most 256 rows?";
+    case ZUVAROPY_QUESTION_COMMON:
+        return "has the common picture at most 256 rows?";
+    case ZUVAROPY_QUESTION_FORM:
+        return "is the evidence a map or a refutation, to its last byte?";
+    case ZUVAROPY_QUESTION_IMAGE:
+        return "is the image a row of the first normal table?";
+    case ZUVAROPY_QUESTION_ROOT_IMAGE:
+        return "is the image of row 0 row 0?";
+    case ZUVAROPY_QUESTION_LABEL:
+        return "has the image the row's names and its mark, or is it impossible?";
+    case ZUVAROPY_QUESTION_EDGE:
+        return "does the edge from the parent agree?";
+    case ZUVAROPY_QUESTION_INDIVIDUAL:
+        return "has each individual a parent below its number and a role below 32?";
+    case ZUVAROPY_QUESTION_INSTANCE:
+        return "is individual 0 an instance of the first picture?";
+    case ZUVAROPY_QUESTION_REFUTED:
+        return "is individual 0 not an instance of the second picture?";
+    case ZUVAROPY_QUESTION_BOOK:
+        return "is it a book, to its last byte?";
+    default:
+        return "no such question";
+    }
+}
+
+/* An input in words, such as "first picture"; never NULL either: "no such input". */
+static inline const char *zuvaropy_input_text(unsigned int input)
+{
+    switch (input) {
+    case ZUVAROPY_INPUT_BUFFER:
+        return "buffer";
+    case ZUVAROPY_INPUT_FIRST:
+        return "first picture";
+    case ZUVAROPY_INPUT_SECOND:
+        return "second picture";
+    case ZUVAROPY_INPUT_EVIDENCE:
+        return "evidence";
+    case ZUVAROPY_INPUT_BOOK:
+        return "book";
+    case ZUVAROPY_INPUT_CARD:
+        return "card";
+    default:
+        return "no such input";
+    }
 }
 
 /*
@@ -318,11 +436,11 @@ static inline uint8_t *zuvaropy_lent_writable(uint8_t *buffer)
  * Writes:  nothing.
  * Returns: ZUVAROPY_OUTCOME_YES, value: the number of rows, from 1 to
  *          ZUVAROPY_MAX_ROWS; or ZUVAROPY_OUTCOME_REFUSAL, question 2 to 13,
- *          input ZUVAROPY_INPUT_FIRST.
+ *          input ZUVAROPY_INPUT_FIRST, with row and byte.
  *
  * Any bytes of any length may be given. An empty buffer is refused by
- * ZUVAROPY_QUESTION_HEAD. The call takes at most ZUVAROPY_VALIDATE_STACK_BYTES
- * of stack.
+ * ZUVAROPY_QUESTION_HEAD, row 0, byte 0. The call takes at most
+ * ZUVAROPY_VALIDATE_STACK_BYTES of stack.
  */
 uint64_t zuvaropy_validate(const uint8_t *picture, size_t picture_len);
 #define zuvaropy_validate(picture, picture_len) \
@@ -554,7 +672,8 @@ uint64_t zuvaropy_verify(const uint8_t *first, size_t first_len, const uint8_t *
  *          ZUVAROPY_MAX_CARDS whole fields of tag ZUVAROPY_TAG_CARD and then
  *          the end field, or goes on after it. The values may be of any length;
  *          question 2 to 13, input ZUVAROPY_INPUT_CARD, of the cards in turn:
- *          all of one card before the next card. zuvaropy_card says which;
+ *          all of one card before the next card. zuvaropy_card says which, row
+ *          and byte where in its picture;
  *          question 14, input ZUVAROPY_INPUT_FIRST, of the case, as
  *          zuvaropy_normalize;
  *          question 14, input ZUVAROPY_INPUT_CARD, of the cards in turn.

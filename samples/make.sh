@@ -88,6 +88,15 @@ walker() {
     row 1 $some $pet 0 $dog 0
 }
 
+# A doctor, two children and their dogs, but row 3 comes before its parent, which is row 4.
+early() {
+    doctor
+    row 0 $some $child 0 0 0
+    row 1 $some $pet 0 $dog 0
+    row 4 $some $pet 0 $dog 0
+    row 0 $some $child 0 $woman 0
+}
+
 # A chain of so many edges.
 chain() {
     top
@@ -150,15 +159,17 @@ apart() {
 { map 0 1 1; end; } >"$folder/both-each.map"  # each subsumes both: both names are at one row
 { apart; end; } >"$folder/each-both.ref"      # both does not subsume each
 
+# cards PICTURE: five cards, of which it is the last.
 cards() {
     card top
     card woman
     card healthy
     card walker
-    card doctor
+    card "$1"
 }
 
-{ cards; end; } >"$folder/cards.book"
+{ cards doctor; end; } >"$folder/cards.book"
 { card woman; card woman; end; } >"$folder/twins.book"              # they subsume each other
 { card top; card chain 13; card woman; end; } >"$folder/deep.book"  # card 1 has one edge more than allowed
-cards >"$folder/open.book"                                          # without its end field
+{ cards early; end; } >"$folder/early.book"                         # row 3 of card 4 comes before its parent
+cards doctor >"$folder/open.book"                                   # without its end field

@@ -17,4 +17,5 @@ look family.pic twins.book
 look cut.pic cards.book
 look family.pic open.book
 look family.pic deep.book
+look family.pic early.book
 look spread.pic cards.book

@@ -63,7 +63,7 @@ void lcs_check(struct pair *pair, uint64_t wanted, unsigned long at)
 void lcs_check_rows(struct pair *pair, unsigned int rows, unsigned long at)
 {
     CHECK_WORD(lcs_any(pair, at),
-               rows <= ZUVAROPY_MAX_ROWS ? word_length(rows) : word_second(ZUVAROPY_QUESTION_COMMON), at);
+               rows <= ZUVAROPY_MAX_ROWS ? word_length(rows) : word_second(ZUVAROPY_QUESTION_COMMON, 0), at);
     CHECK(reference_lcs_kept() == rows);
 }
 
@@ -81,7 +81,7 @@ static int is_normalized(const struct picture *p)
     static uint8_t table[ZUVAROPY_MAX_PICTURE_BYTES];
     const uint64_t word = zuvaropy_normalize(p->bytes, p->length, table, sizeof table);
 
-    CHECK(zuvaropy_outcome(word) == ZUVAROPY_OUTCOME_YES || word == word_refusal(ZUVAROPY_QUESTION_MERGED));
+    CHECK(zuvaropy_outcome(word) == ZUVAROPY_OUTCOME_YES || word == word_refusal(ZUVAROPY_QUESTION_MERGED, 0));
     return zuvaropy_outcome(word) == ZUVAROPY_OUTCOME_YES;
 }
 
@@ -118,7 +118,7 @@ uint64_t lcs_make(struct pair *pair, unsigned int n)
     if (n == PICTURE_WORDS) {
         make_fan(&pair->first, 16);
         make_fan(&pair->second, 16);
-        return word_second(ZUVAROPY_QUESTION_COMMON);
+        return word_second(ZUVAROPY_QUESTION_COMMON, 0);
     }
     if (zuvaropy_input(word) == ZUVAROPY_INPUT_FIRST)
         picture_refused(&pair->first, zuvaropy_question(word));

@@ -46,19 +46,56 @@ described() {
     sh package/calls.sh | diff - "$room/described"
 }
 
+# defined PATTERN: the names that the header defines and that match, but for shifts.
+defined() {
+    sed -n 's/^.define \(ZUVAROPY_[A-Z_]*\) .*/\1/p' include/zuvaropy.h | grep -E "$1" | grep -v '_SHIFT$' | sort
+}
+
 # Each question, input, outcome and stack size of the header is in the page.
 complete() {
-    sed -n 's/^.define \(ZUVAROPY_[A-Z_]*\) .*/\1/p' include/zuvaropy.h |
-        grep -E '_(QUESTION|INPUT|OUTCOME)_|_STACK_BYTES$' | grep -v '_SHIFT$' | sort >"$room/names"
+    defined '_(QUESTION|INPUT|OUTCOME)_|_STACK_BYTES$' >"$room/names"
     numbers | sed 's/ .*//' | sort | comm -23 "$room/names" - >"$room/missing" && [ -s "$room/names" ] &&
         silent cat "$room/missing"
 }
 
-# The normal table of this sample is the sample, and the other sample is refused.
+# A program that prints each question and each input of the header, and its text.
+printer() {
+    printf '#include "zuvaropy.h"\n#include <stdio.h>\nint main(void)\n{\n'
+    defined _QUESTION_ | sed 's/.*/    printf("& %s\\n", zuvaropy_question_text(&));/'
+    defined _INPUT_ | sed 's/.*/    printf("& %s\\n", zuvaropy_input_text(&));/'
+    printf '    return 0;\n}\n'
+}
+
+# The same as the page has them: the text is the line below the name, but for a capital letter.
+page_texts() {
+    awk 'name != "" { print name " " tolower(substr($0, 1, 1)) substr($0, 2) }
+        { name = /^\.BR ZUVAROPY_(QUESTION|INPUT)_/ ? $2 : "" }' "$page"
+}
+
+# The page and the header's functions have a text for each question and input, and the same one.
+texts() {
+    printer >"$room/printer.c" && $c "$room/printer.c" -o "$room/printer" && "$room/printer" >"$room/unsorted" &&
+        sort "$room/unsorted" >"$room/texts" && [ -s "$room/texts" ] && page_texts | sort | diff "$room/texts" -
+}
+
+# So have the comments beside the questions in the header.
+comments() {
+    sed -n 's|^.define \(ZUVAROPY_QUESTION_[A-Z_]*\) .*/\* \(.*\) \*/$|\1 \2|p' include/zuvaropy.h |
+        sort >"$room/comments"
+    grep _QUESTION_ "$room/texts" | diff - "$room/comments"
+}
+
+# refuses SAMPLE SAID
+refuses() {
+    ! "$room/example" <"samples/$1" 2>"$room/said" && [ "$(cat "$room/said")" = "$2" ]
+}
+
+# The normal table of this sample is the sample, and others are refused, the first of them at a row.
 example() {
     sed -n '/^\.EX$/,/^\.EE$/p' "$page" | sed '1d;$d;s/\\e/\\/g' >"$room/example.c"
     $c "$room/example.c" "$archive" -o "$room/example" && "$room/example" <samples/each.pic | cmp - samples/each.pic &&
-        ! "$room/example" <samples/cut.pic 2>"$room/said" && [ "$(cat "$room/said")" = 'refused by question 6' ]
+        refuses cut.pic 'refused 6, row 5, byte 120: is the whole value there?' &&
+        refuses spread.pic 'refused 14: has the merged table at most 256 rows?'
 }
 
 if command -v groff >/dev/null; then
@@ -71,6 +108,8 @@ fi
 check 'manual page, header' agrees
 check 'manual page, calls' described
 check 'manual page, names' complete
+check 'manual page, texts' texts
+check 'manual page, comments of the header' comments
 check 'manual page, example' example
 
 summary 'manual page'

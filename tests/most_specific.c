@@ -64,9 +64,14 @@ uint64_t word_book(void)
     return (uint64_t)24 << 48 | (uint64_t)4 << 40;
 }
 
-uint64_t word_card(unsigned int card, unsigned int question)
+uint64_t word_card(unsigned int card, unsigned int question, unsigned int row)
 {
-    return (uint64_t)question << 48 | (uint64_t)5 << 40 | (uint64_t)card << 32;
+    return (uint64_t)question << 48 | (uint64_t)5 << 40 | (uint64_t)card << 32 | word_place(row);
+}
+
+uint64_t word_card_refused(unsigned int card, unsigned int question)
+{
+    return word_card(card, question, picture_refused_row(question));
 }
 
 /* Cards 0 and 2 are the most specific ones: card 1 subsumes both, and card 3 does not subsume the case. */
@@ -102,8 +107,8 @@ uint64_t lookup_make(struct lookup *l, unsigned int n)
     picture_refused(&refused, question);
     if (n < 13) {
         l->case_picture = refused;
-        return word_refusal(question);
+        return word_refused(question);
     }
     book_replace(&l->book, card, &refused);
-    return word_card(card, question);
+    return word_card_refused(card, question);
 }

@@ -24,11 +24,13 @@ uint64_t most_specific_any(const struct lookup *l, unsigned long at);
 /* The same with several fills; the word must be `wanted`. */
 void most_specific_check(const struct lookup *l, uint64_t wanted, unsigned long at);
 
-/* The answer words: a set of cards, and refusals of the book and of a card.
- * Those of the case, which is the first input, and of a buffer are in picture.h. */
+/* The answer words: a set of cards, and refusals of the book, of a card at a row
+ * of its picture, and of a card that is the picture of picture_refused. Those of
+ * the case, which is the first input, and of a buffer are in picture.h. */
 uint64_t word_cards(uint32_t cards);
 uint64_t word_book(void);
-uint64_t word_card(unsigned int card, unsigned int question);
+uint64_t word_card(unsigned int card, unsigned int question, unsigned int row);
+uint64_t word_card_refused(unsigned int card, unsigned int question);
 
 /* Inputs that the call answers with a word, by a number below LOOKUP_WORDS: 2 to
  * 14 of the case, 24, 2 to 14 of card 0 and of card 3, which is the last one,

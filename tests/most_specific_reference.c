@@ -15,7 +15,7 @@ static struct part cards[ZUVAROPY_MAX_CARDS]; /* those of the book */
 static unsigned int card_count;
 static unsigned int subsuming_count;
 
-/* The questions. They give the number of the one whose answer is no, or 0. */
+/* The questions. */
 
 static size_t number(const uint8_t *two_bytes)
 {
@@ -43,45 +43,52 @@ static bool find_cards(const struct book *book)
     }
 }
 
-/* 2 to 13. */
-static unsigned int ask_reading(const struct part *picture)
+static uint64_t asked(unsigned int question)
 {
-    return reference_read(picture->bytes, picture->length).question;
+    return (uint64_t)question << ZUVAROPY_QUESTION_SHIFT;
+}
+
+/* 2 to 13. This and the next give the word of a refusal without input and card; 0 if there is none. */
+static uint64_t ask_reading(const struct part *picture)
+{
+    const struct reference read = reference_read(picture->bytes, picture->length);
+
+    return asked(read.question) | reference_place(&read);
 }
 
 /* 14. */
-static unsigned int ask_merged(const struct part *picture)
+static uint64_t ask_merged(const struct part *picture)
 {
     static struct normal_reference normal;
 
     normal_reference(&normal, picture->bytes, picture->length);
-    return normal.question;
+    return asked(normal.question);
 }
 
-static uint64_t refusal(unsigned int input, unsigned int card, unsigned int question)
+static uint64_t of_input(unsigned int input, unsigned int card)
 {
-    return (uint64_t)question << ZUVAROPY_QUESTION_SHIFT | (uint64_t)input << ZUVAROPY_INPUT_SHIFT |
-           (uint64_t)card << ZUVAROPY_CARD_SHIFT;
+    return (uint64_t)input << ZUVAROPY_INPUT_SHIFT | (uint64_t)card << ZUVAROPY_CARD_SHIFT;
 }
 
 /* The first card that a question refuses; 0 if there is none. */
-static uint64_t ask_cards(unsigned int (*ask)(const struct part *))
+static uint64_t ask_cards(uint64_t (*ask)(const struct part *))
 {
-    unsigned int n, question;
+    unsigned int n;
+    uint64_t word;
 
     for (n = 0; n < card_count; n++) {
-        question = ask(&cards[n]);
-        if (question != 0)
-            return refusal(ZUVAROPY_INPUT_CARD, n, question);
+        word = ask(&cards[n]);
+        if (word != 0)
+            return word | of_input(ZUVAROPY_INPUT_CARD, n);
     }
     return 0;
 }
 
-static uint64_t ask_case(unsigned int (*ask)(const struct part *))
+static uint64_t ask_case(uint64_t (*ask)(const struct part *))
 {
-    const unsigned int question = ask(&sought);
+    const uint64_t word = ask(&sought);
 
-    return question != 0 ? refusal(ZUVAROPY_INPUT_FIRST, 0, question) : 0;
+    return word != 0 ? word | of_input(ZUVAROPY_INPUT_FIRST, 0) : 0;
 }
 
 /* The word of the refusal; 0 if there is none. */
@@ -90,7 +97,7 @@ static uint64_t ask_all(const struct book *book)
     uint64_t word = ask_case(ask_reading);
 
     if (word == 0 && !find_cards(book))
-        word = refusal(ZUVAROPY_INPUT_BOOK, 0, ZUVAROPY_QUESTION_BOOK);
+        word = asked(ZUVAROPY_QUESTION_BOOK) | of_input(ZUVAROPY_INPUT_BOOK, 0);
     if (word == 0)
         word = ask_cards(ask_reading);
     if (word == 0)

@@ -214,6 +214,7 @@ void normal_reference(struct normal_reference *result, const uint8_t *file, size
     unsigned int n;
 
     result->question = read.question;
+    result->word = reference_word(&read);
     result->merged = 0;
     result->length = 0;
     if (read.question != 0)
@@ -223,6 +224,8 @@ void normal_reference(struct normal_reference *result, const uint8_t *file, size
     node_count = 0;
     if (!merge(0, ZUVAROPY_KIND_ROOT, 0, root)) {
         result->question = ZUVAROPY_QUESTION_MERGED;
+        result->word = (uint64_t)ZUVAROPY_QUESTION_MERGED << ZUVAROPY_QUESTION_SHIFT |
+                       (uint64_t)ZUVAROPY_INPUT_FIRST << ZUVAROPY_INPUT_SHIFT;
         result->merged = ZUVAROPY_MAX_ROWS + 1;
         return;
     }
@@ -230,4 +233,5 @@ void normal_reference(struct normal_reference *result, const uint8_t *file, size
     for (n = node_count; n-- > 0;)
         tidy(n);
     write_nodes(result);
+    result->word = (uint64_t)ZUVAROPY_OUTCOME_YES << ZUVAROPY_OUTCOME_SHIFT | result->length;
 }

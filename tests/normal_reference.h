@@ -11,6 +11,7 @@
 
 struct normal_reference {
     unsigned int question; /* of 2 to 14 the first whose answer is no; 0 if there is none */
+    uint64_t word;         /* that of zuvaropy_normalize with a buffer that is long enough */
     unsigned int merged;   /* rows of the merged table; the count stops at one too many */
     size_t length;         /* of the normal table, in bytes */
     uint8_t bytes[ZUVAROPY_MAX_PICTURE_BYTES];

@@ -196,6 +196,22 @@ void picture_refused(struct picture *p, unsigned int question)
     }
 }
 
+unsigned int picture_refused_row(unsigned int question)
+{
+    switch (question) {
+    case ZUVAROPY_QUESTION_HEAD: /* the end field is cut off, or goes on: it comes after every row */
+    case ZUVAROPY_QUESTION_STOP:
+        return ZUVAROPY_MAX_DEPTH + 2;
+    case ZUVAROPY_QUESTION_ROWS:
+        return ZUVAROPY_MAX_ROWS;
+    case ZUVAROPY_QUESTION_NONEMPTY:
+    case ZUVAROPY_QUESTION_MERGED:
+        return 0;
+    default:
+        return ZUVAROPY_MAX_DEPTH + 1;
+    }
+}
+
 uint64_t picture_validate(const struct picture *p)
 {
     static uint8_t before[PICTURE_ROOM];
@@ -217,9 +233,19 @@ uint64_t word_length(unsigned int rows)
     return (uint64_t)1 << 56 | (24 * rows + 3);
 }
 
-uint64_t word_refusal(unsigned int question)
+uint64_t word_place(unsigned int row)
 {
-    return (uint64_t)question << 48 | (uint64_t)1 << 40;
+    return (uint64_t)row << 16 | 24 * row;
+}
+
+uint64_t word_refusal(unsigned int question, unsigned int row)
+{
+    return (uint64_t)question << 48 | (uint64_t)1 << 40 | word_place(row);
+}
+
+uint64_t word_refused(unsigned int question)
+{
+    return question == 0 ? 0 : word_refusal(question, picture_refused_row(question));
 }
 
 uint64_t word_short(void)

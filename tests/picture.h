@@ -46,17 +46,25 @@ uint8_t *picture_value(struct picture *p, unsigned int row);
  * to 13. For 12 the picture must begin with a chain as deep as it may be. */
 void picture_damage(struct picture *p, unsigned int row, unsigned int question);
 
-/* A whole picture that this question refuses, of 2 to 14; for 0, one that none refuses. */
+/* A whole picture that this question refuses, of 2 to 14; for 0, one that none
+ * refuses. And the row at which it is refused; 0 for 14, which says none. */
 void picture_refused(struct picture *p, unsigned int question);
+unsigned int picture_refused_row(unsigned int question);
 
 /* The call, with a check that it left the input as it was. */
 uint64_t picture_validate(const struct picture *p);
 
 /* The answer words: a number of rows, the length of so many rows in bytes, a
- * refusal of the first input, and one of a buffer. */
+ * refusal of the first input at a row, that of the picture of picture_refused,
+ * which is 0 where none refuses it, and one of a buffer. A question that says no
+ * row has row 0. */
 uint64_t word_rows(unsigned int rows);
 uint64_t word_length(unsigned int rows);
-uint64_t word_refusal(unsigned int question);
+uint64_t word_refusal(unsigned int question, unsigned int row);
+uint64_t word_refused(unsigned int question);
 uint64_t word_short(void);
+
+/* What a refusal at a row has in its word besides: the row, and the byte where its field begins. */
+uint64_t word_place(unsigned int row);
 
 #endif

@@ -3,11 +3,12 @@
 #include "zuvaropy.h"
 
 /* The field in question. Every field before it is a row that passed, so that
- * their count is the row's number and tells where the field begins. */
+ * their count is the row's number; it begins where the last of them ends. */
 struct field {
     const uint8_t *file;
     size_t length;
     unsigned int row;
+    size_t at;
 };
 
 static const uint8_t *value_of(const struct field *f, unsigned int row)
@@ -17,17 +18,22 @@ static const uint8_t *value_of(const struct field *f, unsigned int row)
 
 static const uint8_t *head_of(const struct field *f)
 {
-    return f->file + (size_t)f->row * ZUVAROPY_ROW_BYTES;
+    return f->file + f->at;
 }
 
 static size_t bytes_left(const struct field *f)
 {
-    return f->length - (size_t)f->row * ZUVAROPY_ROW_BYTES;
+    return f->length - f->at;
 }
 
 static unsigned int number(const uint8_t *two_bytes)
 {
     return two_bytes[0] * 256u + two_bytes[1];
+}
+
+static unsigned int value_length(const struct field *f)
+{
+    return number(head_of(f) + ZUVAROPY_TAG_BYTES);
 }
 
 static int is_row(const struct field *f)
@@ -64,7 +70,7 @@ static int tag_is_known(const struct field *f)
 
 static int length_matches(const struct field *f)
 {
-    return number(head_of(f) + ZUVAROPY_TAG_BYTES) == (is_row(f) ? ZUVAROPY_ROW_VALUE_BYTES : ZUVAROPY_END_VALUE_BYTES);
+    return value_length(f) == (is_row(f) ? ZUVAROPY_ROW_VALUE_BYTES : ZUVAROPY_END_VALUE_BYTES);
 }
 
 static int row_is_allowed(const struct field *f)
@@ -74,7 +80,7 @@ static int row_is_allowed(const struct field *f)
 
 static int value_is_there(const struct field *f)
 {
-    return bytes_left(f) >= ZUVAROPY_HEAD_BYTES + number(head_of(f) + ZUVAROPY_TAG_BYTES);
+    return bytes_left(f) >= ZUVAROPY_HEAD_BYTES + value_length(f);
 }
 
 static int end_has_rows(const struct field *f)
@@ -130,7 +136,7 @@ struct reference reference_read(const uint8_t *file, size_t length)
         end_is_last,   kind_is_good, role_is_good,   parent_is_good, depth_is_good,  impossible_is_good,
     };
     const unsigned int count = sizeof questions / sizeof questions[0];
-    struct field f = {file, length, 0};
+    struct field f = {file, length, 0, 0};
     struct reference result;
     unsigned int i;
 
@@ -140,7 +146,22 @@ struct reference reference_read(const uint8_t *file, size_t length)
         if (i < count || is_end(&f)) {
             result.question = i < count ? ZUVAROPY_QUESTION_HEAD + i : 0;
             result.rows = f.row;
+            result.byte = f.at;
             return result;
         }
+        f.at += ZUVAROPY_HEAD_BYTES + value_length(&f);
     }
+}
+
+uint64_t reference_place(const struct reference *read)
+{
+    return read->question == 0 ? 0 : (uint64_t)read->rows << ZUVAROPY_ROW_SHIFT | read->byte << ZUVAROPY_BYTE_SHIFT;
+}
+
+uint64_t reference_word(const struct reference *read)
+{
+    if (read->question == 0)
+        return (uint64_t)ZUVAROPY_OUTCOME_YES << ZUVAROPY_OUTCOME_SHIFT | read->rows;
+    return (uint64_t)read->question << ZUVAROPY_QUESTION_SHIFT |
+           (uint64_t)ZUVAROPY_INPUT_FIRST << ZUVAROPY_INPUT_SHIFT | reference_place(read);
 }

@@ -52,14 +52,14 @@ fi
 
 # alone COMPILER..: a unit of the header alone, and one that makes every call.
 alone() {
-    echo '#include "zuvaropy.h"' | "$@" $warnings -Wconversion -Iinclude -c - -o "$out/alone" &&
-        "$@" $warnings -Wconversion -Iinclude -c tests/second_unit.c -o "$out/alone"
+    echo '#include "zuvaropy.h"' | "$@" $warnings -Wconversion -Wshadow -Iinclude -c - -o "$out/alone" &&
+        "$@" $warnings -Wconversion -Wshadow -Iinclude -c tests/second_unit.c -o "$out/alone"
 }
-for standard in c99 c11; do
+for standard in c99 c11 c17; do
     one "header alone, $standard" alone ${CC:-gcc} -x c -std=$standard
 done
 if command -v "$cxx" >/dev/null; then
-    for standard in c++11 c++17; do
+    for standard in c++11 c++17 c++20; do
         one "header alone, $standard" alone "$cxx" -x c++ -std=$standard
     done
     program test_header_cxx "$cxx" -x c++ -std=c++11 $warnings -Iinclude tests/test_header.c tests/check.c \
@@ -132,12 +132,16 @@ block() {
     awk -v fence="\`\`\`$1" -v n="$2" '$0 == fence { at++; next } /^```$/ { if (at == n) exit } at == n' README.md
 }
 
-# readme PRINTED ARGUMENT..: the README's one program in C builds, and prints this. Others are in examples/, and tested.
+# readme STATUS PRINTED ARGUMENT..: the README's one program in C builds, prints this and ends so. Others are in
+# examples/, and tested.
 readme() {
     block c 1 >"$out/readme.c" && [ -z "$(block c 2)" ] || return
-    expected=$1
-    shift
-    $c "$out/readme.c" "$archive" -o "$out/readme" && printed=$("$out/readme" "$@") && [ "$printed" = "$expected" ]
+    ending=$1
+    expected=$2
+    shift 2
+    $c "$out/readme.c" "$archive" -o "$out/readme" || return
+    printed=$("$out/readme" "$@")
+    [ $? -eq "$ending" ] && [ "$printed" = "$expected" ]
 }
 
 readme_python() {
@@ -179,13 +183,16 @@ one 'example subsumes' example subsumes sh samples/subsumes.sh "$out/subsumes" "
 one 'example lcs' example lcs sh samples/lcs.sh "$out/lcs"
 one 'example most_specific' example most_specific sh samples/most_specific.sh "$out/most_specific"
 one 'example explain' example explain sh samples/explain.sh "$out/explain"
-one 'readme, yes' readme 'yes, with a map of 12 bytes
+one 'readme, yes' readme 0 'yes, with a map of 12 bytes
   row 0 goes to row 0
   row 1 goes to row 1
   row 2 goes to row 1
 checked: taken' samples/both.pic samples/each.pic
-one 'readme, no' readme 'no, with a refutation of 45 bytes
+one 'readme, no' readme 0 'no, with a refutation of 45 bytes
 checked: taken' samples/each.pic samples/both.pic
+one 'readme, refused' readme 1 "$(grep '^refused 6,' README.md)" samples/top.pic samples/cut.pic
+one 'readme, card refused' grep -qxF "family.pic early.book: $(grep '^refused 11,' README.md)" \
+    samples/most_specific.stdout
 one 'readme, demo' demo
 
 count verdict sh tests/verdict.sh "$verdict"

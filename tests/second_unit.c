@@ -7,6 +7,11 @@ unsigned int second_unit_question(uint64_t word)
     return zuvaropy_question(word);
 }
 
+const char *second_unit_text(unsigned int question)
+{
+    return zuvaropy_question_text(question);
+}
+
 uint64_t second_unit_validate(const uint8_t *picture, size_t picture_len)
 {
     return zuvaropy_validate(picture, picture_len);

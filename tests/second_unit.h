@@ -7,6 +7,7 @@
 #include <stdint.h>
 
 unsigned int second_unit_question(uint64_t word);
+const char *second_unit_text(unsigned int question);
 uint64_t second_unit_validate(const uint8_t *picture, size_t picture_len);
 uint64_t second_unit_normalize(const uint8_t *picture, size_t picture_len, uint8_t *result, size_t result_len);
 uint64_t second_unit_subsumes(const uint8_t *first, size_t first_len, const uint8_t *second, size_t second_len,

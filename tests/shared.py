@@ -12,7 +12,7 @@ import re
 import sys
 
 SAMPLES = pathlib.Path(__file__).parent.parent / "samples"
-INPUTS = ["buffer", "first", "second", "evidence", "book", "card"]
+INPUTS = ["buffer", "first picture", "second picture", "evidence", "book", "card"]
 KINDS = {"some": 1, "all": 2}
 PICTURE_BYTES, WORK_BYTES, EVIDENCE_BYTES = 6147, 12294, 46595  # the least that the calls take
 END = b"\x2f\0\0"
@@ -24,14 +24,13 @@ def answer(outcome, value=0):
 
 
 def refusal(line):
-    """The word of 'refused WHICH [CARD] QUESTION', or of a refusal that says its question in full; None of others."""
-    full = re.search(r"refused, question (\d+):.*\((\w+) input\)", line)
-    if full:
-        return int(full[1]) << 48 | INPUTS.index(full[2]) << 40
-    short = re.search(r"refused (\w+)(?: (\d+))? (\d+)$", line)
-    if short:
-        return int(short[3]) << 48 | INPUTS.index(short[1]) << 40 | int(short[2] or 0) << 32
-    return None
+    """The word of 'refused QUESTION, INPUT[ CARD][, row ROW, byte BYTE]: ..'; None of others."""
+    found = re.match(r"refused (\d+), ([a-z ]+?)(?: (\d+))?(?:, row (\d+), byte (\d+))?: ", line)
+    if not found:
+        return None
+    question, which, *numbers = found.groups()
+    card, row, byte = (int(number or 0) for number in numbers)
+    return int(question) << 48 | INPUTS.index(which) << 40 | card << 32 | row << 16 | byte
 
 
 def name_set(row, what):

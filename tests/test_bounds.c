@@ -40,7 +40,8 @@ static void test_rows(unsigned int rows)
     check_bounds(word_rows(rows));
     for (length = 0; length < (size_t)ZUVAROPY_PICTURE_BYTES(rows); length++) {
         p.length = length;
-        check_bounds(word_refusal(length % ZUVAROPY_ROW_BYTES < ZUVAROPY_HEAD_BYTES ? 2 : 6));
+        check_bounds(word_refusal(length % ZUVAROPY_ROW_BYTES < ZUVAROPY_HEAD_BYTES ? 2 : 6,
+                                  (unsigned int)(length / ZUVAROPY_ROW_BYTES)));
     }
 }
 
@@ -53,9 +54,9 @@ static void test_refused_field(unsigned int rows)
         picture_fan(&p, rows + 1);
         p.length = (size_t)rows * ZUVAROPY_ROW_BYTES + there;
         picture_field(&p, rows)[0] = 0;
-        check_bounds(word_refusal(3));
+        check_bounds(word_refusal(3, rows));
         picture_field(&p, rows)[0] = ZUVAROPY_TAG_END;
-        check_bounds(word_refusal(4));
+        check_bounds(word_refusal(4, rows));
     }
 }
 
@@ -66,7 +67,7 @@ static void test_too_many_rows(void)
     for (there = ZUVAROPY_HEAD_BYTES; there <= ZUVAROPY_ROW_BYTES; there++) {
         picture_fan(&p, ZUVAROPY_MAX_ROWS + 1);
         p.length = (size_t)ZUVAROPY_MAX_ROWS * ZUVAROPY_ROW_BYTES + there;
-        check_bounds(word_refusal(5));
+        check_bounds(word_refusal(5, ZUVAROPY_MAX_ROWS));
     }
 }
 

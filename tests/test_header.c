@@ -1,6 +1,6 @@
 /*
- * The header: its numbers are those of the format, and its inline functions
- * take a word apart. Compiles as C99 and as C++.
+ * The header: its numbers are those of the format, its inline functions take a
+ * word apart, and there are words for every code. Compiles as C99 and as C++.
  */
 
 #include "zuvaropy.h"
@@ -125,20 +125,109 @@ static void test_word(void)
 {
     const uint64_t word = (uint64_t)0x12345678u << 32 | 0x9ABCDEF0u;
     const uint64_t ones = ~(uint64_t)0;
+    const uint64_t refusal = (uint64_t)0x000B0504u << 32 | 0x00030048u;
 
     CHECK(zuvaropy_outcome(word) == 0x12);
     CHECK(zuvaropy_question(word) == 0x34);
     CHECK(zuvaropy_input(word) == 0x56);
     CHECK(zuvaropy_card(word) == 0x78);
     CHECK(zuvaropy_value(word) == 0x9ABCDEF0u);
+    CHECK(zuvaropy_row(word) == 0x9ABC);
+    CHECK(zuvaropy_byte(word) == 0xDEF0);
 
     CHECK(zuvaropy_outcome(ones) == 0xFF);
     CHECK(zuvaropy_question(ones) == 0xFF);
     CHECK(zuvaropy_input(ones) == 0xFF);
     CHECK(zuvaropy_card(ones) == 0xFF);
     CHECK(zuvaropy_value(ones) == 0xFFFFFFFFu);
+    CHECK(zuvaropy_row(ones) == 0xFFFF);
+    CHECK(zuvaropy_byte(ones) == 0xFFFF);
+
+    /* Card 4, row 3, byte 72; a refusal has no value. */
+    CHECK(zuvaropy_outcome(refusal) == ZUVAROPY_OUTCOME_REFUSAL);
+    CHECK(zuvaropy_question(refusal) == ZUVAROPY_QUESTION_PARENT);
+    CHECK(zuvaropy_input(refusal) == ZUVAROPY_INPUT_CARD);
+    CHECK(zuvaropy_card(refusal) == 4);
+    CHECK(zuvaropy_row(refusal) == 3);
+    CHECK(zuvaropy_byte(refusal) == 72);
+    CHECK(zuvaropy_value(refusal) == 0);
 
     CHECK(second_unit_question(word) == 0x34);
+}
+
+/* A refusal by 2 to 13 has a place, by any other question not, and an answer has none. */
+static void test_has_place(void)
+{
+    uint64_t question;
+
+    for (question = 0; question <= 255; question++) {
+        const uint64_t refusal = question << ZUVAROPY_QUESTION_SHIFT;
+        const uint64_t yes = (uint64_t)ZUVAROPY_OUTCOME_YES << ZUVAROPY_OUTCOME_SHIFT;
+        const uint64_t no = (uint64_t)ZUVAROPY_OUTCOME_NO << ZUVAROPY_OUTCOME_SHIFT;
+
+        CHECK((zuvaropy_has_place(refusal) != 0) == (question >= 2 && question <= 13));
+        CHECK(zuvaropy_has_place(yes | refusal) == 0);
+        CHECK(zuvaropy_has_place(no | refusal) == 0);
+    }
+}
+
+static void test_shifts(void)
+{
+    CHECK(ZUVAROPY_OUTCOME_SHIFT == 56);
+    CHECK(ZUVAROPY_QUESTION_SHIFT == 48);
+    CHECK(ZUVAROPY_INPUT_SHIFT == 40);
+    CHECK(ZUVAROPY_CARD_SHIFT == 32);
+    CHECK(ZUVAROPY_ROW_SHIFT == 16);
+    CHECK(ZUVAROPY_BYTE_SHIFT == 0);
+}
+
+/* From one code to another each has a text of its own, and no other code has one. */
+static void check_texts(const char *(*text)(unsigned int), unsigned int first, unsigned int last, const char *unknown)
+{
+    unsigned int code, other;
+
+    for (code = first; code <= last; code++) {
+        CHECK(text(code)[0] >= 'a' && text(code)[0] <= 'z');
+        CHECK(strcmp(text(code), unknown) != 0);
+        for (other = first; other < code; other++)
+            CHECK(strcmp(text(code), text(other)) != 0);
+    }
+    for (code = last + 1; code <= 300; code++)
+        CHECK(strcmp(text(code), unknown) == 0);
+    CHECK(strcmp(text(first - 1), unknown) == 0); /* first may be 0: the highest of all */
+    CHECK(strcmp(text(~0u), unknown) == 0);
+}
+
+static void test_texts(void)
+{
+    unsigned int question;
+
+    check_texts(zuvaropy_question_text, ZUVAROPY_QUESTION_BUFFER, ZUVAROPY_QUESTION_BOOK, "no such question");
+    check_texts(zuvaropy_input_text, ZUVAROPY_INPUT_BUFFER, ZUVAROPY_INPUT_CARD, "no such input");
+    for (question = ZUVAROPY_QUESTION_BUFFER; question <= ZUVAROPY_QUESTION_BOOK; question++) {
+        const char *text = zuvaropy_question_text(question);
+
+        CHECK(strchr(text, '?') == text + strlen(text) - 1);
+    }
+
+    CHECK(strcmp(zuvaropy_question_text(ZUVAROPY_QUESTION_PARENT), "is the parent below the row's number?") == 0);
+    CHECK(strcmp(zuvaropy_input_text(ZUVAROPY_INPUT_BUFFER), "buffer") == 0);
+    CHECK(strcmp(zuvaropy_input_text(ZUVAROPY_INPUT_FIRST), "first picture") == 0);
+    CHECK(strcmp(zuvaropy_input_text(ZUVAROPY_INPUT_SECOND), "second picture") == 0);
+    CHECK(strcmp(zuvaropy_input_text(ZUVAROPY_INPUT_EVIDENCE), "evidence") == 0);
+    CHECK(strcmp(zuvaropy_input_text(ZUVAROPY_INPUT_BOOK), "book") == 0);
+    CHECK(strcmp(zuvaropy_input_text(ZUVAROPY_INPUT_CARD), "card") == 0);
+    CHECK(strcmp(zuvaropy_question_text(0), "no such question") == 0);
+    CHECK(strcmp(second_unit_text(ZUVAROPY_QUESTION_PARENT), zuvaropy_question_text(ZUVAROPY_QUESTION_PARENT)) == 0);
+}
+
+/* The texts say the sizes of the format as numbers. */
+static void test_numbers_in_texts(void)
+{
+    CHECK(strstr(zuvaropy_question_text(ZUVAROPY_QUESTION_HEAD), "three bytes") != NULL && ZUVAROPY_HEAD_BYTES == 3);
+    CHECK(strstr(zuvaropy_question_text(ZUVAROPY_QUESTION_ROWS), "256 rows") != NULL && ZUVAROPY_MAX_ROWS == 256);
+    CHECK(strstr(zuvaropy_question_text(ZUVAROPY_QUESTION_ROLE), "below 32,") != NULL && ZUVAROPY_ROLES == 32);
+    CHECK(strstr(zuvaropy_question_text(ZUVAROPY_QUESTION_DEPTH), "at most 12?") != NULL && ZUVAROPY_MAX_DEPTH == 12);
 }
 
 static void test_lent(void)
@@ -362,6 +451,10 @@ int main(void)
     test_codes();
     test_questions();
     test_word();
+    test_has_place();
+    test_shifts();
+    test_texts();
+    test_numbers_in_texts();
     test_lent();
     test_validate();
     test_normalize();

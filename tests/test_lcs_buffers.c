@@ -83,7 +83,7 @@ static void test_halves(void)
         word = zuvaropy_lcs(pair.first.bytes, pair.first.length, pair.second.bytes, pair.second.length, work,
                             sizeof work, result, sizeof result);
         if (zuvaropy_outcome(word) == ZUVAROPY_OUTCOME_REFUSAL) {
-            CHECK_WORD(word, word_second(ZUVAROPY_QUESTION_COMMON), rows);
+            CHECK_WORD(word, word_second(ZUVAROPY_QUESTION_COMMON, 0), rows);
             CHECK(area_is_filled(result, sizeof result, 0xA5));
         }
         met[zuvaropy_outcome(word)]++;
@@ -108,10 +108,10 @@ static void test_shared(void)
     normalize_check_half(work + 6147, &pair.first);
     CHECK_WORD(zuvaropy_lcs(file, pair.first.length, file + ZUVAROPY_ROW_BYTES, pair.first.length - ZUVAROPY_ROW_BYTES,
                             work, sizeof work, result, sizeof result),
-               word_second(9), 1);
+               word_second(9, 0), 1);
     CHECK_WORD(zuvaropy_lcs(file + ZUVAROPY_ROW_BYTES, pair.first.length - ZUVAROPY_ROW_BYTES, file, pair.first.length,
                             work, sizeof work, result, sizeof result),
-               word_refusal(9), 2);
+               word_refusal(9, 0), 2);
 }
 
 static void test_nothing(void)
@@ -124,11 +124,11 @@ static void test_nothing(void)
     CHECK_WORD(zuvaropy_lcs(a, pair.first.length, b, pair.second.length, NULL, 0, result, sizeof result), word_short(),
                1);
     CHECK_WORD(zuvaropy_lcs(a, pair.first.length, b, pair.second.length, work, sizeof work, NULL, 0), word_short(), 2);
-    CHECK_WORD(zuvaropy_lcs(NULL, 0, NULL, 0, work, sizeof work, result, sizeof result), word_refusal(2), 3);
-    CHECK_WORD(zuvaropy_lcs(NULL, 0, b, pair.second.length, work, sizeof work, result, sizeof result), word_refusal(2),
-               4);
-    CHECK_WORD(zuvaropy_lcs(a, pair.first.length, NULL, 0, work, sizeof work, result, sizeof result), word_second(2),
-               5);
+    CHECK_WORD(zuvaropy_lcs(NULL, 0, NULL, 0, work, sizeof work, result, sizeof result), word_refusal(2, 0), 3);
+    CHECK_WORD(zuvaropy_lcs(NULL, 0, b, pair.second.length, work, sizeof work, result, sizeof result),
+               word_refusal(2, 0), 4);
+    CHECK_WORD(zuvaropy_lcs(a, pair.first.length, NULL, 0, work, sizeof work, result, sizeof result),
+               word_second(2, 0), 5);
 }
 
 int main(void)

@@ -32,7 +32,7 @@ static void test_pictures(void)
             if (first != ZUVAROPY_QUESTION_BUFFER && second != ZUVAROPY_QUESTION_BUFFER) {
                 picture_refused(&pair.first, first);
                 picture_refused(&pair.second, second);
-                refusal = word_of_pictures(first, second);
+                refusal = word_of_pictures(word_refused(first), word_refused(second));
                 lcs_check(&pair, refusal != 0 ? refusal : word_length(2), 16 * first + second);
                 check_buffers(16 * first + second);
             }
@@ -52,14 +52,14 @@ static void test_common(void)
     for (question = ZUVAROPY_QUESTION_HEAD; question <= ZUVAROPY_QUESTION_MERGED; question++) {
         make_fan(&pair.first);
         picture_refused(&pair.second, question);
-        lcs_check(&pair, word_second(question), question);
+        lcs_check(&pair, word_second(question, picture_refused_row(question)), question);
         picture_refused(&pair.first, question);
         make_fan(&pair.second);
-        lcs_check(&pair, word_refusal(question), question);
+        lcs_check(&pair, word_refused(question), question);
     }
     make_fan(&pair.first);
     make_fan(&pair.second);
-    lcs_check(&pair, word_second(ZUVAROPY_QUESTION_COMMON), 0);
+    lcs_check(&pair, word_second(ZUVAROPY_QUESTION_COMMON, 0), 0);
     check_buffers(0);
 }
 
@@ -82,11 +82,11 @@ static void test_merged(void)
 
     pair.first = broken;
     rows_picture(&pair.second, ROWS(ROOT(0, 0)));
-    lcs_check(&pair, word_refusal(14), 0);
+    lcs_check(&pair, word_refusal(14, 0), 0);
     pair.second = broken;
-    lcs_check(&pair, word_refusal(14), 1);
+    lcs_check(&pair, word_refusal(14, 0), 1);
     rows_picture(&pair.first, ROWS(ROOT_NONE));
-    lcs_check(&pair, word_second(14), 2);
+    lcs_check(&pair, word_second(14, 0), 2);
 }
 
 int main(void)

@@ -13,11 +13,13 @@ static struct picture p;
 /* The first `length` bytes of the longest picture with more bytes after it. */
 static uint64_t wanted(size_t length)
 {
+    const unsigned int row = (unsigned int)(length / ZUVAROPY_ROW_BYTES);
+
     if (length > ZUVAROPY_MAX_PICTURE_BYTES)
-        return word_refusal(8);
+        return word_refusal(8, ZUVAROPY_MAX_ROWS);
     if (length == ZUVAROPY_MAX_PICTURE_BYTES)
         return word_rows(ZUVAROPY_MAX_ROWS);
-    return word_refusal(length % ZUVAROPY_ROW_BYTES < ZUVAROPY_HEAD_BYTES ? 2 : 6);
+    return word_refusal(length % ZUVAROPY_ROW_BYTES < ZUVAROPY_HEAD_BYTES ? 2 : 6, row);
 }
 
 /* `junk`: what the file goes on with, over and over. */
@@ -38,8 +40,8 @@ static void test_nothing(void)
 {
     const uint8_t byte = ZUVAROPY_TAG_ROW;
 
-    CHECK_WORD(zuvaropy_validate(NULL, 0), word_refusal(2), 0);
-    CHECK_WORD(zuvaropy_validate(&byte, 0), word_refusal(2), 0);
+    CHECK_WORD(zuvaropy_validate(NULL, 0), word_refusal(2, 0), 0);
+    CHECK_WORD(zuvaropy_validate(&byte, 0), word_refusal(2, 0), 0);
 }
 
 int main(void)

@@ -85,7 +85,7 @@ static void test_shared(void)
     CHECK_WORD(zuvaropy_most_specific(file + 3, card.length, file + 3 + card.length, 3, work, sizeof work),
                word_cards(0), 1);
     CHECK_WORD(zuvaropy_most_specific(file, lookup.book.length, file, lookup.book.length, work, sizeof work),
-               word_refusal(ZUVAROPY_QUESTION_TAG), 2);
+               word_refusal(ZUVAROPY_QUESTION_TAG, 0), 2);
     CHECK_WORD(zuvaropy_most_specific(file + 3, card.length, file + 3, card.length, work, sizeof work), word_book(), 3);
 }
 
@@ -98,8 +98,8 @@ static void test_nothing(void)
     lookup_make(&lookup, LOOKUP_WORDS - 1);
     CHECK_WORD(zuvaropy_most_specific(NULL, 0, NULL, 0, NULL, 0), word_short(), 0);
     CHECK_WORD(zuvaropy_most_specific(one->bytes, one->length, book->bytes, book->length, NULL, 0), word_short(), 1);
-    CHECK_WORD(zuvaropy_most_specific(NULL, 0, NULL, 0, work, sizeof work), word_refusal(2), 2);
-    CHECK_WORD(zuvaropy_most_specific(NULL, 0, book->bytes, book->length, work, sizeof work), word_refusal(2), 3);
+    CHECK_WORD(zuvaropy_most_specific(NULL, 0, NULL, 0, work, sizeof work), word_refusal(2, 0), 2);
+    CHECK_WORD(zuvaropy_most_specific(NULL, 0, book->bytes, book->length, work, sizeof work), word_refusal(2, 0), 3);
     CHECK_WORD(zuvaropy_most_specific(one->bytes, one->length, NULL, 0, work, sizeof work), word_book(), 4);
 }
 

@@ -15,7 +15,7 @@ static struct lookup lookup;
 static struct picture card;
 
 /* Any cards, which need not be pictures, so that a good form shows as a refusal of card 0. */
-#define GOOD word_card(0, ZUVAROPY_QUESTION_TAG)
+#define GOOD word_card(0, ZUVAROPY_QUESTION_TAG, 0)
 
 static void put_any(unsigned int length)
 {
@@ -51,7 +51,7 @@ static void test_empty_card(void)
     unsigned int n;
 
     make_any(CARDS, 0);
-    most_specific_check(&lookup, word_card(0, ZUVAROPY_QUESTION_HEAD), 0);
+    most_specific_check(&lookup, word_card(0, ZUVAROPY_QUESTION_HEAD, 0), 0);
     make_any(CARDS + 1, 0);
     most_specific_check(&lookup, word_book(), 1);
     for (n = 0; n < CARDS; n++) {
@@ -59,7 +59,7 @@ static void test_empty_card(void)
 
         book_copies(&lookup.book, &card, CARDS);
         book_replace(&lookup.book, n, &empty);
-        most_specific_check(&lookup, word_card(n, ZUVAROPY_QUESTION_HEAD), n);
+        most_specific_check(&lookup, word_card(n, ZUVAROPY_QUESTION_HEAD, 0), n);
     }
 }
 
@@ -152,7 +152,7 @@ static void test_after(void)
 }
 
 /* What a length other than that of the card makes of a book of three: it takes in the next cards, heads and all, so
- * that the card goes on after its end field; else what follows is no head, or is cut. */
+ * that the card, which has one row, goes on after its end field; else what follows is no head, or is cut. */
 static uint64_t wanted_for(unsigned int n, unsigned int length)
 {
     const unsigned int field = ZUVAROPY_CARD_BYTES((unsigned int)card.length);
@@ -160,7 +160,7 @@ static uint64_t wanted_for(unsigned int n, unsigned int length)
 
     if (taken == field)
         return word_cards(0);
-    return taken % field == 0 && taken <= (3 - n) * field ? word_card(n, ZUVAROPY_QUESTION_STOP) : word_book();
+    return taken % field == 0 && taken <= (3 - n) * field ? word_card(n, ZUVAROPY_QUESTION_STOP, 1) : word_book();
 }
 
 static void test_other_lengths(void)

@@ -116,7 +116,7 @@ static void test_merged(void)
     picture_row(&card, 0, ZUVAROPY_KIND_EXISTS, 1);
     picture_end(&card);
     book_replace(&lookup.book, CARDS - 1, &card);
-    CHECK_WORD(most_specific_any(&lookup, 1), word_card(CARDS - 1, ZUVAROPY_QUESTION_MERGED), 1);
+    CHECK_WORD(most_specific_any(&lookup, 1), word_card(CARDS - 1, ZUVAROPY_QUESTION_MERGED, 0), 1);
 }
 
 int main(void)

@@ -29,18 +29,18 @@ static int is_read(unsigned int question)
 static uint64_t wanted_of(unsigned int one, int broken, unsigned int card, unsigned int next)
 {
     if (is_read(one))
-        return word_refusal(one);
+        return word_refused(one);
     if (broken)
         return word_book();
     if (is_read(card))
-        return word_card(0, card);
+        return word_card_refused(0, card);
     if (is_read(next))
-        return word_card(1, next);
+        return word_card_refused(1, next);
     if (one != 0)
-        return word_refusal(one);
+        return word_refused(one);
     if (card != 0)
-        return word_card(0, card);
-    return next != 0 ? word_card(1, next) : word_cards(0);
+        return word_card_refused(0, card);
+    return next != 0 ? word_card_refused(1, next) : word_cards(0);
 }
 
 /* A book of two cards, its last byte cut off if it is to be broken. */
@@ -109,7 +109,7 @@ static void test_each(void)
         for (question = ZUVAROPY_QUESTION_HEAD; question <= MERGED; question++) {
             make_full();
             refuse(card, question);
-            check(word_card(card, question), 16 * card + question);
+            check(word_card_refused(card, question), 16 * card + question);
         }
 }
 
@@ -123,13 +123,13 @@ static void test_two(void)
             make_full();
             refuse(card, ZUVAROPY_QUESTION_IMPOSSIBLE);
             refuse(later, ZUVAROPY_QUESTION_HEAD);
-            check(word_card(card, ZUVAROPY_QUESTION_IMPOSSIBLE), CARDS * card + later);
+            check(word_card_refused(card, ZUVAROPY_QUESTION_IMPOSSIBLE), CARDS * card + later);
             refuse(card, MERGED);
-            check(word_card(later, ZUVAROPY_QUESTION_HEAD), CARDS * card + later);
+            check(word_card_refused(later, ZUVAROPY_QUESTION_HEAD), CARDS * card + later);
             refuse(later, MERGED);
-            check(word_card(card, MERGED), CARDS * card + later);
+            check(word_card_refused(card, MERGED), CARDS * card + later);
             picture_refused(&lookup.case_picture, MERGED);
-            check(word_refusal(MERGED), CARDS * card + later);
+            check(word_refused(MERGED), CARDS * card + later);
         }
 }
 
@@ -142,11 +142,11 @@ static void test_first_and_last(void)
         make_full();
         refuse(0, MERGED);
         refuse(CARDS - 1, question);
-        check(word_card(CARDS - 1, question), question);
+        check(word_card_refused(CARDS - 1, question), question);
         picture_refused(&lookup.case_picture, MERGED);
-        check(word_card(CARDS - 1, question), question);
+        check(word_card_refused(CARDS - 1, question), question);
         picture_refused(&lookup.case_picture, ZUVAROPY_QUESTION_IMPOSSIBLE);
-        check(word_refusal(ZUVAROPY_QUESTION_IMPOSSIBLE), question);
+        check(word_refused(ZUVAROPY_QUESTION_IMPOSSIBLE), question);
     }
 }
 
@@ -162,7 +162,7 @@ static void test_too_many(void)
         book_copies(&lookup.book, &refused, CARDS + 1);
         check(word_book(), question);
         lookup.case_picture = refused;
-        check(question == MERGED ? word_book() : word_refusal(question), question);
+        check(question == MERGED ? word_book() : word_refused(question), question);
     }
 }
 
@@ -176,13 +176,13 @@ static void test_merged(void)
     picture_value(&broken, 0)[ZUVAROPY_IMPOSSIBLE_AT] = 1;
     rows_picture(&lookup.case_picture, ROWS(ROOT(NAME(1), 0)));
     book_copies(&lookup.book, &broken, 1);
-    check(word_card(0, MERGED), 0);
+    check(word_card_refused(0, MERGED), 0);
     book_copies(&lookup.book, &lookup.case_picture, 2);
     book_replace(&lookup.book, 1, &broken);
-    check(word_card(1, MERGED), 1);
+    check(word_card_refused(1, MERGED), 1);
     lookup.case_picture = broken;
     book_copies(&lookup.book, &broken, 0);
-    check(word_refusal(MERGED), 2);
+    check(word_refused(MERGED), 2);
 }
 
 int main(void)

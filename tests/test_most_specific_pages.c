@@ -82,7 +82,8 @@ static void test_cuts(void)
         check_bounds(WORK, word_book());
     lookup_make(&lookup, LOOKUP_WORDS - 1);
     while (lookup.case_picture.length-- > 0)
-        check_bounds(WORK, word_refusal(lookup.case_picture.length % 24 < 3 ? 2 : 6));
+        check_bounds(WORK, word_refusal(lookup.case_picture.length % 24 < 3 ? 2 : 6,
+                                        (unsigned int)lookup.case_picture.length / 24));
 }
 
 /* A value that is said to be longer than the book, by one byte or by all there can be. */

@@ -20,7 +20,7 @@ static struct pages input, output;
 static uint64_t wanted_word(void)
 {
     normal_reference(&reference, p.bytes, p.length);
-    return reference.question == 0 ? (uint64_t)1 << 56 | reference.length : word_refusal(reference.question);
+    return reference.word;
 }
 
 /* Too short by one byte or more: refused, whatever the picture, and nothing written. */
@@ -62,9 +62,9 @@ static void test_refusals(void)
 
     for (question = ZUVAROPY_QUESTION_HEAD; question <= ZUVAROPY_QUESTION_MERGED; question++) {
         picture_refused(&p, question);
-        CHECK_WORD(wanted_word(), word_refusal(question), question);
-        normalize_check_fills(&p, word_refusal(question), NULL, question);
-        normalize_check(&p, NORMALIZE_ROOM, 0xA5, word_refusal(question), NULL, question);
+        CHECK_WORD(wanted_word(), word_refused(question), question);
+        normalize_check_fills(&p, word_refused(question), NULL, question);
+        normalize_check(&p, NORMALIZE_ROOM, 0xA5, word_refused(question), NULL, question);
     }
 }
 
@@ -133,7 +133,7 @@ static void test_nothing(void)
     picture_refused(&p, 0);
     CHECK_WORD(zuvaropy_normalize(p.bytes, p.length, NULL, 0), word_short(), 0);
     CHECK_WORD(zuvaropy_normalize(NULL, 0, NULL, 0), word_short(), 1);
-    CHECK_WORD(zuvaropy_normalize(NULL, 0, result, sizeof result), word_refusal(2), 2);
+    CHECK_WORD(zuvaropy_normalize(NULL, 0, result, sizeof result), word_refusal(2, 0), 2);
 }
 
 int main(void)

@@ -56,12 +56,12 @@ static void test_merged_rows(void)
     check_word_of(word_length(256), 256);
     make_spread(15, 15, ZUVAROPY_KIND_EXISTS);
     picture_end(&p);
-    check_word_of(word_refusal(14), 257);
+    check_word_of(word_refusal(14, 0), 257);
 
     for (outer = 0; outer <= 238; outer++) {
         make_spread(16, outer, ZUVAROPY_KIND_EXISTS);
         picture_end(&p);
-        check_word_of(outer <= 14 ? word_length(18 + 17 * outer) : word_refusal(14), outer);
+        check_word_of(outer <= 14 ? word_length(18 + 17 * outer) : word_refusal(14, 0), outer);
     }
     picture_fan(&p, ZUVAROPY_MAX_ROWS);
     picture_end(&p);
@@ -77,7 +77,7 @@ static void test_merged_before_tidying(void)
     check_word_of(word_length(15), 0);
     make_spread(15, 15, ZUVAROPY_KIND_FORALL);
     picture_end(&p);
-    check_word_of(word_refusal(14), 1);
+    check_word_of(word_refusal(14, 0), 1);
 
     /* The last row, an existential restriction, is impossible, and so is the root. */
     make_spread(16, 14, ZUVAROPY_KIND_EXISTS);
@@ -87,24 +87,24 @@ static void test_merged_before_tidying(void)
     make_spread(15, 15, ZUVAROPY_KIND_EXISTS);
     picture_label(&p, 0, 0, 1);
     picture_end(&p);
-    check_word_of(word_refusal(14), 3);
+    check_word_of(word_refusal(14, 0), 3);
 
     /* The root itself, by its mark and by a name. */
     make_spread(15, 15, ZUVAROPY_KIND_EXISTS);
     picture_end(&p);
     picture_value(&p, 0)[ZUVAROPY_IMPOSSIBLE_AT] = 1;
-    check_word_of(word_refusal(14), 4);
+    check_word_of(word_refusal(14, 0), 4);
     make_spread(15, 15, ZUVAROPY_KIND_EXISTS);
     picture_end(&p);
     picture_value(&p, 0)[ZUVAROPY_WANTED_AT] = 1;
     picture_value(&p, 0)[ZUVAROPY_EXCLUDED_AT] = 1;
-    check_word_of(word_refusal(14), 5);
+    check_word_of(word_refusal(14, 0), 5);
 
     /* The row whose successors are passed on. */
     make_spread(15, 15, ZUVAROPY_KIND_EXISTS);
     picture_end(&p);
     picture_value(&p, 1)[ZUVAROPY_IMPOSSIBLE_AT] = 1;
-    check_word_of(word_refusal(14), 6);
+    check_word_of(word_refusal(14, 0), 6);
 }
 
 /* A chain of all r with `width` some r beside each link: merged, every row but
@@ -152,11 +152,11 @@ static void test_growth(void)
 
             rows = growth_rows(depth, width);
             make_growth(depth, width, NAME(63));
-            check_word_of(rows <= ZUVAROPY_MAX_ROWS ? word_length(rows) : word_refusal(14), depth * 256 + width);
+            check_word_of(rows <= ZUVAROPY_MAX_ROWS ? word_length(rows) : word_refusal(14, 0), depth * 256 + width);
             make_growth(depth, width, 0);
             normal_reference(&reference, p.bytes, p.length);
             CHECK(reference.merged == rows);
-            wanted = rows <= ZUVAROPY_MAX_ROWS ? (uint64_t)1 << 56 | reference.length : word_refusal(14);
+            wanted = rows <= ZUVAROPY_MAX_ROWS ? (uint64_t)1 << 56 | reference.length : word_refusal(14, 0);
             normalize_check_fills(&p, wanted, reference.bytes, depth * 256 + width);
         }
 }
@@ -171,13 +171,13 @@ static void test_order(void)
         if (question != ZUVAROPY_QUESTION_DEPTH) {
             make_growth(ZUVAROPY_MAX_DEPTH, 2, 0);
             picture_damage(&p, last, question);
-            normalize_check_fills(&p, word_refusal(question), NULL, question);
+            normalize_check_fills(&p, word_refusal(question, last), NULL, question);
         }
     make_growth(ZUVAROPY_MAX_DEPTH, 2, 0);
     picture_byte(&p, 0);
-    normalize_check_fills(&p, word_refusal(8), NULL, 8);
+    normalize_check_fills(&p, word_refusal(8, last + 1), NULL, 8);
     p.length -= 2;
-    normalize_check_fills(&p, word_refusal(2), NULL, 2);
+    normalize_check_fills(&p, word_refusal(2, last + 1), NULL, 2);
 }
 
 int main(void)

@@ -47,9 +47,7 @@ static void check_picture(unsigned long at)
 
     normal_reference(&wanted, p.bytes, p.length);
     count_answer();
-    normalize_check(&p, ZUVAROPY_MAX_PICTURE_BYTES, fill,
-                    wanted.question == 0 ? (uint64_t)1 << 56 | wanted.length : word_refusal(wanted.question),
-                    wanted.bytes, at);
+    normalize_check(&p, ZUVAROPY_MAX_PICTURE_BYTES, fill, wanted.word, wanted.bytes, at);
 }
 
 /* The normal table is a picture, and has a normal table in turn. */

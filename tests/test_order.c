@@ -37,7 +37,7 @@ static void test_faults_of_a_row(void)
                 lowest = row_questions[i];
                 picture_damage(&p, row, lowest);
             }
-        CHECK_WORD(picture_validate(&p), word_refusal(lowest), faults);
+        CHECK_WORD(picture_validate(&p), word_refusal(lowest, row), faults);
     }
 }
 
@@ -66,7 +66,7 @@ static void test_faults_of_the_root(void)
                 lowest = fault[i].question;
                 picture_value(&p, 0)[fault[i].at] = (uint8_t)fault[i].byte;
             }
-        CHECK_WORD(picture_validate(&p), word_refusal(lowest), faults);
+        CHECK_WORD(picture_validate(&p), word_refusal(lowest, 0), faults);
     }
 }
 
@@ -83,26 +83,26 @@ static void test_faults_of_two_fields(void)
             make_deep(rows);
             picture_damage(&p, early, question);
             picture_damage(&p, late, row_questions[k]);
-            CHECK_WORD(picture_validate(&p), word_refusal(question), row_questions[k]);
+            CHECK_WORD(picture_validate(&p), word_refusal(question, early), row_questions[k]);
         }
         make_deep(rows); /* 2 */
         picture_damage(&p, early, question);
         p.length = late * ZUVAROPY_ROW_BYTES;
-        CHECK_WORD(picture_validate(&p), word_refusal(question), 2);
+        CHECK_WORD(picture_validate(&p), word_refusal(question, early), 2);
 
         make_deep(ZUVAROPY_MAX_ROWS + 1); /* 5 */
         picture_damage(&p, early, question);
-        CHECK_WORD(picture_validate(&p), word_refusal(question), 5);
+        CHECK_WORD(picture_validate(&p), word_refusal(question, early), 5);
 
         make_deep(rows); /* 6 */
         picture_damage(&p, early, question);
         p.length = rows * ZUVAROPY_ROW_BYTES - 1;
-        CHECK_WORD(picture_validate(&p), word_refusal(question), 6);
+        CHECK_WORD(picture_validate(&p), word_refusal(question, early), 6);
 
         make_deep(rows); /* 8 */
         picture_damage(&p, early, question);
         picture_byte(&p, 0);
-        CHECK_WORD(picture_validate(&p), word_refusal(question), 8);
+        CHECK_WORD(picture_validate(&p), word_refusal(question, early), 8);
     }
 }
 
@@ -115,12 +115,13 @@ static void test_one_row_too_many(void)
     for (there = 0; there <= ZUVAROPY_ROW_BYTES; there++) {
         make_deep(row + 1);
         p.length = row * ZUVAROPY_ROW_BYTES + there;
-        CHECK_WORD(picture_validate(&p), word_refusal(there < ZUVAROPY_HEAD_BYTES ? 2 : 5), there);
+        CHECK_WORD(picture_validate(&p), word_refusal(there < ZUVAROPY_HEAD_BYTES ? 2 : 5, row), there);
     }
     for (i = 0; i < ROW_QUESTIONS; i++) {
         make_deep(row + 1);
         picture_damage(&p, row, row_questions[i]);
-        CHECK_WORD(picture_validate(&p), word_refusal(row_questions[i] < 5 ? row_questions[i] : 5), row_questions[i]);
+        CHECK_WORD(picture_validate(&p), word_refusal(row_questions[i] < 5 ? row_questions[i] : 5, row),
+                   row_questions[i]);
     }
 }
 
@@ -135,7 +136,7 @@ static void test_cut_row(void)
             make_deep(row + 1);
             picture_damage(&p, row, row_questions[i]);
             p.length = row * ZUVAROPY_ROW_BYTES + ZUVAROPY_HEAD_BYTES + there;
-            CHECK_WORD(picture_validate(&p), word_refusal(row_questions[i] < 6 ? row_questions[i] : 6), there);
+            CHECK_WORD(picture_validate(&p), word_refusal(row_questions[i] < 6 ? row_questions[i] : 6, row), there);
         }
 }
 
@@ -149,16 +150,16 @@ static void test_end(void)
         picture_end(&p);
         while (p.length < ZUVAROPY_HEAD_BYTES + after)
             picture_byte(&p, after);
-        CHECK_WORD(picture_validate(&p), word_refusal(7), after);
+        CHECK_WORD(picture_validate(&p), word_refusal(7, 0), after);
         p.bytes[2] = 1;
-        CHECK_WORD(picture_validate(&p), word_refusal(4), after);
+        CHECK_WORD(picture_validate(&p), word_refusal(4, 0), after);
 
         picture_fan(&p, 2);
         picture_end(&p);
         p.bytes[p.length - 1] = 1;
         while (p.length < (size_t)ZUVAROPY_PICTURE_BYTES(2) + after)
             picture_byte(&p, after);
-        CHECK_WORD(picture_validate(&p), word_refusal(4), after);
+        CHECK_WORD(picture_validate(&p), word_refusal(4, 2), after);
     }
 
     /* A good picture may not follow an end field, with or without rows before it. */
@@ -166,12 +167,12 @@ static void test_end(void)
     picture_end(&p);
     picture_row(&p, 0, ZUVAROPY_KIND_ROOT, 0);
     picture_end(&p);
-    CHECK_WORD(picture_validate(&p), word_refusal(7), 0);
+    CHECK_WORD(picture_validate(&p), word_refusal(7, 0), 0);
     picture_fan(&p, 1);
     picture_end(&p);
     picture_row(&p, 0, ZUVAROPY_KIND_EXISTS, 0);
     picture_end(&p);
-    CHECK_WORD(picture_validate(&p), word_refusal(8), 0);
+    CHECK_WORD(picture_validate(&p), word_refusal(8, 1), 0);
 }
 
 int main(void)

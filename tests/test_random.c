@@ -73,8 +73,7 @@ int main(void)
             random_damage(&p);
         wanted = reference_read(p.bytes, p.length);
         met[wanted.question]++;
-        CHECK_WORD(picture_validate(&p), wanted.question == 0 ? word_rows(wanted.rows) : word_refusal(wanted.question),
-                   i);
+        CHECK_WORD(picture_validate(&p), reference_word(&wanted), i);
     }
 
     /* The pictures reach every answer, and often. */

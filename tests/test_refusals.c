@@ -19,7 +19,9 @@ static void make_small(void)
 static void test_words(void)
 {
     CHECK(word_rows(256) == UINT64_C(0x0100000000000100));
-    CHECK(word_refusal(13) == UINT64_C(0x000D010000000000));
+    CHECK(word_refusal(13, 0) == UINT64_C(0x000D010000000000));
+    CHECK(word_refusal(11, 3) == UINT64_C(0x000B010000030048));
+    CHECK(word_refusal(5, 256) == UINT64_C(0x0005010001001800));
 }
 
 static void test_rows(void)
@@ -36,26 +38,27 @@ static void test_rows(void)
     for (; rows <= ZUVAROPY_MAX_ROWS + 8; rows++) {
         picture_fan(&p, rows);
         picture_end(&p);
-        CHECK_WORD(picture_validate(&p), word_refusal(5), rows);
+        CHECK_WORD(picture_validate(&p), word_refusal(5, ZUVAROPY_MAX_ROWS), rows);
     }
 }
 
 static void test_depth(void)
 {
+    const unsigned int row = ZUVAROPY_MAX_DEPTH + 1; /* the first one too deep, and the one after the chain */
     unsigned int edges;
 
     for (edges = 0; edges <= 40; edges++) {
         picture_chain(&p, edges);
         picture_end(&p);
-        CHECK_WORD(picture_validate(&p), edges <= ZUVAROPY_MAX_DEPTH ? word_rows(edges + 1) : word_refusal(12), edges);
+        CHECK_WORD(picture_validate(&p), edges < row ? word_rows(edges + 1) : word_refusal(12, row), edges);
     }
     /* A row under each row of the deepest chain. */
     for (edges = 0; edges <= ZUVAROPY_MAX_DEPTH; edges++) {
         picture_chain(&p, ZUVAROPY_MAX_DEPTH);
         picture_row(&p, edges, ZUVAROPY_KIND_EXISTS, 0);
         picture_end(&p);
-        CHECK_WORD(picture_validate(&p),
-                   edges < ZUVAROPY_MAX_DEPTH ? word_rows(ZUVAROPY_MAX_DEPTH + 2) : word_refusal(12), edges);
+        CHECK_WORD(picture_validate(&p), edges < ZUVAROPY_MAX_DEPTH ? word_rows(row + 1) : word_refusal(12, row),
+                   edges);
     }
 }
 
@@ -65,36 +68,36 @@ static void test_each_question(void)
     unsigned int question;
 
     picture_clear(&p);
-    CHECK_WORD(picture_validate(&p), word_refusal(2), 2);
+    CHECK_WORD(picture_validate(&p), word_refusal(2, 0), 2);
 
     for (question = 3; question <= 4; question++) {
         make_small();
         picture_damage(&p, 2, question);
-        CHECK_WORD(picture_validate(&p), word_refusal(question), question);
+        CHECK_WORD(picture_validate(&p), word_refusal(question, 2), question);
     }
 
     picture_fan(&p, ZUVAROPY_MAX_ROWS + 1);
     picture_end(&p);
-    CHECK_WORD(picture_validate(&p), word_refusal(5), 5);
+    CHECK_WORD(picture_validate(&p), word_refusal(5, 256), 5);
 
     make_small();
     p.length = 4 * ZUVAROPY_ROW_BYTES - 1;
-    CHECK_WORD(picture_validate(&p), word_refusal(6), 6);
+    CHECK_WORD(picture_validate(&p), word_refusal(6, 3), 6);
 
     picture_clear(&p);
     picture_end(&p);
-    CHECK_WORD(picture_validate(&p), word_refusal(7), 7);
+    CHECK_WORD(picture_validate(&p), word_refusal(7, 0), 7);
 
     make_small();
     picture_byte(&p, 0);
-    CHECK_WORD(picture_validate(&p), word_refusal(8), 8);
+    CHECK_WORD(picture_validate(&p), word_refusal(8, 4), 8);
 
     for (question = 9; question <= 13; question++) {
         picture_chain(&p, ZUVAROPY_MAX_DEPTH);
         picture_row(&p, 0, ZUVAROPY_KIND_EXISTS, 0);
         picture_end(&p);
         picture_damage(&p, ZUVAROPY_MAX_DEPTH + 1, question);
-        CHECK_WORD(picture_validate(&p), word_refusal(question), question);
+        CHECK_WORD(picture_validate(&p), word_refusal(question, ZUVAROPY_MAX_DEPTH + 1), question);
     }
 }
 
@@ -108,15 +111,15 @@ static void test_tags(void)
         picture_field(&p, 2)[0] = (uint8_t)tag;
         CHECK_WORD(picture_validate(&p),
                    tag == ZUVAROPY_TAG_ROW   ? word_rows(4)
-                   : tag == ZUVAROPY_TAG_END ? word_refusal(4)
-                                             : word_refusal(3),
+                   : tag == ZUVAROPY_TAG_END ? word_refusal(4, 2)
+                                             : word_refusal(3, 2),
                    tag);
         make_small();
         picture_field(&p, 4)[0] = (uint8_t)tag;
         CHECK_WORD(picture_validate(&p),
                    tag == ZUVAROPY_TAG_END   ? word_rows(4)
-                   : tag == ZUVAROPY_TAG_ROW ? word_refusal(4)
-                                             : word_refusal(3),
+                   : tag == ZUVAROPY_TAG_ROW ? word_refusal(4, 4)
+                                             : word_refusal(3, 4),
                    tag);
     }
 }
@@ -130,13 +133,14 @@ static void test_field_lengths(void)
     for (length = 0; length < 65536; length++) {
         picture_field(&p, 2)[1] = (uint8_t)(length >> 8);
         picture_field(&p, 2)[2] = (uint8_t)length;
-        CHECK_WORD(picture_validate(&p), length == ZUVAROPY_ROW_VALUE_BYTES ? word_rows(4) : word_refusal(4), length);
+        CHECK_WORD(picture_validate(&p), length == ZUVAROPY_ROW_VALUE_BYTES ? word_rows(4) : word_refusal(4, 2),
+                   length);
     }
     make_small();
     for (length = 0; length < 65536; length++) {
         picture_field(&p, 4)[1] = (uint8_t)(length >> 8);
         picture_field(&p, 4)[2] = (uint8_t)length;
-        CHECK_WORD(picture_validate(&p), length == 0 ? word_rows(4) : word_refusal(4), length);
+        CHECK_WORD(picture_validate(&p), length == 0 ? word_rows(4) : word_refusal(4, 4), length);
     }
 }
 
@@ -148,7 +152,8 @@ static void test_byte(unsigned int row, unsigned int at, unsigned int first, uns
     make_small();
     for (byte = 0; byte < 256; byte++) {
         picture_value(&p, row)[at] = (uint8_t)byte;
-        CHECK_WORD(picture_validate(&p), first <= byte && byte < limit ? word_rows(4) : word_refusal(question), byte);
+        CHECK_WORD(picture_validate(&p), first <= byte && byte < limit ? word_rows(4) : word_refusal(question, row),
+                   byte);
     }
 }
 
@@ -182,7 +187,7 @@ static void test_parents(void)
         for (parent = 0; parent < 65536; parent++) {
             picture_value(&p, row)[ZUVAROPY_PARENT_AT] = (uint8_t)(parent >> 8);
             picture_value(&p, row)[ZUVAROPY_PARENT_AT + 1] = (uint8_t)parent;
-            CHECK_WORD(picture_validate(&p), parent == 0 || parent < row ? word_rows(row + 1) : word_refusal(11),
+            CHECK_WORD(picture_validate(&p), parent == 0 || parent < row ? word_rows(row + 1) : word_refusal(11, row),
                        parent);
         }
     }

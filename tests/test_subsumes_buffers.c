@@ -112,10 +112,10 @@ static void test_shared(void)
     normalize_check_half(work + 6147, &in.first);
     CHECK_WORD(zuvaropy_subsumes(file, in.first.length, file + ZUVAROPY_ROW_BYTES, in.first.length - ZUVAROPY_ROW_BYTES,
                                  work, sizeof work, result, sizeof result),
-               word_second(9), 1);
+               word_second(9, 0), 1);
     CHECK_WORD(zuvaropy_subsumes(file + ZUVAROPY_ROW_BYTES, in.first.length - ZUVAROPY_ROW_BYTES, file, in.first.length,
                                  work, sizeof work, result, sizeof result),
-               word_refusal(9), 2);
+               word_refusal(9, 0), 2);
 }
 
 static void test_nothing(void)
@@ -128,11 +128,11 @@ static void test_nothing(void)
     CHECK_WORD(zuvaropy_subsumes(a, in.first.length, b, in.second.length, NULL, 0, result, sizeof result), word_short(),
                1);
     CHECK_WORD(zuvaropy_subsumes(a, in.first.length, b, in.second.length, work, sizeof work, NULL, 0), word_short(), 2);
-    CHECK_WORD(zuvaropy_subsumes(NULL, 0, NULL, 0, work, sizeof work, result, sizeof result), word_refusal(2), 3);
+    CHECK_WORD(zuvaropy_subsumes(NULL, 0, NULL, 0, work, sizeof work, result, sizeof result), word_refusal(2, 0), 3);
     CHECK_WORD(zuvaropy_subsumes(NULL, 0, b, in.second.length, work, sizeof work, result, sizeof result),
-               word_refusal(2), 4);
-    CHECK_WORD(zuvaropy_subsumes(a, in.first.length, NULL, 0, work, sizeof work, result, sizeof result), word_second(2),
-               5);
+               word_refusal(2, 0), 4);
+    CHECK_WORD(zuvaropy_subsumes(a, in.first.length, NULL, 0, work, sizeof work, result, sizeof result),
+               word_second(2, 0), 5);
 }
 
 int main(void)

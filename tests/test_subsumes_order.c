@@ -33,7 +33,7 @@ static void test_pictures(void)
             if (first != ZUVAROPY_QUESTION_BUFFER && second != ZUVAROPY_QUESTION_BUFFER) {
                 picture_refused(&in.first, first);
                 picture_refused(&in.second, second);
-                refusal = word_of_pictures(first, second);
+                refusal = word_of_pictures(word_refused(first), word_refused(second));
                 subsumes_check(&in, refusal != 0 ? refusal : word_yes(2), 16 * first + second);
                 check_buffers(16 * first + second);
             }
@@ -57,11 +57,11 @@ static void test_merged(void)
 
     in.first = broken;
     rows_picture(&in.second, ROWS(ROOT(0, 0)));
-    subsumes_check(&in, word_refusal(14), 0);
+    subsumes_check(&in, word_refusal(14, 0), 0);
     in.second = broken;
-    subsumes_check(&in, word_refusal(14), 1);
+    subsumes_check(&in, word_refusal(14, 0), 1);
     rows_picture(&in.first, ROWS(ROOT_NONE));
-    subsumes_check(&in, word_second(14), 2);
+    subsumes_check(&in, word_second(14, 0), 2);
 }
 
 int main(void)

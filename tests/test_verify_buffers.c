@@ -98,7 +98,7 @@ static void test_shared(void)
                word_evidence(16), 1);
     CHECK_WORD(zuvaropy_verify(file, in.first.length, file + ZUVAROPY_ROW_BYTES, in.first.length - ZUVAROPY_ROW_BYTES,
                                file, in.first.length, work, sizeof work),
-               word_second(9), 2);
+               word_second(9, 0), 2);
 }
 
 static void test_nothing(void)
@@ -112,9 +112,9 @@ static void test_nothing(void)
     CHECK_WORD(zuvaropy_verify(NULL, 0, NULL, 0, NULL, 0, NULL, 0), word_short(), 0);
     CHECK_WORD(zuvaropy_verify(a, in.first.length, b, in.second.length, in.evidence.bytes, in.evidence.length, NULL, 0),
                word_short(), 1);
-    CHECK_WORD(zuvaropy_verify(NULL, 0, NULL, 0, NULL, 0, work, sizeof work), word_refusal(2), 2);
-    CHECK_WORD(zuvaropy_verify(NULL, 0, b, in.second.length, NULL, 0, work, sizeof work), word_refusal(2), 3);
-    CHECK_WORD(zuvaropy_verify(a, in.first.length, NULL, 0, NULL, 0, work, sizeof work), word_second(2), 4);
+    CHECK_WORD(zuvaropy_verify(NULL, 0, NULL, 0, NULL, 0, work, sizeof work), word_refusal(2, 0), 2);
+    CHECK_WORD(zuvaropy_verify(NULL, 0, b, in.second.length, NULL, 0, work, sizeof work), word_refusal(2, 0), 3);
+    CHECK_WORD(zuvaropy_verify(a, in.first.length, NULL, 0, NULL, 0, work, sizeof work), word_second(2, 0), 4);
     CHECK_WORD(zuvaropy_verify(a, in.first.length, b, in.second.length, NULL, 0, work, sizeof work), word_evidence(16),
                5);
 }

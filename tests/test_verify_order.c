@@ -46,7 +46,7 @@ static void test_pictures(void)
             if (first != ZUVAROPY_QUESTION_BUFFER && second != ZUVAROPY_QUESTION_BUFFER) {
                 picture_refused(&in.first, first);
                 picture_refused(&in.second, second);
-                refusal = word_of_pictures(first, second);
+                refusal = word_of_pictures(word_refused(first), word_refused(second));
                 verify_check(&in, refusal != 0 ? refusal : word_evidence(16), 16 * first + second);
             }
 }
@@ -57,18 +57,18 @@ static void test_merged_before_evidence(void)
     picture_refused(&in.first, ZUVAROPY_QUESTION_MERGED);
     rows_picture(&in.second, ROWS(ROOT(0, 0)));
     evidence_map(&in.evidence, IMAGES(0));
-    verify_check(&in, word_refusal(14), 0);
+    verify_check(&in, word_refusal(14, 0), 0);
     evidence_map(&in.evidence, IMAGES(65535));
-    verify_check(&in, word_refusal(14), 1);
+    verify_check(&in, word_refusal(14, 0), 1);
 
     rows_picture(&in.first, ROWS(ROOT(0, 0)));
     picture_refused(&in.second, ZUVAROPY_QUESTION_MERGED);
     evidence_clear(&in.evidence);
     evidence_individual(&in.evidence, 0, 0, 0);
     evidence_end(&in.evidence);
-    verify_check(&in, word_second(14), 2);
+    verify_check(&in, word_second(14, 0), 2);
     evidence_value(&in.evidence, 0)[ZUVAROPY_INDIVIDUAL_ROLE_AT] = 1;
-    verify_check(&in, word_second(14), 3);
+    verify_check(&in, word_second(14, 0), 3);
 }
 
 /* A pair that is mapped row by row to the same row. The first has one row more,

@@ -63,9 +63,9 @@ uint64_t word_refutation_taken(void)
     return (uint64_t)2 << 56;
 }
 
-uint64_t word_second(unsigned int question)
+uint64_t word_second(unsigned int question, unsigned int row)
 {
-    return (uint64_t)question << 48 | (uint64_t)2 << 40;
+    return (uint64_t)question << 48 | (uint64_t)2 << 40 | word_place(row);
 }
 
 uint64_t word_evidence(unsigned int question)
@@ -73,10 +73,16 @@ uint64_t word_evidence(unsigned int question)
     return (uint64_t)question << 48 | (uint64_t)3 << 40;
 }
 
+/* A refusal of the first input as one of the second. */
+static uint64_t of_second(uint64_t word)
+{
+    return word_second(zuvaropy_question(word), zuvaropy_row(word));
+}
+
 uint64_t word_number(unsigned int n)
 {
     if (n < PICTURE_WORDS)
-        return n % 2 == 0 ? word_refusal(2 + n / 2) : word_second(2 + n / 2);
+        return n % 2 == 0 ? word_refused(2 + n / 2) : of_second(word_refused(2 + n / 2));
     if (n < WORDS - 2)
         return word_evidence(ZUVAROPY_QUESTION_FORM + n - PICTURE_WORDS);
     return n == WORDS - 1 ? word_map_taken() : word_refutation_taken();
@@ -119,15 +125,21 @@ void verify_make(struct inputs *in, uint64_t word)
         picture_refused(&in->second, question);
 }
 
-uint64_t word_of_pictures(unsigned int first, unsigned int second)
+/* Is it a refusal by question 2 to 13? */
+static int is_read(uint64_t word)
 {
-    if (first != 0 && first != ZUVAROPY_QUESTION_MERGED)
-        return word_refusal(first);
-    if (second != 0 && second != ZUVAROPY_QUESTION_MERGED)
-        return word_second(second);
+    return word != 0 && zuvaropy_question(word) != ZUVAROPY_QUESTION_MERGED;
+}
+
+uint64_t word_of_pictures(uint64_t first, uint64_t second)
+{
+    if (is_read(first))
+        return first;
+    if (is_read(second))
+        return of_second(second);
     if (first != 0)
-        return word_refusal(first);
-    return second != 0 ? word_second(second) : 0;
+        return first;
+    return second != 0 ? of_second(second) : 0;
 }
 
 int word_writes(uint64_t word)

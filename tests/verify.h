@@ -22,11 +22,12 @@ uint64_t verify_any(const struct inputs *in, unsigned long at);
 /* The same with several fills; the word must be `wanted`. */
 void verify_check(const struct inputs *in, uint64_t wanted, unsigned long at);
 
-/* The answer words: evidence that was taken, and refusals of the second input
- * and of the evidence. Those of the first and of a buffer are in picture.h. */
+/* The answer words: evidence that was taken, and refusals of the second input,
+ * at a row, and of the evidence. Those of the first and of a buffer are in
+ * picture.h. */
 uint64_t word_map_taken(void);
 uint64_t word_refutation_taken(void);
-uint64_t word_second(unsigned int question);
+uint64_t word_second(unsigned int question, unsigned int row);
 uint64_t word_evidence(unsigned int question);
 
 /* Each word but that of a short work space, by a number below WORDS: 2 to 14 of
@@ -35,11 +36,10 @@ uint64_t word_evidence(unsigned int question);
 #define WORDS (PICTURE_WORDS + 8 + 2)
 uint64_t word_number(unsigned int n);
 
-/* The refusal of two pictures of which these questions refuse the first and the
- * second: 2 to 13 of the first, 2 to 13 of the second, 14 of the first, 14 of
- * the second. 0 for a picture that none refuses, and for the word if there is no
- * refusal. */
-uint64_t word_of_pictures(unsigned int first, unsigned int second);
+/* The refusal of two pictures, from those of each by itself as the first input:
+ * 2 to 13 of the first, 2 to 13 of the second, 14 of the first, 14 of the second.
+ * 0 for a picture that is not refused, and for the word if there is no refusal. */
+uint64_t word_of_pictures(uint64_t first, uint64_t second);
 
 /* Is the work space written where this is the word? */
 int word_writes(uint64_t word);

@@ -235,16 +235,16 @@ uint64_t reference_verify(const uint8_t *first, size_t first_len, const uint8_t 
                           const uint8_t *evidence, size_t evidence_len, uint8_t *work, size_t work_len)
 {
     static struct normal_reference first_table, second_table;
-    unsigned int question;
+    struct reference read;
 
     if (work_len < ZUVAROPY_WORK_BYTES)
         return refusal(ZUVAROPY_INPUT_BUFFER, ZUVAROPY_QUESTION_BUFFER);
-    question = reference_read(first, first_len).question;
-    if (question != 0)
-        return refusal(ZUVAROPY_INPUT_FIRST, question);
-    question = reference_read(second, second_len).question;
-    if (question != 0)
-        return refusal(ZUVAROPY_INPUT_SECOND, question);
+    read = reference_read(first, first_len);
+    if (read.question != 0)
+        return refusal(ZUVAROPY_INPUT_FIRST, read.question) | reference_place(&read);
+    read = reference_read(second, second_len);
+    if (read.question != 0)
+        return refusal(ZUVAROPY_INPUT_SECOND, read.question) | reference_place(&read);
     normal_reference(&first_table, first, first_len);
     if (first_table.question != 0)
         return refusal(ZUVAROPY_INPUT_FIRST, first_table.question);

@@ -53,11 +53,21 @@ static int can_refuse(unsigned int question, unsigned int input)
     return 0;
 }
 
+/* Row and byte go together, and a question that says none has 0 for both. */
+static void check_place(uint64_t word)
+{
+    const unsigned int question = zuvaropy_question(word);
+    const int placed = question >= ZUVAROPY_QUESTION_HEAD && question <= ZUVAROPY_QUESTION_IMPOSSIBLE;
+
+    CHECK(zuvaropy_row(word) <= (placed ? ZUVAROPY_MAX_ROWS : 0));
+    CHECK(zuvaropy_byte(word) == zuvaropy_row(word) * ZUVAROPY_ROW_BYTES);
+}
+
 static void check_refusal(uint64_t word)
 {
     const unsigned int question = zuvaropy_question(word), input = zuvaropy_input(word), card = zuvaropy_card(word);
 
-    CHECK(zuvaropy_value(word) == 0);
+    check_place(word);
     CHECK(card < ZUVAROPY_MAX_CARDS && (card == 0 || input == ZUVAROPY_INPUT_CARD));
     CHECK(can_refuse(question, input));
     if (!can_refuse(question, input))

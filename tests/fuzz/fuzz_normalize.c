@@ -21,11 +21,7 @@ static struct picture p, table, again;
 
 static uint64_t wanted_word(const struct lent *result, const struct normal_reference *normal)
 {
-    if (result->length < ZUVAROPY_MAX_PICTURE_BYTES)
-        return word_short();
-    if (normal->question != 0)
-        return word_refusal(normal->question);
-    return word_length((unsigned int)(normal->length / ZUVAROPY_ROW_BYTES));
+    return result->length < ZUVAROPY_MAX_PICTURE_BYTES ? word_short() : normal->word;
 }
 
 static void check_table(const struct lent *result, size_t length)

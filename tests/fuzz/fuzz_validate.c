@@ -13,13 +13,15 @@ static const struct refusable refusable[] = {
 };
 const struct target fuzz_target = {"fuzz_validate", "p", refusable, ZUVAROPY_OUTCOME_YES};
 
-/* A picture that is cut off lacks a head, or a row's value. */
+/* A picture that is cut off lacks a head, or a row's value, in the row where it stops. */
 static void check_cut(const struct picture *p, size_t length)
 {
     const int head = length % ZUVAROPY_ROW_BYTES < ZUVAROPY_HEAD_BYTES;
 
     CHECK_WORD(zuvaropy_validate(p->bytes, length),
-               word_refusal(head ? ZUVAROPY_QUESTION_HEAD : ZUVAROPY_QUESTION_VALUE), length);
+               word_refusal(head ? ZUVAROPY_QUESTION_HEAD : ZUVAROPY_QUESTION_VALUE,
+                            (unsigned int)(length / ZUVAROPY_ROW_BYTES)),
+               length);
 }
 
 int LLVMFuzzerTestOneInput(const uint8_t *data, size_t size)
@@ -37,7 +39,7 @@ int LLVMFuzzerTestOneInput(const uint8_t *data, size_t size)
     fuzz_check_word(word);
     wanted = reference_read(p.bytes, p.length);
     fuzz_met(FEATURE_FIRST, wanted.rows);
-    CHECK_WORD(word, wanted.question == 0 ? word_rows(wanted.rows) : word_refusal(wanted.question), size);
+    CHECK_WORD(word, reference_word(&wanted), size);
     CHECK(lent_is_kept(&lent, 0));
     if (wanted.question == 0)
         check_cut(&p, feed_number(&feed) % p.length);

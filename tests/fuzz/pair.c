@@ -17,24 +17,24 @@ void pair_lend(struct feed *feed, struct picture *first, struct picture *second,
     lent_file(&lent->second, second->bytes, second->length);
 }
 
-/* The question that refuses a picture by itself; 0 if there is none. */
-static unsigned int question_of(const struct picture *p, enum feature rows)
+/* The refusal of a picture by itself; 0 if there is none. */
+static uint64_t refusal_of(const struct picture *p, enum feature rows)
 {
     static uint8_t table[ZUVAROPY_MAX_PICTURE_BYTES];
     const uint64_t word = zuvaropy_normalize(p->bytes, p->length, table, sizeof table);
 
     fuzz_met(rows, zuvaropy_value(word) / ZUVAROPY_ROW_BYTES);
-    return zuvaropy_question(word);
+    return zuvaropy_outcome(word) == ZUVAROPY_OUTCOME_REFUSAL ? word : 0;
 }
 
 uint64_t pair_refusal(const struct picture *first, const struct picture *second, const struct buffers *lent,
                       size_t result_needed)
 {
-    const unsigned int question = question_of(first, FEATURE_FIRST);
+    const uint64_t refusal = refusal_of(first, FEATURE_FIRST);
 
     if (lent->work.length < ZUVAROPY_WORK_BYTES || lent->result.length < result_needed)
         return word_short();
-    return word_of_pictures(question, question_of(second, FEATURE_SECOND));
+    return word_of_pictures(refusal, refusal_of(second, FEATURE_SECOND));
 }
 
 static void check_pictures(const struct buffers *lent)

@@ -15,7 +15,8 @@ pub struct Call {
     /// The bytes that a buffer lent for writing needs; 0 where the call has none.
     pub work: usize,
     pub result: usize,
-    /// Every refusal there is: an input, and the questions from one to another that can refuse it.
+    /// Every refusal there is: an input, and the questions from one to another that can refuse it. Which rows a
+    /// question can name is the same for all.
     pub refusals: &'static [(Input, u8, u8)],
     pub library: Side,
     pub reference: Side,

@@ -9,7 +9,7 @@ use std::array;
 use super::homomorphism::Search;
 use super::normal::{self, TooLarge};
 use super::table::{Table, HEAD_BYTES, TAG_END};
-use super::{card_refusal, refusal, Input};
+use super::{of_card, refusal, refusal_at, Input};
 
 pub const TAG_CARD: u8 = 0x51;
 pub const MAX_CARDS: usize = 32;
@@ -17,16 +17,17 @@ pub const MAX_CARDS: usize = 32;
 /// The set of these cards, or the word of the refusal.
 pub fn find(case: &[u8], book: &[u8]) -> Result<u32, u64> {
     let mut picture = Table::EMPTY;
-    picture.read(case).map_err(|question| refusal(Input::First, question))?;
+    picture.read(case).map_err(|refused| refusal_at(Input::First, refused))?;
     let mut instance = Table::EMPTY;
     let mut too_large = normal::normalize(&picture, &mut instance).err().map(|TooLarge| refusal(Input::First, 14));
     let (cards, count) = split(book).ok_or(refusal(Input::Book, 24))?;
     let mut kept = Kept { tables: array::from_fn(|_| None), cards: [0; MAX_CARDS], count: 0 };
     for (card, file) in cards[..count].iter().enumerate() {
         picture.clear();
-        picture.read(file).map_err(|question| card_refusal(card, question))?;
+        picture.read(file).map_err(|refused| of_card(card, refusal_at(Input::Card, refused)))?;
         if too_large.is_none() {
-            too_large = kept.add(card, &picture, &instance).err().map(|TooLarge| card_refusal(card, 14));
+            let added = kept.add(card, &picture, &instance);
+            too_large = added.err().map(|TooLarge| of_card(card, refusal(Input::Card, 14)));
         }
     }
     match too_large {

@@ -1,7 +1,8 @@
 //! The library and the reference agree on pairs of pictures, and on cases with books, made at random: on the words, on
 //! every byte of the buffers lent, and on evidence, whole and damaged. Which refutation is written is the library's
 //! choice; whichever it is, both checks take it. Before that they agree on inputs made by hand: on every truncation of
-//! their files, on buffers of every sort, and on every refusal. Each refusal that a call can give has to be met.
+//! their files, on buffers of every sort, and on every refusal at every row. Each refusal that a call can give has to
+//! be met, at each row that it can name, and no other.
 //!
 //!     random [--seed S] [--seconds N]
 //!
@@ -87,6 +88,7 @@ fn main() -> ExitCode {
     books.check_tally(&mut both);
     both.refusals.print();
     both.checks.check_met(both.refusals.answers());
+    both.checks.check(both.refusals.none_else(), || "a refusal that no call can give".to_string());
     let Checks { passed, failed } = both.checks;
     println!("test_rust_random: {passed} passed, {failed} failed");
     ExitCode::from(u8::from(failed > 0))

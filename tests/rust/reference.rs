@@ -23,7 +23,7 @@ pub mod table;
 
 use evidence::Taken;
 use homomorphism::Search;
-use table::{Table, HEAD_BYTES, MAX_BYTES, MAX_DEPTH, MAX_ROWS};
+use table::{Refused, Table, HEAD_BYTES, MAX_BYTES, MAX_DEPTH, MAX_ROWS};
 
 pub const ROLES: u8 = 32;
 
@@ -49,12 +49,20 @@ pub enum Input {
     Card = 5,
 }
 
+/// Of 1 and of 14 to 24: they name no place.
 pub fn refusal(input: Input, question: u8) -> u64 {
     u64::from(question) << 48 | (input as u64) << 40
 }
 
-pub fn card_refusal(card: usize, question: u8) -> u64 {
-    refusal(Input::Card, question) | (card as u64) << 32
+/// Of a picture that cannot be read.
+pub fn refusal_at(input: Input, refused: Refused) -> u64 {
+    let Refused { question, row, byte } = refused;
+    refusal(input, question) | (row as u64) << 16 | byte as u64
+}
+
+/// A refusal of a card, with the card's number.
+pub fn of_card(card: usize, refusal: u64) -> u64 {
+    refusal | (card as u64) << 32
 }
 
 pub fn answer(outcome: u64, value: usize) -> u64 {
@@ -69,6 +77,11 @@ pub fn question(word: u64) -> u8 {
     (word >> 48) as u8
 }
 
+/// Of a refusal: the row that was being read.
+pub fn row(word: u64) -> usize {
+    usize::from((word >> 16) as u16)
+}
+
 pub fn value(word: u64) -> usize {
     word as u32 as usize
 }
@@ -77,7 +90,7 @@ pub fn validate(picture: &[u8]) -> u64 {
     let mut table = Table::EMPTY;
     match table.read(picture) {
         Ok(()) => answer(YES, table.count),
-        Err(question) => refusal(Input::First, question),
+        Err(refused) => refusal_at(Input::First, refused),
     }
 }
 
@@ -87,8 +100,8 @@ pub fn normalize(picture: &[u8], result: &mut [u8]) -> u64 {
     }
     let mut table = Table::EMPTY;
     let mut normal = Table::EMPTY;
-    if let Err(question) = table.read(picture) {
-        return refusal(Input::First, question);
+    if let Err(refused) = table.read(picture) {
+        return refusal_at(Input::First, refused);
     }
     match normal::normalize(&table, &mut normal) {
         Ok(()) => answer(YES, normal.write(result)),
@@ -171,8 +184,8 @@ fn prepare(
 ) -> Result<(), u64> {
     let mut first_table = Table::EMPTY;
     let mut second_table = Table::EMPTY;
-    first_table.read(first).map_err(|question| refusal(Input::First, question))?;
-    second_table.read(second).map_err(|question| refusal(Input::Second, question))?;
+    first_table.read(first).map_err(|refused| refusal_at(Input::First, refused))?;
+    second_table.read(second).map_err(|refused| refusal_at(Input::Second, refused))?;
     normal::normalize(&first_table, first_normal).map_err(|_| refusal(Input::First, 14))?;
     normal::normalize(&second_table, second_normal).map_err(|_| refusal(Input::Second, 14))?;
     let (first_half, second_half) = work[..WORK_BYTES].split_at_mut(MAX_BYTES);

@@ -1,26 +1,30 @@
-//! How often each refusal was met. Each that a call can give has to be.
+//! How often each refusal was met, by row. Each that a call can give has to be, and no other.
+
+use std::collections::HashMap;
 
 use super::calls::{Call, CALLS};
+use super::files::{places, rows, READING};
 use super::reference::most_specific::MAX_CARDS;
-use super::reference::{question, Input};
-
-const QUESTIONS: usize = 25;
-const INPUTS: usize = 6;
+use super::reference::{question, row, Input};
 
 #[derive(Default)]
 pub struct Refusals {
-    /// By call, input and question.
-    met: [[[u64; QUESTIONS]; INPUTS]; CALLS.len()],
+    /// By call, input, question and row.
+    met: HashMap<(usize, usize, u8, usize), u64>,
     cards: [u64; MAX_CARDS],
 }
 
 impl Refusals {
     pub fn count(&mut self, call: &Call, word: u64) {
         let input = (word >> 40) as usize & 0xFF;
-        self.met[call.number][input][usize::from(question(word))] += 1;
+        *self.met.entry((call.number, input, question(word), row(word))).or_default() += 1;
         if input == Input::Card as usize {
             self.cards[(word >> 32) as usize & 0xFF] += 1;
         }
+    }
+
+    fn times(&self, call: &Call, input: Input, question: u8, row: usize) -> u64 {
+        self.met.get(&(call.number, input as usize, question, row)).copied().unwrap_or(0)
     }
 
     /// Every refusal that has to occur, with how often it did.
@@ -28,9 +32,9 @@ impl Refusals {
         let mut answers = Vec::new();
         for call in CALLS {
             for &(input, first, last) in call.refusals {
-                answers.extend((first..=last).map(|question| {
-                    let times = self.met[call.number][input as usize][usize::from(question)];
-                    (format!("{} refused, {input:?}, {question}", call.name), times)
+                answers.extend(places(first..=last).map(|(question, row)| {
+                    let times = self.times(call, input, question, row);
+                    (format!("{} refused, {input:?}, {question}, row {row}", call.name), times)
                 }));
             }
         }
@@ -38,11 +42,27 @@ impl Refusals {
         answers
     }
 
+    /// None occurred that no call can give.
+    pub fn none_else(&self) -> bool {
+        let given = CALLS.iter().flat_map(|call| call.refusals.iter().map(move |refusals| (call, refusals)));
+        let listed = given.flat_map(|(call, &(input, first, last))| {
+            places(first..=last).map(move |(question, row)| self.times(call, input, question, row))
+        });
+        listed.sum::<u64>() == self.met.values().sum()
+    }
+
     pub fn print(&self) {
         for call in CALLS {
             for &(input, first, last) in call.refusals {
-                let met = &self.met[call.number][input as usize][usize::from(first)..=usize::from(last)];
-                println!("{} refused, {input:?}, {first} to {last}: {met:?}", call.name);
+                let met = |late: bool| -> Vec<u64> {
+                    let at = |question: u8| rows(question).filter(move |&row| !late || row > 0);
+                    let times = |question| at(question).map(|row| self.times(call, input, question, row)).sum();
+                    (first..=last).map(times).collect()
+                };
+                println!("{} refused, {input:?}, {first} to {last}: {:?}", call.name, met(false));
+                if READING.contains(&first) {
+                    println!("  not at row 0: {:?}", met(true));
+                }
             }
         }
     }

@@ -95,6 +95,15 @@ impl Row {
     }
 }
 
+/// Why a picture is refused: the question; the row that was being read, which is the number of those that were read
+/// before it; and the byte where its field begins.
+#[derive(Clone, Copy)]
+pub struct Refused {
+    pub question: u8,
+    pub row: usize,
+    pub byte: usize,
+}
+
 pub struct Table {
     pub rows: [Row; MAX_ROWS],
     pub count: usize,
@@ -117,29 +126,40 @@ impl Table {
         Successors { table: self, next: self.row(number).first }
     }
 
-    /// Reads a picture into an empty table, or gives the number of the first question whose answer is no.
-    pub fn read(&mut self, file: &[u8]) -> Result<(), u8> {
+    /// Reads a picture into an empty table, or says why it is refused, and where.
+    pub fn read(&mut self, file: &[u8]) -> Result<(), Refused> {
         let mut depths = [0; MAX_ROWS];
         let mut rest = file;
         loop {
-            let (head, after) = rest.split_first_chunk::<HEAD_BYTES>().ok_or(2)?;
-            let length = u16::from_be_bytes([head[1], head[2]]);
-            match (head[0], usize::from(length)) {
-                (TAG_ROW, VALUE_BYTES) => {
-                    ask(5, self.count < MAX_ROWS)?;
-                    let (value, after) = after.split_first_chunk().ok_or(6)?;
-                    self.read_row(value, &mut depths)?;
-                    rest = after;
-                }
-                (TAG_END, 0) => {
-                    ask(7, self.count > 0)?;
-                    ask(8, after.is_empty())?;
-                    self.link();
-                    return Ok(());
-                }
-                (TAG_ROW | TAG_END, _) => return Err(4),
-                _ => return Err(3),
+            match self.read_field(rest, &mut depths) {
+                Ok(Some(after)) => rest = after,
+                Ok(None) => break,
+                Err(question) => return Err(Refused { question, row: self.count, byte: file.len() - rest.len() }),
             }
+        }
+        self.link();
+        Ok(())
+    }
+
+    /// Reads the field that the rest of the file begins with; gives what is after a row, and nothing after the end.
+    #[inline]
+    fn read_field<'a>(&mut self, rest: &'a [u8], depths: &mut [u8; MAX_ROWS]) -> Result<Option<&'a [u8]>, u8> {
+        let (head, after) = rest.split_first_chunk::<HEAD_BYTES>().ok_or(2)?;
+        let length = u16::from_be_bytes([head[1], head[2]]);
+        match (head[0], usize::from(length)) {
+            (TAG_ROW, VALUE_BYTES) => {
+                ask(5, self.count < MAX_ROWS)?;
+                let (value, after) = after.split_first_chunk().ok_or(6)?;
+                self.read_row(value, depths)?;
+                Ok(Some(after))
+            }
+            (TAG_END, 0) => {
+                ask(7, self.count > 0)?;
+                ask(8, after.is_empty())?;
+                Ok(None)
+            }
+            (TAG_ROW | TAG_END, _) => Err(4),
+            _ => Err(3),
         }
     }
 

@@ -10,7 +10,7 @@
 --                                           below `placeRange`, the other parts below `partRange`
 --   valueWord, refusalWord, refused         the word of an answer; of a refusal; of a refusal by its number and input
 --   outcome, question, input, card,
---   row, byte, value                        the parts of a word
+--   row, byte, value                        the parts of a word; value is that of an answer
 --   readWord, normalizedWord, verdictWord, commonWord, verifiedWord, selectedWord   the word of each call's answer
 use Prim.Native.Nat.{ℕ, _%_, _*_, _+_, _/_, _^_}
 use Rattle.picture.specs.Refusal.{refusal}
