@@ -258,10 +258,10 @@ extern "C" {
  * The value of an answer is one number of 32 bits.
  *
  * A picture that question 2 to 13 refuses is refused at a field. The row is the
- * number of rows before that field, all of which passed; it is the number of the
- * row that is being read. The byte is where the field begins, counted from the
- * first byte of the picture, also where the picture is a card of a book. Since
- * only rows come before it, it is ZUVAROPY_ROW_BYTES times the row.
+ * number of rows before that field, all of which passed: the number of the row
+ * that is being read, if the field is one. The byte is where the field begins,
+ * counted from the first byte of the picture, also where the picture is a card of
+ * a book. Since only rows come before it, it is ZUVAROPY_ROW_BYTES times the row.
  *
  * So where the picture stops before a head (2), the byte may be its length; where
  * there is a row too many (5), the row is ZUVAROPY_MAX_ROWS; and where the picture

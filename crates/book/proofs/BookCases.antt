@@ -13,7 +13,7 @@ use Rattle.table.specs.Number.{be}
 use Rattle.table.specs.Put.{put, zeros}
 use Rattle.table.specs.Range.{some}
 use Rattle.table.specs.declared.layout.Limits.{Limits}
-use Rattle.picture.specs.Refusal.{refusal}
+use Rattle.picture.specs.Refusal.{refusal, refusalAt}
 use Rattle.picture.specs.Asked.{askedFrom, readAsked}
 use Rattle.picture.specs.Depth.{depth, depthIn}
 use Rattle.picture.specs.Questions.{endField, fieldAt, kindOk, lengthFor, parentOk, roleOk, rowField, tagOk, valueField}
@@ -60,10 +60,6 @@ runAll (c ∷ cs) = ran c ∷ runAll cs
 
 abbrev refused : ℕ → Input → Selected
 refused q input = Refused (refusal q input)
-
--- at a field: the rows before it, and the byte where it begins
-abbrev refusedAt : ℕ → Input → ℕ → ℕ → Selected
-refusedAt q input row byte = Refused (record { number = q; input = input; row = row; byte = byte })
 
 -- ---- pictures
 
@@ -162,9 +158,9 @@ cases =
     ∷ asked benchLimits empty (bookOf (badLength ∷ badTag ∷ [])) 12294 (refused 4 (Card 0))
     ∷ asked benchLimits empty (bookOf (empty ∷ badLength ∷ [])) 12294 (refused 4 (Card 1))
     -- with the row and the byte of the one that is refused, from its own first byte
-    ∷ asked benchLimits (root 0 ++ badTag) (bookOf (badTag ∷ [])) 12294 (refusedAt 3 First 1 24)
+    ∷ asked benchLimits (root 0 ++ badTag) (bookOf (badTag ∷ [])) 12294 (Refused (refusalAt 3 First 1))
     ∷ asked benchLimits empty (bookOf (names 8 ∷ (root 0 ++ (someRow 0 8 2 ++ badLength)) ∷ badTag ∷ [])) 12294
-    (refusedAt 4 (Card 1) 2 48)
+    (Refused (refusalAt 4 (Card 1) 2))
     -- 14 after these, of the case and then of the cards in turn
     ∷ asked fourRows grows [] 198 (refused 24 Book)
     ∷ asked fourRows grows (bookOf (badTag ∷ [])) 198 (refused 3 (Card 0))

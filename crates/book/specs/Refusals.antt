@@ -1,5 +1,5 @@
 -- What the sixth call refuses, in the statements about it.
---   FirstNo   a question that is answered no, those before it being answered yes, and what it names
+--   FirstNo   a question that is answered no, those before it being answered yes, what it names and, of 2 to 13, where
 use Prim.Native.Nat.{_<_, _≤_, ℕ}
 use mathlib.Core.Bool.{false, true}
 use mathlib.Core.List.{List}

@@ -86,8 +86,10 @@ of-none : (c : Call) (number : ℕ) (input : Input) → Listed (c .refusals) num
 of-none c number input listed apart small few = record {
   listed = listed;
   fits = record { number = small; card = few; row = omega arith; byte = omega arith };
-  read-at = λ least most. absurd (⊎-elim (λ l. omega arith) (λ l. omega arith) apart);
-  else-zero = λ other. (refl, refl);
+  placed = record {
+    read-at = λ least most. absurd (⊎-elim (λ l. omega arith) (λ l. omega arith) apart);
+    else-zero = λ other. (refl, refl);
+  };
 }
 
 short : (c : Call) → Listed (c .refusals) 1 Buffer → Early c shortBuffer
@@ -105,14 +107,16 @@ module _ (c : Call) (bounded : Bounded (c .limits)) (input : Input) (few : cardO
       (record {
         listed = listed q (number .least) (number .most);
         fits = field-fits (c .limits) bounded s input few q n fails;
-        read-at = λ least most. record {
-          fails = fails;
-          only = λ p m f. failed-once (c .limits) s q n p m fails f;
-          few = failed-most (c .limits) s q n fails;
-          begins = refl;
-          inside = failed-inside (c .limits) s q n fails;
+        placed = record {
+          read-at = λ least most. record {
+            fails = fails;
+            only = λ p m f. failed-once (c .limits) s q n p m fails f;
+            few = failed-most (c .limits) s q n fails;
+            begins = refl;
+            inside = failed-inside (c .limits) s q n fails;
+          };
+          else-zero = ⊎-elim (λ l. absurd (omega (arith, number .least))) (λ l. absurd (omega (arith, number .most)));
         };
-        else-zero = ⊎-elim (λ l. absurd (omega (arith, number .least))) (λ l. absurd (omega (arith, number .most)));
       })
       (omega (arith, number .most))
 

@@ -56,6 +56,7 @@ use Rattle.interface.specs.Conditions.{Condition1Words, Condition2Words,
 use Rattle.interface.specs.StarredClaims.{WritesEvidence}
 use Rattle.interface.specs.Word.{commonWord, outcome, outcomeNo, outcomeYes, refused, value, valueWord}
 use Rattle.interface.proofs.Answers.{cards-shape, lcs-shape, normalize-shape, subsumes-shape, validate-shape, verify-shape}
+use Rattle.interface.proofs.Places.{place-words}
 use Rattle.interface.proofs.Shapes.{result-shown, result-when, shape-answers, shape-given}
 use Rattle.interface.proofs.Words.{bench-bounded}
 
@@ -353,6 +354,7 @@ module _ (limits : Limits) (bounded : Bounded limits) where
     three = condition-3-words;
     normal = normal-words;
     cards = most-specific-words;
+    places = place-words limits bounded;
   }
 
 pub conditions-hold : Conditions benchLimits × PaperNumbers benchLimits

@@ -2,6 +2,7 @@
 pub mod Words
 pub mod Shapes
 pub mod Answers
+pub mod Places
 pub mod Values
 pub mod Conditions
 pub mod EmptySubsumes

@@ -9,6 +9,7 @@
 --   shape-answers                  so it gives a result or a numbered refusal, as it is laid down
 --   shape-given                    the word and the buffers where all is answered yes
 --   result-when, result-shown      a result is given if all is answered yes; an outcome that is not 0 shows that one is
+--   refusal-shown                  the word of the first no
 use Prim.Native.Nat.{_+_, _-_, _<_, _≤_, ℕ}
 use borrow.Author.Tests.{le-leb, lt-leb}
 use lib.Dec.{leb}
@@ -26,7 +27,7 @@ use Rattle.picture.specs.Asked.{andThen, kept, onAsked}
 use Rattle.picture.specs.declared.answer.Asked.{Asked}
 use Rattle.picture.specs.declared.answer.Asked.the-variants.{No, Yes}
 use Rattle.picture.specs.declared.answer.Refusal.{Refusal}
-use Rattle.interface.specs.Answers.{Answers, AtField, Buffers, Call, Filled, GivesResult, Leaves, Listed, Passes, refusalBytes}
+use Rattle.interface.specs.Answers.{Answers, Buffers, Call, Filled, GivesResult, Leaves, Listed, Passes, Placed, refusalBytes}
 use Rattle.interface.specs.Word.{outcome, refusalWord, valueRange, valueWord}
 use Rattle.interface.proofs.Words.{Fits, refusal-byte, refusal-card, refusal-input, refusal-outcome, refusal-question, refusal-row, value-outcome, value-value}
 
@@ -44,8 +45,7 @@ word-on wordOf none same (No r) value word e = same r
 pub record OnList (c : Call) (r : Refusal) : Type 0 where
   pub listed : Listed (c .refusals) (r .number) (r .input)
   pub fits : Fits r
-  pub read-at : 2 ≤ r .number → r .number ≤ 13 → AtField (c .limits) (c .picture (r .input)) r
-  pub else-zero : (r .number < 2) ⊎ (13 < r .number) → (r .row ≡ 0) × (r .byte ≡ 0)
+  pub placed : Placed c r
 
 abbrev pub Early : Call → Refusal → Type 0
 Early c r = OnList c r × ((leb 15 (r .number) && leb (r .number) 23) ≡ false)
@@ -124,8 +124,7 @@ module _ (c : Call) (lent left : Buffers) (word o : ℕ) (s : Shape c lent left 
       inr (record {
         by = r;
         listed = on .listed;
-        read-at = on .read-at;
-        else-zero = on .else-zero;
+        placed = on .placed;
         first-no = s .asked-all ∙ e;
         fails = λ p. let yes-is = s .passes .1 p in let z : _≡_ {A = ℕ} 0 1 = cc in omega arith;
         outcome-is = ap outcome told ∙ refusal-outcome r (on .fits);
@@ -190,3 +189,11 @@ module _ (c : Call) (lent left : Buffers) (word : ℕ) (answers : Answers c lent
 
   pub result-shown : 0 < outcome word → GivesResult c lent left word
   result-shown l = ⊎-elim (λ given. given) (λ refused. absurd (omega (arith, l, refused .outcome-is))) answers
+
+  -- the first no is what the word says
+  pub refusal-shown : (r : Refusal) → c .asks lent ≡ No r → word ≡ refusalWord r
+  refusal-shown r e =
+      ⊎-elim
+      (λ given. absurd (let all = given .all-yes in let z : _≡_ {A = ℕ} 0 1 = cc in omega arith))
+      (λ refused. let told = refused .first-no in let same : refused .by ≡ r = cc in
+      refused .word-is ∙ ap refusalWord same) answers

@@ -28,7 +28,7 @@ use Rattle.book.specs.Call.{noBook}
 use Rattle.book.specs.declared.answer.Selected.the-variants as selected
 use Rattle.subsumption.specs.declared.verdict.Verdict.the-variants as verdict
 use Rattle.picture.proofs.Readables.{failed-field, failed-most, failed-number, reading-answer, readable-count}
-use Rattle.interface.specs.Word.{byte, card, cardOf, commonWord, input, inputCode, normalizedWord, outcome, outcomeYes, partRange, placeRange, question, readWord, refusalWord, refused, row, selectedWord, value, valueRange, valueWord, verdictWord, verifiedWord}
+use Rattle.interface.specs.Word.{byte, card, cardOf, commonWord, input, inputCode, normalizedWord, outcome, outcomeYes, partRange, placeRange, question, readWord, refusalWord, refused, refusedAt, row, selectedWord, value, valueRange, valueWord, verdictWord, verifiedWord}
 use Rattle.interface.specs.Calls.{validateWord}
 
 pub bench-bounded : Bounded benchLimits
@@ -91,13 +91,13 @@ module _ (o v : ℕ) (small : v < valueRange) where
 abbrev pub words : List ℕ
 words =
     refused 1 Buffer
-    ∷ refused 13 First
+    ∷ refusedAt 13 First 0
     ∷ refused 14 Second
     ∷ refused 16 Evidence
     ∷ refused 24 Book
-    ∷ refusalWord (refusalAt 2 (Card 31) 0)
-    ∷ refusalWord (refusalAt 11 (Card 4) 3)
-    ∷ refusalWord (refusalAt 5 Second 256)
+    ∷ refusedAt 2 (Card 31) 0
+    ∷ refusedAt 11 (Card 4) 3
+    ∷ refusedAt 5 Second 256
     ∷ readWord (answer.Rows 256)
     ∷ normalizedWord (normalized.Length 6147)
     ∷ verdictWord (verdict.Yes 12)

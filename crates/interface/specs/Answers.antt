@@ -5,6 +5,7 @@
 --   refusalBytes                            what a refusal writes
 --   pictures, AtField                       the picture that an input is; where in a picture a refusal is
 --   Call                                    what is laid down for a call on given inputs
+--   Placed                                  what a refusal carries beside its number and input: where it is, or 0 and 0
 --   Passes, GivesResult, Refuses, Answers   all questions are answered yes; a result; a numbered refusal; one of these
 --   tables, OutcomeYes, EitherOutcome       both normal tables, each in its half; which outcome a result has
 --   validateCall .. mostSpecificCall        what is laid down for each call
@@ -134,6 +135,12 @@ pub record Call : Type 1 where
 abbrev pub Passes : Call → Buffers → Type 0
 Passes c lent = (c .work-size ≤ length (lent .work)) × (c .result-size ≤ length (lent .result)) × c .Passed
 
+-- 02, U1, "Refusals 2 to 13 shall also carry the row being read .. and the byte where its field begins", "other refusals
+-- carry .. 0 for both"
+pub record Placed (c : Call) (r : Refusal) : Type 0 where
+  pub read-at : 2 ≤ r .number → r .number ≤ 13 → AtField (c .limits) (c .picture (r .input)) r
+  pub else-zero : (r .number < 2) ⊎ (13 < r .number) → (r .row ≡ 0) × (r .byte ≡ 0)
+
 module _ (c : Call) (lent left : Buffers) (word : ℕ) where
   pub record GivesResult : Type 0 where
     pub passes : Passes c lent
@@ -149,9 +156,7 @@ module _ (c : Call) (lent left : Buffers) (word : ℕ) where
     pub listed : Listed (c .refusals) (by .number) (by .input)
     pub fails : Passes c lent → ⊥
     pub first-no : c .asks lent ≡ No by
-    -- 2 to 13 carry where in the picture, "other refusals carry .. 0 for both"
-    pub read-at : 2 ≤ by .number → by .number ≤ 13 → AtField (c .limits) (c .picture (by .input)) by
-    pub else-zero : (by .number < 2) ⊎ (13 < by .number) → (by .row ≡ 0) × (by .byte ≡ 0)
+    pub placed : Placed c by
     pub outcome-is : outcome word ≡ 0
     pub question-is : question word ≡ by .number
     pub input-is : input word ≡ inputCode (by .input)

@@ -18,6 +18,7 @@
 --   Condition2Words                       condition 2
 --   Taken, WritesTaken, Condition3Words   condition 3 (its first sentence in `Conditions`)
 --   NormalWords, MostSpecificWords        the normal table; the nearest cards
+--   PairAt, PlaceWords                    where a refused picture went bad (02, U1)
 --   Conditions, PaperNumbers              all of them; the numbers of paper 01
 use Prim.Native.Nat.{_<_, _≤_, ℕ}
 use lib.ListN.{length, take}
@@ -29,11 +30,11 @@ use Rattle.table.specs.Bounds.{pictureSize}
 use Rattle.table.specs.NameSet.{has}
 use Rattle.table.specs.Number.{Bytes}
 use Rattle.table.specs.declared.layout.Limits.{Limits}
-use Rattle.picture.specs.declared.answer.Input.the-variants.{Second}
+use Rattle.picture.specs.declared.answer.Input.the-variants.{Card, First, Second}
 use Rattle.meaning.specs.Covering.{Covers}
 use Rattle.ale.specs.Interpretation.{Equivalent}
 use Rattle.ale.specs.PictureSignature.{pictureSignature}
-use Rattle.picture.specs.Readable.{Readable}
+use Rattle.picture.specs.Readable.{FailsAt, Readable}
 use Rattle.meaning.specs.Meaning.{pictureTable, pictureTree}
 use Rattle.meaning.specs.NormalTable.{normalFile}
 use Rattle.normal.specs.Call.{normalizeResult}
@@ -46,11 +47,11 @@ use Rattle.lcs.specs.Call.{lcsResult}
 use Rattle.lcs.specs.Description.{LeastCommon}
 use Rattle.lcs.specs.Product.{lcsCount}
 use Rattle.book.specs.Call.{AcceptableBook}
-use Rattle.book.specs.Form.{cardTag, mostCards}
+use Rattle.book.specs.Form.{bookForm, card, cardCount, cardTag, mostCards}
 use Rattle.book.specs.Selection.{MostSpecific}
 use Rattle.interface.specs.Answers.{Answers, buffers, lcsCall, mostSpecificCall, normalizeCall, subsumesCall, validateCall, verifyCall}
 use Rattle.interface.specs.Calls.{LcsGives, MostSpecificGives, NormalizeGives, SubsumesGives, VerifyGives, lcsWord, mostSpecificWord, normalizeWord, subsumesWord, validateWord, verifyWord}
-use Rattle.interface.specs.Word.{outcome, outcomeNo, outcomeYes, refused, value, valueWord}
+use Rattle.interface.specs.Word.{outcome, outcomeNo, outcomeYes, refused, refusedAt, value, valueWord}
 
 -- "1. Whoever calls the library, with whatever bytes and buffers, gets a result or a numbered refusal, each laid down
 -- beforehand along with the contents of the buffers."
@@ -183,6 +184,33 @@ pub record MostSpecificWords (limits : Limits) (case book : List ℕ) : Type 0 w
   pub nearest : (work : List ℕ) → outcome (mostSpecificGiven limits case book work) ≡ outcomeYes →
       (n : ℕ) → (has (value (mostSpecificGiven limits case book work)) n ≡ true) ↔ MostSpecific limits case book n
 
+-- 02, U1, "Refusals 2 to 13 shall also carry the row being read (rows completed so far) and the byte where its field
+-- begins, from the picture's first. Every call above the row reader hands them on." So a picture that fails at the
+-- field after n rows is refused there, if nothing before it is; and whenever a picture is refused so, it fails there
+-- (Answers: `Placed`).
+
+-- of a call on two pictures, by its word
+pub record PairAt (limits : Limits) (first second : List ℕ) (word : ℕ) : Type 0 where
+  pub first-at : (q n : ℕ) → FailsAt limits first q n → word ≡ refusedAt q First n
+  pub second-at : Readable limits first → (q n : ℕ) → FailsAt limits second q n → word ≡ refusedAt q Second n
+
+pub record PlaceWords (limits : Limits) : Type 0 where
+  pub validate : (picture : List ℕ) (q n : ℕ) → FailsAt limits picture q n →
+      validateWord limits picture ≡ refusedAt q First n
+  pub normalize : (picture result : List ℕ) → pictureSize limits ≤ length result →
+      (q n : ℕ) → FailsAt limits picture q n → normalGiven limits picture result ≡ refusedAt q First n
+  pub subsumes : (first second work result : List ℕ) → Lengths limits (evidenceSize limits) work result →
+      PairAt limits first second (verdictGiven limits first second work result)
+  pub lcs : (first second work result : List ℕ) → Lengths limits (pictureSize limits) work result →
+      PairAt limits first second (commonGiven limits first second work result)
+  pub verify : (first second evidence work : List ℕ) → workSize limits ≤ length work →
+      PairAt limits first second (checkGiven limits first second evidence work)
+  pub case-at : (case book work : List ℕ) → workSize limits ≤ length work →
+      (q n : ℕ) → FailsAt limits case q n → mostSpecificGiven limits case book work ≡ refusedAt q First n
+  pub card-at : (case book work : List ℕ) → workSize limits ≤ length work → Readable limits case →
+      bookForm book ≡ true → (k : ℕ) → k < cardCount book → ((j : ℕ) → j < k → Readable limits (card book j)) →
+      (q n : ℕ) → FailsAt limits (card book k) q n → mostSpecificGiven limits case book work ≡ refusedAt q (Card k) n
+
 pub record Conditions (limits : Limits) : Type 0 where
   pub one : Condition1Words limits
   pub two : (first second : List ℕ) → Acceptable limits first second → Condition2Words limits first second
@@ -196,6 +224,7 @@ pub record Conditions (limits : Limits) : Type 0 where
   pub three : (first second : List ℕ) → Acceptable limits first second → Condition3Words limits first second
   pub normal : (picture : List ℕ) → NormalWords limits picture
   pub cards : (case book : List ℕ) → MostSpecificWords limits case book
+  pub places : PlaceWords limits
 
 pub record PaperNumbers (limits : Limits) : Type 0 where
   pub rows : limits .rows ≡ 256

@@ -8,12 +8,13 @@
 --   inputCode, cardOf                       the code of an input, and its card's number
 --   outcomeWeight .. rowWeight              the weights of the parts; the value is below `valueRange`, row and byte are
 --                                           below `placeRange`, the other parts below `partRange`
---   valueWord, refusalWord, refused         the word of an answer; of a refusal; of a refusal by its number and input
+--   valueWord, refusalWord                  the word of an answer; of a refusal
+--   refused, refusedAt                      the word of a refusal that is at no field; of one at the field after n rows
 --   outcome, question, input, card,
---   row, byte, value                        the parts of a word; value is that of an answer
+--   row, byte, value                        the parts of a word; the value is an answer's, and 0 of a refusal in the header
 --   readWord, normalizedWord, verdictWord, commonWord, verifiedWord, selectedWord   the word of each call's answer
 use Prim.Native.Nat.{ℕ, _%_, _*_, _+_, _/_, _^_}
-use Rattle.picture.specs.Refusal.{refusal}
+use Rattle.picture.specs.Refusal.{refusal, refusalAt}
 use Rattle.picture.specs.declared.answer.Input.{Input}
 use Rattle.picture.specs.declared.answer.Input.the-variants.{Buffer, First, Second, Evidence, Book, Card}
 use Rattle.picture.specs.declared.answer.Refusal.{Refusal}
@@ -86,6 +87,9 @@ refusalWord r =
 
 abbrev pub refused : ℕ → Input → ℕ
 refused number input = refusalWord (refusal number input)
+
+abbrev pub refusedAt : ℕ → Input → ℕ → ℕ
+refusedAt number input n = refusalWord (refusalAt number input n)
 
 abbrev pub outcome : ℕ → ℕ
 outcome w = w / outcomeWeight

@@ -13,7 +13,7 @@ use Rattle.table.specs.Fields.{endBytes, rowOf}
 use Rattle.table.specs.Number.{be, beBytes}
 use Rattle.table.specs.Put.{put, zeros}
 use Rattle.table.specs.declared.layout.Limits.{Limits}
-use Rattle.picture.specs.Refusal.{refusal}
+use Rattle.picture.specs.Refusal.{refusal, refusalAt}
 use Rattle.picture.specs.Asked.{readAsked}
 use Rattle.picture.specs.Depth.{depth, depthIn}
 use Rattle.picture.specs.Questions.{endField, fieldAt, kindOk, lengthFor, parentOk, roleOk, rowField, tagOk, valueField}
@@ -54,10 +54,6 @@ runAll (c ∷ cs) = ran c ∷ runAll cs
 
 abbrev refused : ℕ → Input → Common
 refused q input = Refused (refusal q input)
-
--- at a field: the rows before it, and the byte where it begins
-abbrev refusedAt : ℕ → Input → ℕ → ℕ → Common
-refusedAt q input row byte = Refused (record { number = q; input = input; row = row; byte = byte })
 
 -- ---- pictures
 
@@ -155,8 +151,8 @@ cases =
     ∷ asked benchLimits badLength badTag 12294 6147 (refused 4 First)
     ∷ asked benchLimits empty badLength 12294 6147 (refused 4 Second)
     -- with the row and the byte of the one that is refused
-    ∷ asked benchLimits (root 0 ++ badLength) (root 0 ++ (someRow 0 8 0 ++ badTag)) 12294 6147 (refusedAt 4 First 1 24)
-    ∷ asked benchLimits empty (root 0 ++ (someRow 0 8 0 ++ badTag)) 12294 6147 (refusedAt 3 Second 2 48)
+    ∷ asked benchLimits (root 0 ++ badLength) (root 0 ++ (someRow 0 8 0 ++ badTag)) 12294 6147 (Refused (refusalAt 4 First 1))
+    ∷ asked benchLimits empty (root 0 ++ (someRow 0 8 0 ++ badTag)) 12294 6147 (Refused (refusalAt 3 Second 2))
     -- 14 of the first, 14 of the second, after both are read; 15 after these, and it names the second
     ∷ asked fourRows grows badTag 198 99 (refused 3 Second)
     ∷ asked fourRows badTag grows 198 99 (refused 3 First)

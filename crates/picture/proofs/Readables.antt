@@ -59,6 +59,12 @@ module _ (limits : Limits) (s : List ℕ) where
   Stops : ℕ → Reading → Type 0
   Stops n r = (m : ℕ) × (f : Field) × StopsFrom limits s n m f r
 
+  stops-here : (f : Field) (n : ℕ) (rest : Reading) → fieldAt limits s n ≡ f →
+      ((any : Reading) → onField f n any ≡ onField f n rest) → Stops n (onField f n rest)
+  unfolding Stops
+  stops-here f n rest e same =
+      (n, f, record { below = omega arith; rows = λ k i j. absurd (omega arith); field = e; stops = same })
+
   -- by the field after n rows: there are more rows to come, or it stops here
   one-field : (f : Field) (n : ℕ) (rest : Reading) → fieldAt limits s n ≡ f → (RowOk limits s n → Stops (n + 1) rest) →
       Stops n (onField f n rest)
@@ -76,10 +82,8 @@ module _ (limits : Limits) (s : List ℕ) where
           stops = after .stops;
         },
       )
-  one-field End n rest e more =
-      (n, End, record { below = omega arith; rows = λ k i j. absurd (omega arith); field = e; stops = λ any. refl })
-  one-field (Bad q) n rest e more =
-      (n, Bad q, record { below = omega arith; rows = λ k i j. absurd (omega arith); field = e; stops = λ any. refl })
+  one-field End n rest e more = stops-here End n rest e (λ any. refl)
+  one-field (Bad q) n rest e more = stops-here (Bad q) n rest e (λ any. refl)
 
   scan-stops : (left n : ℕ) → n ≤ limits .rows → limits .rows < n + left → Stops n (scanFrom left limits s n)
   unfolding scanFrom

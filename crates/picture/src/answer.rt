@@ -36,6 +36,7 @@ pub enum Answer {
     Refused(Refusal),
 }
 
+// Of no field: 1, and 14 to 24.
 pub fn refuse(number: u8, input: Input) -> Refusal
     ensures { λ r. ⌜ r ≡ refusal number input ⌝ }
 {
@@ -47,7 +48,7 @@ pub fn refuse(number: u8, input: Input) -> Refusal
     }
 }
 
-// The field after so many rows of a picture.
+// Of the field after so many rows of a picture: 2 to 13.
 pub fn refuse_at(number: u8, input: Input, row: usize) -> Refusal
     requires { ⌜ row ≤ maxRows ⌝ }
     ensures { λ r. ⌜ r ≡ refusalAt number input row ⌝ }

@@ -12,7 +12,7 @@ use Rattle.table.specs.Fields.{endBytes, rowOf}
 use Rattle.table.specs.Number.{be, beBytes}
 use Rattle.table.specs.Put.{put}
 use Rattle.table.specs.declared.layout.Limits.{Limits}
-use Rattle.picture.specs.Refusal.{refusal}
+use Rattle.picture.specs.Refusal.{refusal, refusalAt}
 use Rattle.picture.specs.Asked.{readAsked}
 use Rattle.picture.specs.Depth.{depth, depthIn}
 use Rattle.picture.specs.Questions.{endField, fieldAt, kindOk, lengthFor, parentOk, roleOk, rowField, tagOk, valueField}
@@ -49,10 +49,6 @@ runAll (c ∷ cs) = ran c ∷ runAll cs
 
 abbrev refused : ℕ → Input → Verdict
 refused q input = Refused (refusal q input)
-
--- at a field: the rows before it, and the byte where it begins
-abbrev refusedAt : ℕ → Input → ℕ → ℕ → Verdict
-refusedAt q input row byte = Refused (record { number = q; input = input; row = row; byte = byte })
 
 -- ---- pictures
 
@@ -163,8 +159,8 @@ cases =
     ∷ asked benchLimits badTag empty 12294 46595 (refused 3 First)
     ∷ asked benchLimits empty badLength 12294 46595 (refused 4 Second)
     -- with the row and the byte of the one that is refused
-    ∷ asked benchLimits (root 0 ++ badLength) (root 0 ++ (someRow 0 8 0 ++ badTag)) 12294 46595 (refusedAt 4 First 1 24)
-    ∷ asked benchLimits (one 2) (root 0 ++ (someRow 0 8 0 ++ badTag)) 12294 46595 (refusedAt 3 Second 2 48)
+    ∷ asked benchLimits (root 0 ++ badLength) (root 0 ++ (someRow 0 8 0 ++ badTag)) 12294 46595 (Refused (refusalAt 4 First 1))
+    ∷ asked benchLimits (one 2) (root 0 ++ (someRow 0 8 0 ++ badTag)) 12294 46595 (Refused (refusalAt 3 Second 2))
     -- 14 of the first, 14 of the second, after both are read
     ∷ asked fourRows grows badTag 198 171 (refused 3 Second)
     ∷ asked fourRows badTag grows 198 171 (refused 3 First)

@@ -1,5 +1,6 @@
 -- What the call leaves is what the lines are made of.
 --   image-front   the images of a map that stands at a buffer's start are its images
+--   rows-map      where the verdict is yes there is a line for each row of the second normal table
 --   call-lines    where the verdict is yes the result buffer begins with a map; the lines are those of the two files
 use Prim.Native.Nat.{_+_, _≤_, ℕ}
 use lib.ListN.{getD, length}
@@ -82,7 +83,7 @@ module _ (limits : Limits) (first second buffer : List ℕ) (bounded : Bounded l
       unfolding evidenceOf mapOf lowestMap
       length-map = rw yes-told (length-mapFile (q .rows) (image pictureSignature p q))
 
-      rows-map : mapRows (length e) ≡ q .rows
+      pub rows-map : mapRows (length e) ≡ q .rows
       rows-map = omega (arith, length-map)
 
       map-in : MapIn left (length e)

@@ -2,10 +2,11 @@
 -- line ends with a newline.
 --   text          a text as bytes, in ASCII
 --   digit         a digit
---   digitsUpTo    the digits of a number below 10 ^ k, without zeros in front; 0 has one
+--   digitsUpTo    the digits of a number below 10 ^ k, without zeros in front; 0 has one, but for k = 0
 --   decimal       those of a number below 10 ^ 20, so of each that the code can hold
 --   number        a number, and the text after it
---   mapRows       the rows that a map of n bytes has an image for
+--   mapRows       the rows that a map of n bytes has an image for: those of the second normal table
+--                 (proofs/Verdicts: `rows-map`)
 --   mapLine       a row of the second normal table, and its image
 --   mapLines      those of the rows below n
 --   refusedInput  which picture is refused; no other input is (proofs/RefusedInputs: `refused-named`)
