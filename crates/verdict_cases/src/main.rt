@@ -7,6 +7,8 @@ fn main() {
     run(b"cut.pic", b"deep.pic");
     // Both are read before 14 is asked of the first.
     run(b"spread.pic", b"deep.pic");
+    // 14 has no row and no byte.
+    run(b"spread.pic", b"both.pic");
     // A file that is not there is empty.
     run(b"missing.pic", b"missing.pic");
     run(b"both.pic", b"missing.pic");

@@ -1,7 +1,3 @@
--- The laws of what the verdict program prints, by subject.
-pub mod CasesPrinted
-pub mod Decimals
-pub mod Gatherings
-pub mod MapLines
+-- What the call leaves, as lines, and which picture a refusal names.
 pub mod RefusedInputs
 pub mod Verdicts

@@ -36,9 +36,9 @@ use Rattle.table.specs.Put.{put}
 use Rattle.table.specs.declared.layout.Limits.{Limits}
 use Rattle.workspace.proofs.Lendings.{two-decides}
 use Rattle.workspace.specs.Prepare.{Acceptable, workSize}
-use Rattle.verdict_tool.specs.Gathering.{MapIn, Told}
-use Rattle.verdict_tool.specs.Lines.{mapRows, output, printed, text}
-use Rattle.verdict_tool.proofs.MapLines.{lines-same}
+use Rattle.verdict_lines.specs.Gathering.{MapIn, Told}
+use Rattle.verdict_lines.specs.Lines.{mapRows, output, printed, text}
+use Rattle.verdict_lines.proofs.MapLines.{lines-same}
 
 pub image-front : (d e : List ℕ) (i : ℕ) → imagePlace i + numberSize ≤ length e → imageOf (put d 0 e) i ≡ imageOf e i
 image-front d e i inside =

@@ -1,11 +1,7 @@
 // The verdict program: reads two pictures, and prints whether the second covers the first. It is a library, so that
 // programs with files of their own can run it.
-mod gather;
 mod load;
-mod text;
 
-use crate::gather::OUTPUT;
-use crate::gather::gather;
 use crate::load::PICTURE;
 use crate::load::load;
 use libc::STDOUT_FILENO;
@@ -16,16 +12,27 @@ use table::layout::END_SIZE;
 use table::layout::Limits;
 use table::layout::MAX_ROWS;
 use table::layout::ROW_SIZE;
+use verdict_lines::gather::gather;
 ghost use Prim.Native.Nat.{_≤_};
 ghost use lib.ListN.{length};
-ghost use Rattle.verdict_tool.specs.Gathering.{Front, Lengths, outputSize};
-ghost use Rattle.verdict_tool.specs.Lines.{printed};
+ghost use Rattle.verdict_lines.specs.Gathering.{Front, outputSize};
+ghost use Rattle.verdict_lines.specs.Lines.{printed};
+ghost use Rattle.verdict_tool.specs.Lengths.{Lengths};
 
 // The length laid down for a work space: two tables.
 const WORK: usize = 2 * (ROW_SIZE * MAX_ROWS + END_SIZE);
 
 // That for a result buffer: the longest refutation, which is longer than any map.
 const RESULT: usize = INDIVIDUAL_SIZE * MAX_INDIVIDUALS + END_SIZE;
+
+// verdict yes
+const YES_LINE: usize = 12;
+
+// 255 255: no row and no image has a greater number.
+const MAP_LINE: usize = 8;
+
+// The most bytes that are printed: a line for each row that a table can have.
+const OUTPUT: usize = YES_LINE + MAP_LINE * MAX_ROWS;
 
 // Puts the lines on two pictures at the start of a buffer; their length. It is lent a work space and a result buffer.
 fn answer(first: &[u8], second: &[u8], work: &mut [u8], result: &mut [u8], out: &mut [u8]) -> usize

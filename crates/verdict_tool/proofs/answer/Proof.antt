@@ -4,8 +4,8 @@ use denote.Ref.{now}
 use lib.ListN.{length}
 use mathlib.Core.Path.{_≡_, subst}
 use native.Mathlib.Omega.{arith}
-use Rattle.verdict_tool.specs.Gathering.{Front, Told}
-use Rattle.verdict_tool.specs.Lines.{output, printed}
+use Rattle.verdict_lines.specs.Gathering.{Front, Told}
+use Rattle.verdict_lines.specs.Lines.{output, printed}
 use Rattle.verdict_tool.proofs.Verdicts.{call-lines}
 use Rattle.verdict_tool.proofs.answer.Statement.{statement}
 use Rattle.verdict_tool.proofs.answer.Tie as tie

@@ -5,12 +5,12 @@ use lib.ListN.{length, take}
 use mathlib.Core.List.{[], _∷_}
 use mathlib.Core.Path.{_∙_, _≡_, ap, subst}
 use native.Mathlib.Omega.{arith}
-use Rattle.verdict_tool.specs.Gathering.{Added}
-use Rattle.verdict_tool.specs.Lines.{decimal}
-use Rattle.verdict_tool.proofs.Decimals.{decimal-digits}
-use Rattle.verdict_tool.proofs.Gatherings.{added-on}
-use Rattle.verdict_tool.proofs.text.put_number.Statement.{statement}
-use Rattle.verdict_tool.proofs.text.put_number.Tie as tie
+use Rattle.verdict_lines.specs.Gathering.{Added}
+use Rattle.verdict_lines.specs.Lines.{decimal}
+use Rattle.verdict_lines.proofs.Decimals.{decimal-digits}
+use Rattle.verdict_lines.proofs.Gatherings.{added-on}
+use Rattle.verdict_lines.proofs.text.put_number.Statement.{statement}
+use Rattle.verdict_lines.proofs.text.put_number.Tie as tie
 
 abbrev entry : (c : tie.After-decimal) → tie.Start
 entry c = c .before .before .before

@@ -6,11 +6,11 @@ use lib.ListN.{length, length-append}
 use native.Mathlib.Omega.{arith}
 use Rattle.picture.specs.declared.answer.Input.{Input}
 use Rattle.picture.specs.declared.answer.Input.the-variants.{Book, Buffer, Card, Evidence, First, Second}
-use Rattle.verdict_tool.specs.Lines.{decimal, number, refusalLine, refusedInput}
-use Rattle.verdict_tool.proofs.Decimals.{decimal-short}
-use Rattle.verdict_tool.proofs.Gatherings.{added-four, added-front}
-use Rattle.verdict_tool.proofs.gather.put_refusal.Statement.{statement}
-use Rattle.verdict_tool.proofs.gather.put_refusal.Tie as tie
+use Rattle.verdict_lines.specs.Lines.{decimal, number, refusalLine, refusedInput}
+use Rattle.verdict_lines.proofs.Decimals.{decimal-short}
+use Rattle.verdict_lines.proofs.Gatherings.{added-four, added-front}
+use Rattle.verdict_lines.proofs.gather.put_refusal.Statement.{statement}
+use Rattle.verdict_lines.proofs.gather.put_refusal.Tie as tie
 
 input-short : (input : Input) → length (refusedInput input) ≤ 15
 input-short First = omega arith

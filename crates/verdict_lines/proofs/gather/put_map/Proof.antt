@@ -7,12 +7,12 @@ use lib.ListN.{length}
 use mathlib.Core.Path.{_≡_, refl, subst}
 use native.Mathlib.Omega.{arith}
 use Rattle.homomorphism.specs.Layout.{imageOf}
-use Rattle.verdict_tool.specs.Gathering.{Added}
-use Rattle.verdict_tool.specs.Lines.{mapLines, mapRows}
-use Rattle.verdict_tool.proofs.Gatherings.{added-none}
-use Rattle.verdict_tool.proofs.MapLines.{lines-turn, lines-within}
-use Rattle.verdict_tool.proofs.gather.put_map.Statement.{statement}
-use Rattle.verdict_tool.proofs.gather.put_map.Tie as tie
+use Rattle.verdict_lines.specs.Gathering.{Added}
+use Rattle.verdict_lines.specs.Lines.{mapLines, mapRows}
+use Rattle.verdict_lines.proofs.Gatherings.{added-none}
+use Rattle.verdict_lines.proofs.MapLines.{lines-turn, lines-within}
+use Rattle.verdict_lines.proofs.gather.put_map.Statement.{statement}
+use Rattle.verdict_lines.proofs.gather.put_map.Tie as tie
 
 abbrev Inv-loop : tie.InvT-loop
 Inv-loop out₀ at e n rows end₀ row₀ out end row =

@@ -6,21 +6,11 @@ use picture::answer::Input;
 use subsumption::verdict::Verdict;
 use table::layout::END_SIZE;
 use table::layout::HEAD_SIZE;
-use table::layout::MAX_ROWS;
 use table::layout::NUMBER_SIZE;
 ghost use Prim.Native.Nat.{_+_, _≤_};
 ghost use lib.ListN.{length};
-ghost use Rattle.verdict_tool.specs.Gathering.{Added, Front, MapIn, Told, outputSize};
-ghost use Rattle.verdict_tool.specs.Lines.{mapLine, mapLines, mapRows, output, refusalLine, refusedInput};
-
-// verdict yes
-const YES_LINE: usize = 12;
-
-// 255 255: no row and no image has a greater number.
-const MAP_LINE: usize = 8;
-
-// The most bytes that are printed: a line for each row that a table can have.
-pub const OUTPUT: usize = YES_LINE + MAP_LINE * MAX_ROWS;
+ghost use Rattle.verdict_lines.specs.Gathering.{Added, Front, MapIn, Told, outputSize};
+ghost use Rattle.verdict_lines.specs.Lines.{mapLine, mapLines, mapRows, output, refusalLine, refusedInput};
 
 // A row and its image.
 fn put_row(out: &mut [u8], at: usize, row: usize, image: usize) -> usize

@@ -8,9 +8,9 @@ use types.Run.{OneOf, miss}
 use Rattle.picture.specs.declared.answer.Input.{Input}
 use Rattle.picture.specs.declared.answer.Input.the-variants.{Book, Buffer, Card, Evidence, First, Second}
 use Rattle.picture.proofs.answer.Input.{the-type}
-use Rattle.verdict_tool.specs.Lines.{refusedInput, text}
-use Rattle.verdict_tool.proofs.gather.put_input.Statement.{statement}
-use Rattle.verdict_tool.proofs.gather.put_input.Tie as tie
+use Rattle.verdict_lines.specs.Lines.{refusedInput, text}
+use Rattle.verdict_lines.proofs.gather.put_input.Statement.{statement}
+use Rattle.verdict_lines.proofs.gather.put_input.Tie as tie
 
 -- the tags of the other inputs
 abbrev others : List ℕ

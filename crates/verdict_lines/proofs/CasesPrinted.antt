@@ -24,7 +24,7 @@ use Rattle.workspace.specs.Lent.{lentAsked}
 use Rattle.workspace.specs.Prepare.{pairAsked}
 use Rattle.subsumption.specs.Call.{subsumesAnswer, verdictAnswer}
 use Rattle.subsumption.specs.Verdict.{evidenceOf, mapOf, verdictOf}
-use Rattle.verdict_tool.specs.Lines.{decimal, mapLines, output, printed, refusalLine, text}
+use Rattle.verdict_lines.specs.Lines.{decimal, mapLines, output, printed, refusalLine, text}
 
 abbrev texts : List String → List (List ℕ)
 texts [] = []

@@ -3,22 +3,19 @@
 --   Added                  a text put into a buffer from a place on, and the place after it
 --   MapIn                  a buffer begins with a map of n bytes, of tables that are no longer than allowed
 --   Told                   so it does where the verdict is yes
---   Lengths                the buffers have the lengths laid down
 --   Front                  a buffer begins with a text that is n bytes long
 use Prim.Native.Nat.{_*_, _+_, _<_, _≤_, ℕ}
 use lib.ListN.{length, take}
 use mathlib.Core.List.{List}
 use mathlib.Core.Path.{_≡_}
 use Rattle.io.specs.Counts.{Counts}
-use Rattle.table.specs.Bounds.{benchLimits, maxRows}
+use Rattle.table.specs.Bounds.{maxRows}
 use Rattle.table.specs.Layout.{endSize}
 use Rattle.table.specs.Put.{put}
 use Rattle.homomorphism.specs.Layout.{imageOf, imagePlace}
-use Rattle.workspace.specs.Prepare.{workSize}
-use Rattle.subsumption.specs.Verdict.{evidenceSize}
 use Rattle.subsumption.specs.declared.verdict.Verdict.{Verdict}
 use Rattle.subsumption.specs.declared.verdict.Verdict.the-variants.{Yes}
-use Rattle.verdict_tool.specs.Lines.{mapRows, text}
+use Rattle.verdict_lines.specs.Lines.{mapRows, text}
 
 -- no row and no image has a greater number than 255
 abbrev pub lineSize : ℕ
@@ -39,11 +36,6 @@ pub record MapIn (e : List ℕ) (n : ℕ) : Type 0 where
 
 abbrev pub Told : Verdict → List ℕ → Type 0
 Told verdict e = (n : ℕ) → verdict ≡ Yes n → MapIn e n
-
-pub record Lengths (work result out : ℕ) : Type 0 where
-  pub work-long : work ≡ workSize benchLimits
-  pub result-long : result ≡ evidenceSize benchLimits
-  pub out-long : outputSize ≤ out
 
 pub record Front (d s : List ℕ) (n : ℕ) : Type 0 where
   pub long : n ≡ length s

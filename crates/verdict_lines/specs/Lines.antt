@@ -6,10 +6,10 @@
 --   decimal       those of a number below 10 ^ 20, so of each that the code can hold
 --   number        a number, and the text after it
 --   mapRows       the rows that a map of n bytes has an image for: those of the second normal table
---                 (proofs/Verdicts: `rows-map`)
+--                 (verdict_tool/proofs/Verdicts: `rows-map`)
 --   mapLine       a row of the second normal table, and its image
 --   mapLines      those of the rows below n
---   refusedInput  which picture is refused; no other input is (proofs/RefusedInputs: `refused-named`)
+--   refusedInput  which picture is refused; no other input is (verdict_tool/proofs/RefusedInputs: `refused-named`)
 --   refusalLine   that, the number of the question, the row and the byte
 --   output        the lines of a verdict, whose evidence is e
 --   printed       those of two files

@@ -13,10 +13,10 @@ use native.Mathlib.Numerals.{add-one}
 use native.Mathlib.Omega.{arith}
 use Rattle.table.specs.Bounds.{maxRows}
 use Rattle.homomorphism.specs.Layout.{imageOf}
-use Rattle.verdict_tool.specs.Gathering.{Added, MapIn, lineSize, outputSize}
-use Rattle.verdict_tool.specs.Lines.{decimal, mapLine, mapLines, mapRows, text}
-use Rattle.verdict_tool.proofs.Decimals.{decimal-short}
-use Rattle.verdict_tool.proofs.Gatherings.{added-on}
+use Rattle.verdict_lines.specs.Gathering.{Added, MapIn, lineSize, outputSize}
+use Rattle.verdict_lines.specs.Lines.{decimal, mapLine, mapLines, mapRows, text}
+use Rattle.verdict_lines.proofs.Decimals.{decimal-short}
+use Rattle.verdict_lines.proofs.Gatherings.{added-on}
 
 length-mapLine : (row image : ℕ) → length (mapLine row image) ≡ length (decimal row) + length (decimal image) + 2
 length-mapLine row image = simp length-append (omega arith)

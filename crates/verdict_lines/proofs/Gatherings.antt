@@ -10,7 +10,7 @@ use mathlib.Core.List.{List, [], _++_}
 use mathlib.Core.Path.{_∙_, _≡_, ap, sym}
 use native.Mathlib.Omega.{arith}
 use Rattle.table.proofs.Puts.{length-put, put-nil, put-put, put-start}
-use Rattle.verdict_tool.specs.Gathering.{Added, Front}
+use Rattle.verdict_lines.specs.Gathering.{Added, Front}
 
 pub added-none : (d : List ℕ) (at : ℕ) → Added d at [] at d
 added-none d at = record { place = omega arith; bytes = sym (put-nil d at) }

@@ -11,7 +11,7 @@ use native.Mathlib.Nat.{one-le-pow, pow-le-pow-right, pow-suc}
 use native.Mathlib.Omega.{arith}
 use Rattle.io.specs.Digits.{Fewest, digits, glyph}
 use Rattle.table.proofs.Bools.{by-test}
-use Rattle.verdict_tool.specs.Lines.{decimal, digit, digitsUpTo}
+use Rattle.verdict_lines.specs.Lines.{decimal, digit, digitsUpTo}
 
 glyph-digit : (d : ℕ) → d < 10 → glyph d ≡ digit d
 glyph-digit d l = rw (lt-ltb d 10 l)

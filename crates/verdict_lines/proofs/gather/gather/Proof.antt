@@ -5,11 +5,11 @@ use denote.Ref.{now}
 use lib.ListN.{length-append}
 use mathlib.Core.List.{_++_}
 use native.Mathlib.Omega.{arith}
-use Rattle.verdict_tool.specs.Lines.{mapLines, mapRows, output, text}
-use Rattle.verdict_tool.proofs.Gatherings.{added-front, added-on}
-use Rattle.verdict_tool.proofs.MapLines.{map-room}
-use Rattle.verdict_tool.proofs.gather.gather.Statement.{statement}
-use Rattle.verdict_tool.proofs.gather.gather.Tie as tie
+use Rattle.verdict_lines.specs.Lines.{mapLines, mapRows, output, text}
+use Rattle.verdict_lines.proofs.Gatherings.{added-front, added-on}
+use Rattle.verdict_lines.proofs.MapLines.{map-room}
+use Rattle.verdict_lines.proofs.gather.gather.Statement.{statement}
+use Rattle.verdict_lines.proofs.gather.gather.Tie as tie
 
 abbrev entry : (c : tie.After-verdict) → tie.Start
 entry c = c .before .before .before .before

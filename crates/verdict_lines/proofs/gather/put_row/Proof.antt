@@ -4,10 +4,10 @@ use borrow.Author.Needs.{needs}
 use denote.Ref.{now}
 use lib.ListN.{length, length-append}
 use native.Mathlib.Omega.{arith}
-use Rattle.verdict_tool.specs.Lines.{decimal, number}
-use Rattle.verdict_tool.proofs.Gatherings.{added-on}
-use Rattle.verdict_tool.proofs.gather.put_row.Statement.{statement}
-use Rattle.verdict_tool.proofs.gather.put_row.Tie as tie
+use Rattle.verdict_lines.specs.Lines.{decimal, number}
+use Rattle.verdict_lines.proofs.Gatherings.{added-on}
+use Rattle.verdict_lines.proofs.gather.put_row.Statement.{statement}
+use Rattle.verdict_lines.proofs.gather.put_row.Tie as tie
 
 room : (c : tie.Start) →
     let a = c .args in

@@ -3,8 +3,8 @@ use table::number::copy_in;
 ghost use Prim.Native.Nat.{_+_, _<_, _≤_};
 ghost use lib.ListN.{length};
 ghost use mathlib.Core.List.{_++_, [], _∷_};
-ghost use Rattle.verdict_tool.specs.Gathering.{Added};
-ghost use Rattle.verdict_tool.specs.Lines.{decimal};
+ghost use Rattle.verdict_lines.specs.Gathering.{Added};
+ghost use Rattle.verdict_lines.specs.Lines.{decimal};
 
 // As many digits as the greatest u64 has.
 const MOST_DIGITS: usize = 20;
