@@ -31,7 +31,13 @@ extern "C" {
  * Version
  *
  * The major number changes whenever a program that was compiled with an earlier
- * header has to be compiled again, the minor one when something is added.
+ * header has to be compiled again or changed, the minor one when something is
+ * added.
+ *
+ * 2.0: bits 31..0 of a refusal by question 2 to 13, which were 0, hold a row and a
+ * byte. Programs have to be compiled again; one that compares whole words of
+ * refusals has to compare their parts. New: zuvaropy_has_place, zuvaropy_row,
+ * zuvaropy_byte, zuvaropy_question_text, zuvaropy_input_text.
  */
 
 #define ZUVAROPY_VERSION_MAJOR  2
@@ -156,9 +162,8 @@ extern "C" {
     (ZUVAROPY_MAX_CARDS * ZUVAROPY_CARD_BYTES(ZUVAROPY_MAX_PICTURE_BYTES) + ZUVAROPY_HEAD_BYTES)
 
 /*
- * The stack that each call takes at most, in bytes: measured by
- * tests/test_stack.c on pictures as deep as allowed, and rounded up. This is
- * tested and not proved.
+ * The stack that each call takes at most, in bytes: measured on pictures as deep
+ * as allowed, and rounded up. This is tested and not proved.
  */
 #define ZUVAROPY_VALIDATE_STACK_BYTES       512
 #define ZUVAROPY_NORMALIZE_STACK_BYTES      (17 * 1024)
@@ -242,7 +247,7 @@ extern "C" {
 #define ZUVAROPY_QUESTION_REFUTED     23  /* is individual 0 not an instance of the second picture? */
 
 /* Asked of a book, by heads, lengths and number of fields, before its cards are asked 2 to 13. */
-#define ZUVAROPY_QUESTION_BOOK        24  /* is it a book, to its last byte? */
+#define ZUVAROPY_QUESTION_BOOK        24  /* does it have the form of a book, to its last byte? */
 
 /*
  * The answer word
@@ -258,14 +263,17 @@ extern "C" {
  * The value of an answer is one number of 32 bits.
  *
  * A picture that question 2 to 13 refuses is refused at a field. The row is the
- * number of rows before that field, all of which passed: the number of the row
- * that is being read, if the field is one. The byte is where the field begins,
- * counted from the first byte of the picture, also where the picture is a card of
- * a book. Since only rows come before it, it is ZUVAROPY_ROW_BYTES times the row.
+ * number of rows before that field, all of which passed: if the field is a row, it
+ * is its number. The byte is where the field begins, counted from the first byte
+ * of the picture, also where the picture is a card of a book. Since only rows come
+ * before it, it is ZUVAROPY_ROW_BYTES times the row. It is not the byte at fault:
+ * a parent, say, stands ZUVAROPY_HEAD_BYTES + ZUVAROPY_PARENT_AT bytes after it.
  *
- * So where the picture stops before a head (2), the byte may be its length; where
- * there is a row too many (5), the row is ZUVAROPY_MAX_ROWS; and where the picture
- * goes on after its end field (8), the byte is that of the end field.
+ * Where fewer than ZUVAROPY_HEAD_BYTES bytes are left for a head (2), the byte is
+ * where it would begin; if none is left, that is the picture's length, and there
+ * is no such byte. Where there is a row too many (5), the row is
+ * ZUVAROPY_MAX_ROWS. An end field without rows (7) is at row 0, byte 0; where the
+ * picture goes on after its end field (8), the byte is that of the end field.
  */
 
 #define ZUVAROPY_OUTCOME_SHIFT   56
@@ -299,34 +307,35 @@ static inline unsigned int zuvaropy_input(uint64_t word)
     return (unsigned int)(word >> ZUVAROPY_INPUT_SHIFT & 0xFFu);
 }
 
-/* Of a refusal that concerns a card: the card's number, from 0. */
+/* Of a refusal that concerns a card: the card's number, from 0; else 0. */
 static inline unsigned int zuvaropy_card(uint64_t word)
 {
     return (unsigned int)(word >> ZUVAROPY_CARD_SHIFT & 0xFFu);
 }
 
-/* Does the word say at which row and byte? Not 0 of a refusal by question 2 to 13, else 0. */
+/* Does the word say at which row and byte? Nonzero for a refusal by question 2 to 13, else 0. */
 static inline int zuvaropy_has_place(uint64_t word)
 {
     return zuvaropy_outcome(word) == ZUVAROPY_OUTCOME_REFUSAL && zuvaropy_question(word) >= ZUVAROPY_QUESTION_HEAD &&
            zuvaropy_question(word) <= ZUVAROPY_QUESTION_IMPOSSIBLE;
 }
 
-/* Of a refusal that has a place: the row being read, that is, how many were completed. */
+/* Of a refusal that has a place: the row being read, that is, how many were completed; else 0. */
 static inline unsigned int zuvaropy_row(uint64_t word)
 {
-    return (unsigned int)(word >> ZUVAROPY_ROW_SHIFT & 0xFFFFu);
+    return zuvaropy_has_place(word) ? (unsigned int)(word >> ZUVAROPY_ROW_SHIFT & 0xFFFFu) : 0;
 }
 
-/* Of a refusal that has a place: where the field of that row begins, from the picture's first byte. */
+/* Of a refusal that has a place: where the refused field begins, from the picture's first byte; else 0. */
 static inline unsigned int zuvaropy_byte(uint64_t word)
 {
-    return (unsigned int)(word >> ZUVAROPY_BYTE_SHIFT & 0xFFFFu);
+    return zuvaropy_has_place(word) ? (unsigned int)(word >> ZUVAROPY_BYTE_SHIFT & 0xFFFFu) : 0;
 }
 
 /*
- * A question in words, such as "is the parent below the row's number?". It is
- * never NULL: of a number that is no question's it is "no such question".
+ * A question in words, such as "is the parent below the row's number?": the answer
+ * was no. It is a string constant and never NULL: of a number that is no
+ * question's it is "no such question". The words may change with the version.
  */
 static inline const char *zuvaropy_question_text(unsigned int question)
 {
@@ -378,13 +387,17 @@ static inline const char *zuvaropy_question_text(unsigned int question)
     case ZUVAROPY_QUESTION_REFUTED:
         return "is individual 0 not an instance of the second picture?";
     case ZUVAROPY_QUESTION_BOOK:
-        return "is it a book, to its last byte?";
+        return "does it have the form of a book, to its last byte?";
     default:
         return "no such question";
     }
 }
 
-/* An input in words, such as "first picture"; never NULL either: "no such input". */
+/*
+ * An input in words, such as "first picture", in the same way: "no such input". Of
+ * a call that takes one picture, or a case, ZUVAROPY_INPUT_FIRST is that one, and
+ * a program may have a better word for it.
+ */
 static inline const char *zuvaropy_input_text(unsigned int input)
 {
     switch (input) {
@@ -673,13 +686,15 @@ uint64_t zuvaropy_verify(const uint8_t *first, size_t first_len, const uint8_t *
  *          the end field, or goes on after it. The values may be of any length;
  *          question 2 to 13, input ZUVAROPY_INPUT_CARD, of the cards in turn:
  *          all of one card before the next card. zuvaropy_card says which, row
- *          and byte where in its picture;
+ *          and byte where in its picture, which begins ZUVAROPY_HEAD_BYTES after
+ *          the card's field;
  *          question 14, input ZUVAROPY_INPUT_FIRST, of the case, as
  *          zuvaropy_normalize;
  *          question 14, input ZUVAROPY_INPUT_CARD, of the cards in turn.
  *
  * Any bytes of any length may be given as the case and as the book; an empty
- * buffer is no book, and a card of length 0 is refused by question 2. The work
+ * buffer is no book, and a card of length 0 is refused by question 2. The first
+ * card that is refused is told; zuvaropy_validate tests each by itself. The work
  * space may hold anything beforehand. It must not overlap any other buffer; the
  * others may overlap.
  *

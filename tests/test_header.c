@@ -132,16 +132,16 @@ static void test_word(void)
     CHECK(zuvaropy_input(word) == 0x56);
     CHECK(zuvaropy_card(word) == 0x78);
     CHECK(zuvaropy_value(word) == 0x9ABCDEF0u);
-    CHECK(zuvaropy_row(word) == 0x9ABC);
-    CHECK(zuvaropy_byte(word) == 0xDEF0);
+    CHECK(zuvaropy_row(word) == 0); /* an answer has no place */
+    CHECK(zuvaropy_byte(word) == 0);
 
     CHECK(zuvaropy_outcome(ones) == 0xFF);
     CHECK(zuvaropy_question(ones) == 0xFF);
     CHECK(zuvaropy_input(ones) == 0xFF);
     CHECK(zuvaropy_card(ones) == 0xFF);
     CHECK(zuvaropy_value(ones) == 0xFFFFFFFFu);
-    CHECK(zuvaropy_row(ones) == 0xFFFF);
-    CHECK(zuvaropy_byte(ones) == 0xFFFF);
+    CHECK(zuvaropy_row(ones) == 0);
+    CHECK(zuvaropy_byte(ones) == 0);
 
     /* Card 4, row 3, byte 72; a refusal has no value. */
     CHECK(zuvaropy_outcome(refusal) == ZUVAROPY_OUTCOME_REFUSAL);
@@ -150,6 +150,8 @@ static void test_word(void)
     CHECK(zuvaropy_card(refusal) == 4);
     CHECK(zuvaropy_row(refusal) == 3);
     CHECK(zuvaropy_byte(refusal) == 72);
+    CHECK(zuvaropy_row(refusal | 0xFFFFFFFFu) == 0xFFFF);
+    CHECK(zuvaropy_byte(refusal | 0xFFFFFFFFu) == 0xFFFF);
     CHECK(zuvaropy_value(refusal) == 0);
 
     CHECK(second_unit_question(word) == 0x34);

@@ -27,6 +27,7 @@ static void check_place(uint64_t word, const struct place *place, unsigned int i
     CHECK_WORD(zuvaropy_question(word), place->question, at);
     CHECK_WORD(zuvaropy_input(word), input, at);
     CHECK_WORD(zuvaropy_card(word), card, at);
+    CHECK_WORD(word & 0xFFFFFFFFu, (uint64_t)place->row << 16 | place->byte, at); /* also where it has no place */
     CHECK_WORD(zuvaropy_row(word), place->row, at);
     CHECK_WORD(zuvaropy_byte(word), place->byte, at);
     CHECK_WORD(zuvaropy_value(word), 0, at);

@@ -58,9 +58,11 @@ static void check_place(uint64_t word)
 {
     const unsigned int question = zuvaropy_question(word);
     const int placed = question >= ZUVAROPY_QUESTION_HEAD && question <= ZUVAROPY_QUESTION_IMPOSSIBLE;
+    const unsigned int row = (unsigned int)(word >> 16 & 0xFFFF), byte = (unsigned int)(word & 0xFFFF);
 
-    CHECK(zuvaropy_row(word) <= (placed ? ZUVAROPY_MAX_ROWS : 0));
-    CHECK(zuvaropy_byte(word) == zuvaropy_row(word) * ZUVAROPY_ROW_BYTES);
+    CHECK(row <= (placed ? ZUVAROPY_MAX_ROWS : 0));
+    CHECK(byte == row * ZUVAROPY_ROW_BYTES);
+    CHECK(zuvaropy_row(word) == row && zuvaropy_byte(word) == byte);
 }
 
 static void check_refusal(uint64_t word)

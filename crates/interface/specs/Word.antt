@@ -11,7 +11,8 @@
 --   valueWord, refusalWord                  the word of an answer; of a refusal
 --   refused, refusedAt                      the word of a refusal that is at no field; of one at the field after n rows
 --   outcome, question, input, card,
---   row, byte, value                        the parts of a word; the value is an answer's, and 0 of a refusal in the header
+--   row, byte, value                        the parts of a word; row and byte are a refusal's, the value an answer's: of
+--                                           other words the header gives 0 for them
 --   readWord, normalizedWord, verdictWord, commonWord, verifiedWord, selectedWord   the word of each call's answer
 use Prim.Native.Nat.{ℕ, _%_, _*_, _+_, _/_, _^_}
 use Rattle.picture.specs.Refusal.{refusal, refusalAt}
