@@ -25,9 +25,10 @@ use Rattle.meaning.specs.Covering.{covers}
 use Rattle.meaning.proofs.CasePictures.{allOf, allRow, empty, end, fourRows, impossible, noneReached, one, oneRow, picture, root, row, someRow, two}
 use Rattle.meaning.specs.NormalTable.{mergedCount, mergedTree, normalTreeOf}
 use Rattle.normal.specs.Call.{mergedAsked}
+use Rattle.order.specs.Preorder.{minimal, passedOver}
 use Rattle.book.specs.Call.{bookAsked, mostSpecificAnswer, mostSpecificWork}
 use Rattle.book.specs.Form.{bookForm, card, cardAt, cardCount, cardsFrom, fieldPlace}
-use Rattle.book.specs.Selection.{cardWord, mostSpecific, mostSpecificCards, subsumesAnother}
+use Rattle.book.specs.Selection.{cardWord, mostSpecific, mostSpecificCards}
 use Rattle.book.specs.declared.answer.Selected.{Selected}
 use Rattle.book.specs.declared.answer.Selected.the-variants.{Cards, Refused}
 
@@ -104,14 +105,14 @@ cases =
     -- a diamond, and one without its lowest card
     ∷ told (names 104) (empty ∷ names 8 ∷ names 32 ∷ names 40 ∷ []) (Cards 8)
     ∷ told (names 104) (empty ∷ names 8 ∷ names 32 ∷ []) (Cards 6)
-    -- twins, of the same bytes or of others with the same meaning, hide each other and what covers them
-    ∷ told (names 8) (names 8 ∷ names 8 ∷ []) (Cards 0)
-    ∷ told (names 40) (empty ∷ names 8 ∷ names 8 ∷ []) (Cards 0)
+    -- twins, of the same bytes or of others with the same meaning, are both nearest or both passed over
+    ∷ told (names 8) (names 8 ∷ names 8 ∷ []) (Cards 3)
+    ∷ told (names 40) (empty ∷ names 8 ∷ names 8 ∷ []) (Cards 6)
     ∷ told (names 40) (names 8 ∷ names 8 ∷ names 40 ∷ []) (Cards 4)
-    ∷ told (allOf 40) (allOf 40 ∷ allTwo 8 32 ∷ []) (Cards 0)
-    ∷ told (allOf 40) (allTwo 8 32 ∷ allTwo 32 8 ∷ []) (Cards 0)
-    ∷ told empty (empty ∷ allOf 0 ∷ []) (Cards 0)
-    ∷ told impossible (impossible ∷ broken ∷ names 8 ∷ []) (Cards 0)
+    ∷ told (allOf 40) (allOf 40 ∷ allTwo 8 32 ∷ []) (Cards 3)
+    ∷ told (allOf 40) (allTwo 8 32 ∷ allTwo 32 8 ∷ []) (Cards 3)
+    ∷ told empty (empty ∷ allOf 0 ∷ []) (Cards 3)
+    ∷ told impossible (impossible ∷ broken ∷ names 8 ∷ []) (Cards 3)
     -- a marked case is covered by all
     ∷ told impossible (names 8 ∷ names 32 ∷ []) (Cards 3)
     ∷ told impossible (names 8 ∷ names 40 ∷ []) (Cards 2)
@@ -186,6 +187,6 @@ cases =
 pub all-pass : runAll cases ≡ cases
 unfolding be endsAt put zeros some depthIn depth tagOk lengthFor kindOk roleOk parentOk valueField rowField endField fieldAt
     scanFrom readingOf rowCount mergedTree mergedCount normalTreeOf covers
-    fieldPlace card cardAt cardsFrom cardCount bookForm subsumesAnother mostSpecific cardWord mostSpecificCards
+    fieldPlace card cardAt cardsFrom cardCount bookForm passedOver minimal mostSpecific cardWord mostSpecificCards
     askedFrom readAsked mergedAsked bookAsked mostSpecificAnswer
 all-pass = refl

@@ -3,6 +3,7 @@
 --   cardWord-below                the word has n bits
 --   has-cardWord                  its bits are the cards below n that pass the test
 --   word-is                       and a word with these bits is that word
+--   cardWord-some                 a word that is not 0 has a card
 --   cardWord-same                 tests that agree on the cards below n give the same word
 use Prim.Native.Nat.{_*_, _+_, _<_, _^_, suc, zero, ℕ}
 use borrow.Author.Tests.{eq-eqb, le-ltb, lt-ltb, ne-eqb}
@@ -73,6 +74,16 @@ module _ (f : ℕ → Bool) where
 
   pub word-is : (w n : ℕ) → ((k : ℕ) → has w k ≡ (ltb k n && f k)) → w ≡ cardWord f n
   word-is w n h = set-ext w (cardWord f n) (λ k. h k ∙ sym (has-cardWord n k))
+
+  pub cardWord-some : (n : ℕ) → (cardWord f n ≡ 0 → ⊥) → (k : ℕ) × (k < n) × (f k ≡ true)
+  unfolding cardWord
+  cardWord-some zero u = absurd (u refl)
+  cardWord-some (suc n) u =
+      by-test (f n) (λ e. (n, omega arith, e))
+      (λ e.
+      let none : pick (f n) (2 ^ n) 0 ≡ 0 = ap (λ (b : Bool). pick b (2 ^ n) 0) e in
+      let (k, l, passes) = cardWord-some n (λ z. u (omega (arith, z, none))) in
+      (k, omega (arith, l), passes))
 
 pub cardWord-same : (f g : ℕ → Bool) (n : ℕ) → ((k : ℕ) → k < n → f k ≡ g k) → cardWord f n ≡ cardWord g n
 unfolding cardWord

@@ -1,7 +1,8 @@
 -- Laws of words of cards as the code makes them.
 --   with-bit       a word with one card more
 --   without-bits   a word without the cards of another, over any width
---   with-there, with-more, with-none   a word with card k if a test passes: it is there already; it passes; it does not
+--   with-more, with-none   a word with card k if a test passes: it does; it does not
+--   with-each      a word with two cards, one after the other
 use Prim.Native.Nat.{_-_, _<_, _^_, _≤_, ℕ}
 use borrow.Author.Tests.{eqb-false, eqb-true, ne-eqb}
 use lib.Bits.{bitAnd, bitOr}
@@ -15,7 +16,7 @@ use Rattle.table.proofs.NameSets.{has-intersection, has-power, has-union}
 use Rattle.table.proofs.Bits.{bit-below, bit-bound, bit-complement}
 use Rattle.table.proofs.Bools.{by-test, or-none}
 use Rattle.table.specs.NameSet.{bit, has}
-use Rattle.book_form.specs.Places.{With}
+use Rattle.book_form.specs.Places.{With, WithEach}
 use Rattle.book.proofs.CardWords.{and-all}
 
 pub with-bit : (word k r i : ℕ) → r ≡ 2 ^ k → has (bitOr word r) i ≡ (has word i || eqb i k)
@@ -52,14 +53,11 @@ without-bits width a b i fits fits₂ =
     ]
 
 module _ (word k : ℕ) where
-  pub with-there : (test : Bool) → has word k ≡ true → With word k test word
-  with-there test there i =
-      by-test (eqb i k)
-      (λ e. let same = ap (λ (n : ℕ). has word n) (eqb-true i k e) ∙ there in rw same)
-      (λ e. rw e (sym (or-none (has word i))))
-
   pub with-more : (test : Bool) (r : ℕ) → test ≡ true → ((i : ℕ) → has r i ≡ (has word i || eqb i k)) → With word k test r
   with-more test r passes is i = is i ∙ rw passes (ap (λ (b : Bool). has word i || b) (sym (and-all (eqb i k))))
 
   pub with-none : (test : Bool) → test ≡ false → With word k test word
   with-none test fails i = rw (fails, and-none (eqb i k)) (sym (or-none (has word i)))
+
+pub with-each : (word m : ℕ) (test : Bool) (more n : ℕ) (other : Bool) (r : ℕ) → With word m test more → With more n other r → WithEach word m test n other r
+with-each word m test more n other r p q i = q i ∙ ap (λ (b : Bool). b || (eqb i n && other)) (p i)

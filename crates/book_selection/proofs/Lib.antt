@@ -1,3 +1,3 @@
 -- The laws of the comparison.
-pub mod HalfTables
+pub mod Standings
 pub mod Comparisons

@@ -1,2 +1,3 @@
--- What the comparison of the cards has found.
+-- Where the tables stand, and what the comparison of the cards has found.
+pub mod Standing
 pub mod Comparing

@@ -1,172 +1,217 @@
-// Which of the covering cards cover another of them. Two tables stand in the work space at a time: card m's in the lower half, while those of the earlier cards
-// come into the upper one, and the two are compared both ways. A pair of which both are redundant already says nothing new and is left out. Tables that are
-// cached are copied, others made again; those of the first cards are cached, so card m's, which is made once for all earlier ones, is the later one of a pair.
+// Which of the covering cards are passed over: they cover another of them that does not cover them in return. Each card
+// is compared with the earlier ones, a pair both ways at once. A pair of which one is passed over already is left out:
+// what covers that one strictly covers strictly a card that is not passed over. Once a card covers an earlier one, the
+// rest of its row says nothing new. Tables are compared where they stand.
+use crate::spot::Spot;
+use crate::spot::cache_table;
+use crate::spot::find_table;
+use crate::spot::table_at;
 use book_form::form::Cards;
-use book_form::word::has_card;
 use book_form::word::with_card;
 use book_form::word::without;
+use book_tables::cache::CACHE;
 use book_tables::cache::SPANS;
-use book_tables::cache::load;
 use book_tables::covering::table_covers;
-use prepare_pair::prepare::Pair;
 use prepare_pair::prepare::half_size;
-use prepare_pair::tables::first_table;
-use prepare_pair::tables::second_table;
 use row_sets::rows::LINKS;
 use row_sets::rows::fill_links;
-use table::layout::END_SIZE;
+use row_sets::rows::next_bit;
 use table::layout::Limits;
-use table::layout::place;
 use table::number::clear;
 ghost use mathlib.Core.Path.{_≡_};
-ghost use mathlib.Core.Bool.{_&&_, false, not, true};
+ghost use mathlib.Core.Bool.{_&&_, not, true};
 ghost use Prim.Native.Nat.{ℕ, _≤_, _<_, _+_};
 ghost use lib.ListN.{length};
-ghost use Rattle.table.specs.Bounds.{Bounded};
+ghost use Rattle.table.specs.Bounds.{maxRows};
 ghost use Rattle.table.specs.NameSet.{has};
 ghost use Rattle.table.specs.Put.{zeros};
+ghost use Rattle.table_rows.specs.Links.{Zeros};
 ghost use Rattle.homomorphism_search.specs.Search.{LinkedTable, rowMaps};
 ghost use Rattle.workspace.specs.Prepare.{workSize};
-ghost use Rattle.book.specs.Form.{mostCards};
-ghost use Rattle.book.specs.Selection.{subsumesAnother};
-ghost use Rattle.book_tables.specs.Cache.{CardsCached};
-ghost use Rattle.book_selection.specs.Comparing.{Comparable, Compared, undecided};
-ghost use Rattle.book_form.specs.Places.{With, WithEach};
+ghost use Rattle.order.specs.Preorder.{passedOver};
+ghost use Rattle.book.specs.Form.{cardCount, mostCards};
+ghost use Rattle.book.specs.Selection.{cardCovers};
+ghost use Rattle.book_form.specs.Places.{WithEach};
+ghost use Rattle.book_tables.specs.Cache.{Cached};
+ghost use Rattle.book_selection.specs.Standing.{Checkable, Facing, LowTable, tableAt};
+ghost use Rattle.book_selection.specs.Comparing.{CardRoom, Compared, NextCard, Ordered, PairRoom, RowRoom, SelectRoom};
 
-// The word with card k if the second table, which is card k's, covers the first.
-fn mark_redundant(
+// Of two cards whether the first covers the second, and whether the second covers the first.
+struct Order {
+    over: bool,
+    under: bool,
+}
+
+// Of the cards compared so far those that are passed over, and where the cached tables end.
+struct Progress {
     redundant: u32,
-    k: usize,
-    first: &[u8],
-    n: usize,
-    links: &[u8; LINKS],
-    second: &[u8],
-    m: usize,
-    others: &[u8; LINKS],
-    depth: usize,
-) -> u32
-    requires { ⌜ (LinkedTable (now first) n (now links)) × ((LinkedTable (now second) m (now others)) × (k < mostCards)) ⌝ }
-    ensures { λ r. ⌜ With redundant k (rowMaps (now (first .entry)) (now (second .entry)) depth 0 0) r ⌝ }
+    at: usize,
+}
+
+// The first card of a word from one on; past all cards if there is none.
+fn next_card(word: u32, from: usize) -> usize
+    requires { ⌜ from ≤ mostCards ⌝ }
+    ensures { λ r. ⌜ NextCard word from r ⌝ }
 {
-    if has_card(redundant, k) {
-        return redundant;
+    next_bit(word as u64, from)
+}
+
+// The links of the table at a spot.
+fn link_table<'a>(cache: &'a [u8], work: &'a [u8], spot: Spot, links: &mut [u8; LINKS])
+    requires { ⌜ (Checkable (now cache) (now work) spot) × (Zeros (maxRows + maxRows) (now links)) ⌝ }
+    ensures { λ _. ⌜ LinkedTable (tableAt (now (cache .entry)) (now (work .entry)) spot) (spot .rows) (now (links .exit)) ⌝ }
+{
+    let table = table_at(cache, work, spot);
+    fill_links(table, spot.rows, links);
+}
+
+// The two tables at these spots, of which the first has its links, each with the other.
+fn compare_spots<'a>(
+    cache: &'a [u8],
+    work: &'a [u8],
+    low: Spot,
+    links: &[u8; LINKS],
+    high: Spot,
+    depth: usize,
+) -> Order
+    requires { ⌜ Facing (now cache) (now work) low (now links) high ⌝ }
+    ensures { λ r. ⌜ (r .over ≡ rowMaps (tableAt (now (cache .entry)) (now (work .entry)) high) (tableAt (now (cache .entry)) (now (work .entry)) low) depth 0 0)
+        × (r .under ≡ rowMaps (tableAt (now (cache .entry)) (now (work .entry)) low) (tableAt (now (cache .entry)) (now (work .entry)) high) depth 0 0) ⌝ }
+{
+    let mut others = [0u8; LINKS];
+    link_table(cache, work, high, &mut others);
+    let first = table_at(cache, work, low);
+    let second = table_at(cache, work, high);
+    let a = low.rows;
+    let b = high.rows;
+    let over = table_covers(second, b, &others, first, a, links, depth);
+    let under = table_covers(first, a, links, second, b, &others, depth);
+    Order { over, under }
+}
+
+// The card whose table stands low, and card n, whose table may be made in the second half of the work space.
+fn compare_pair(
+    book: &[u8],
+    cards: Cards,
+    limits: Limits,
+    cache: &[u8],
+    spans: &[usize; SPANS],
+    low: Spot,
+    links: &[u8; LINKS],
+    n: usize,
+    work: &mut [u8],
+) -> Order
+    requires { ⌜ PairRoom limits (now book) cards (now cache) (now spans) low (now links) n (now work) ⌝ }
+    ensures { λ r. ⌜ (Ordered limits (now (book .entry)) (low .card) n r)
+        × (LowTable limits (now (book .entry)) (now (cache .entry)) (now (work .exit)) low (now (links .entry))) ⌝ }
+{
+    let half = half_size(limits);
+    let high = find_table(book, cards, n, limits, cache, spans, work, half);
+    compare_spots(cache, work, low, links, high, limits.depth)
+}
+
+// The word with the one of cards m and n that covers the other and is not covered by it, if there is one.
+fn mark_passed(redundant: u32, m: usize, n: usize, order: Order) -> u32
+    requires { ⌜ (m < mostCards) × (n < mostCards) ⌝ }
+    ensures { λ r. ⌜ WithEach redundant m (order .over && not (order .under)) n (order .under && not (order .over)) r ⌝ }
+{
+    if order.over {
+        if order.under {
+            return redundant;
+        }
+        return with_card(redundant, m);
     }
-    if table_covers(first, n, links, second, m, others, depth) {
-        return with_card(redundant, k);
+    if order.under {
+        return with_card(redundant, n);
     }
     redundant
 }
 
-// Card m, whose table is the low one, and card n, whose table is the high one, each with the other.
-fn compare_tables(
-    low: &[u8],
-    high: &[u8],
-    pair: Pair,
-    links: &[u8; LINKS],
-    depth: usize,
-    m: usize,
-    n: usize,
-    redundant: u32,
-) -> u32
-    requires { ⌜ Comparable (now low) (now high) pair (now links) m n ⌝ }
-    ensures { λ r. ⌜ WithEach redundant m (rowMaps (now (high .entry)) (now (low .entry)) depth 0 0)
-        n (rowMaps (now (low .entry)) (now (high .entry)) depth 0 0) r ⌝ }
-{
-    let a = pair.first;
-    let b = pair.second;
-    let mut others = [0u8; LINKS];
-    fill_links(high, b, &mut others);
-    let more = mark_redundant(redundant, m, high, b, &others, low, a, links, depth);
-    mark_redundant(more, n, low, a, links, high, b, &others, depth)
-}
-
-// Whether card n is to be compared with card m: it covers the case, and not both are redundant already.
-fn is_undecided(covering: u32, redundant: u32, m: usize, n: usize) -> bool
-    requires { ⌜ (m < mostCards) × (n < mostCards) ⌝ }
-    ensures { λ r. ⌜ r ≡ undecided covering redundant m n ⌝ }
-{
-    if !has_card(covering, n) {
-        return false;
-    }
-    if !has_card(redundant, m) {
-        return true;
-    }
-    !has_card(redundant, n)
-}
-
-// The first such card from one on; `end` if there is none before it.
-fn next_undecided(covering: u32, redundant: u32, m: usize, from: usize, end: usize) -> usize
-    requires { ⌜ (m < mostCards) × ((from ≤ end) × (end ≤ mostCards)) ⌝ }
-    ensures { λ r. ⌜ ((from ≤ r) × (r ≤ end)) × (((k : ℕ) → from ≤ k → k < r → undecided covering redundant m k ≡ false) × (r < end → undecided covering redundant m r ≡ true)) ⌝ }
-{
-    let mut n = from;
-    while n < end {
-        if is_undecided(covering, redundant, m, n) {
-            return n;
-        }
-        n += 1;
-    }
-    n
-}
-
-// Card m, if it covers the case, with all earlier ones.
-fn compare_card(
+// The card whose table stands low, with the earlier ones, until it covers one of them.
+fn compare_row(
     book: &[u8],
     cards: Cards,
     limits: Limits,
     cache: &[u8],
     spans: &[usize; SPANS],
     covering: u32,
-    m: usize,
+    low: Spot,
     redundant: u32,
     work: &mut [u8],
 ) -> u32
-    requires { ⌜ (Bounded limits) × ((CardsCached limits (now book) cards (now cache) (now spans)) × ((m < cards .count) × ((Compared limits (now book) covering m redundant) × (length (now work) ≡ workSize limits)))) ⌝ }
-    ensures { λ r. ⌜ (Compared limits (now (book .entry)) covering (m + 1) r) × (length (now (work .exit)) ≡ length (now (work .entry))) ⌝ }
+    requires { ⌜ RowRoom limits (now book) cards (now cache) (now spans) covering low redundant (now work) ⌝ }
+    ensures { λ r. ⌜ (Compared limits (now (book .entry)) covering (low .card + 1) r)
+        × (length (now (work .exit)) ≡ length (now (work .entry))) ⌝ }
 {
-    if !has_card(covering, m) {
-        return redundant;
-    }
-    let mut n = next_undecided(covering, redundant, m, 0, m);
-    if n == m {
-        return redundant;
-    }
-    let half = half_size(limits);
-    let a = load(book, cards, m, limits, cache, spans, &mut work[..half]);
+    let m = low.card;
     let mut links = [0u8; LINKS];
-    fill_links(&work[..place(a, END_SIZE)], a, &mut links);
+    link_table(cache, work, low, &mut links);
     let mut word = redundant;
+    let mut n = next_card(without(covering, word), 0);
     while n < m {
-        let b = load(book, cards, n, limits, cache, spans, &mut work[half..]);
-        let pair = Pair {
-            first: a,
-            second: b,
-        };
-        let low = first_table(work, pair);
-        let high = second_table(work, limits, pair);
-        word = compare_tables(low, high, pair, &links, limits.depth, m, n, word);
-        n = next_undecided(covering, word, m, n + 1, m);
+        let order = compare_pair(book, cards, limits, cache, spans, low, &links, n, work);
+        word = mark_passed(word, m, n, order);
+        if order.over {
+            return word;
+        }
+        n = next_card(without(covering, word), n + 1);
     }
     word
 }
 
-// Those of the covering cards that cover another of them.
+// Card m, which covers the case, with the earlier ones. Its table is cached for the later ones, if there is room.
+fn compare_card(
+    book: &[u8],
+    cards: Cards,
+    limits: Limits,
+    cache: &mut [u8],
+    spans: &mut [usize; SPANS],
+    covering: u32,
+    m: usize,
+    progress: Progress,
+    work: &mut [u8],
+) -> Progress
+    requires { ⌜ CardRoom limits (now book) cards (now cache) (now spans) covering m progress (now work) ⌝ }
+    ensures { λ r. ⌜ ((Compared limits (now (book .entry)) covering (m + 1) (r .redundant))
+        × (Cached limits (now (book .entry)) (now (cache .exit)) (now (spans .exit)) (r .at)))
+        × ((length (now (cache .exit)) ≡ length (now (cache .entry))) × (length (now (work .exit)) ≡ length (now (work .entry)))) ⌝ }
+{
+    let low = find_table(book, cards, m, limits, cache, spans, work, 0);
+    let at = cache_table(work, low, progress.at, cache, spans);
+    let redundant = compare_row(
+        book,
+        cards,
+        limits,
+        cache,
+        spans,
+        covering,
+        low,
+        progress.redundant,
+        work,
+    );
+    Progress { redundant, at }
+}
+
+// Those of the covering cards that are passed over.
 fn compare_cards(
     book: &[u8],
     cards: Cards,
     limits: Limits,
-    cache: &[u8],
-    spans: &[usize; SPANS],
+    cache: &mut [u8],
+    spans: &mut [usize; SPANS],
     covering: u32,
     work: &mut [u8],
 ) -> u32
-    requires { ⌜ (Bounded limits) × ((CardsCached limits (now book) cards (now cache) (now spans)) × (length (now work) ≡ workSize limits)) ⌝ }
+    requires { ⌜ SelectRoom limits (now book) cards (now cache) (now spans) covering (now work) ⌝ }
     ensures { λ r. ⌜ (Compared limits (now (book .entry)) covering (cards .count) r) × (length (now (work .exit)) ≡ length (now (work .entry))) ⌝ }
 {
-    let mut redundant: u32 = 0;
-    let mut m = 0;
+    let mut progress = Progress {
+        redundant: 0,
+        at: CACHE,
+    };
+    let mut m = next_card(covering, 0);
     while m < cards.count {
-        redundant = compare_card(
+        progress = compare_card(
             book,
             cards,
             limits,
@@ -174,26 +219,27 @@ fn compare_cards(
             spans,
             covering,
             m,
-            redundant,
+            progress,
             work,
         );
-        m += 1;
+        m = next_card(covering, m + 1);
     }
-    redundant
+    progress.redundant
 }
 
-// Those that cover no other; the work space is cleared.
+// The covering cards that are not passed over; the work space is cleared.
 pub fn select_cards(
     book: &[u8],
     cards: Cards,
     limits: Limits,
-    cache: &[u8],
-    spans: &[usize; SPANS],
+    cache: &mut [u8],
+    spans: &mut [usize; SPANS],
     covering: u32,
     work: &mut [u8],
 ) -> u32
-    requires { ⌜ (Bounded limits) × ((CardsCached limits (now book) cards (now cache) (now spans)) × (((k : ℕ) → has covering k ≡ true → k < cards .count) × (length (now work) ≡ workSize limits))) ⌝ }
-    ensures { λ r. ⌜ ((k : ℕ) → has r k ≡ (has covering k && not (subsumesAnother limits (now (book .entry)) (has covering) k))) × (now (work .exit) ≡ zeros (workSize limits)) ⌝ }
+    requires { ⌜ SelectRoom limits (now book) cards (now cache) (now spans) covering (now work) ⌝ }
+    ensures { λ r. ⌜ ((k : ℕ) → has r k ≡ (has covering k && not (passedOver (cardCovers limits (now (book .entry))) (cardCount (now (book .entry))) (has covering) k)))
+        × (now (work .exit) ≡ zeros (workSize limits)) ⌝ }
 {
     let redundant = compare_cards(book, cards, limits, cache, spans, covering, work);
     clear(work, 0, work.len());

@@ -47,9 +47,10 @@ use Rattle.lcs.specs.Call.{lcsAnswer, lcsResult, lcsWork, tooLarge}
 use Rattle.lcs.specs.declared.common.Common.the-variants.{Length, Refused}
 use Rattle.lcs.specs.Description.{LeastCommon}
 use Rattle.lcs.specs.Product.{lcsCount, lcsFile}
-use Rattle.book.proofs.Selections.{most-specific-exactly}
-use Rattle.book.specs.Call.{mostSpecificWork}
-use Rattle.book.specs.Selection.{MostSpecific}
+use Rattle.book.proofs.Selections.{below-each, most-specific-exactly, some-exactly, together}
+use Rattle.book.specs.Call.{AcceptableBook, mostSpecificWork}
+use Rattle.book.specs.Form.{card, cardCount}
+use Rattle.book.specs.Selection.{MostSpecific, mostSpecificCards}
 use Rattle.interface.specs.Answers.{Answers, EitherOutcome, Passes, buffers, lcsCall, mostSpecificCall, subsumesCall, verifyCall}
 use Rattle.interface.specs.Calls.{lcsWord}
 use Rattle.interface.specs.Conditions.{Condition1Words, Condition2Words, Condition3Words, Conditions, Lengths, MostSpecificWords, NormalWords, PaperNumbers, Taken, WritesTaken, checkGiven, commonGiven, evidenceWritten, mostSpecificGiven, normalGiven, pictureWritten, tableWritten, verdictGiven}
@@ -331,6 +332,19 @@ module _ (limits : Limits) (bounded : Bounded limits) where
     cards-answers work = condition-1-words .most-specific case book work _ _
         (record { word-is = refl; buffer-is = refl })
 
+    -- where a word is given, the book is accepted, and it is the word of the definition
+    cards-shown : (work : List ℕ) → outcome (mostSpecificGiven limits case book work) ≡ outcomeYes →
+        AcceptableBook limits case book × (value (mostSpecificGiven limits case book work) ≡ mostSpecificCards limits case book)
+    cards-shown work h =
+        let g = result-shown _ _ _ _ (cards-answers work) (omega (arith, h)) in (g .passes .2, g .value-is)
+
+    nearest-words : (work : List ℕ) → outcome (mostSpecificGiven limits case book work) ≡ outcomeYes →
+        (n : ℕ) → (has (value (mostSpecificGiven limits case book work)) n ≡ true) ↔ MostSpecific limits case book n
+    nearest-words work h n =
+        let (acceptable, is) = cards-shown work h in
+        subst (λ w. (has w n ≡ true) ↔ MostSpecific limits case book n) (sym is)
+        (most-specific-exactly limits case book acceptable n)
+
     pub most-specific-words : MostSpecificWords limits case book
     most-specific-words = record {
       given-exactly = λ work. (
@@ -338,11 +352,18 @@ module _ (limits : Limits) (bounded : Bounded limits) where
             (enough, acceptable),
         λ (enough, acceptable). result-when _ _ _ _ (cards-answers work) (enough, omega arith, acceptable) .outcome-is,
       );
-      nearest = λ work h n.
-          let g = result-shown _ _ _ _ (cards-answers work) (omega (arith, h)) in
-          let (enough, none, acceptable) = g .passes in
-          subst (λ w. (has w n ≡ true) ↔ MostSpecific limits case book n) (sym (g .value-is))
-          (most-specific-exactly limits case book acceptable n);
+      nearest = nearest-words;
+      some-card = λ work h.
+          let (acceptable, is) = cards-shown work h in
+          subst (λ w. (w ≡ 0 → ⊥) ↔ ((k : ℕ) × (k < cardCount book) × Covers limits (card book k) case)) (sym is)
+          (some-exactly limits case book acceptable);
+      below-each = λ work h k l c.
+          let (n, most, over) = below-each limits case book (cards-shown work h .0) k l c in
+          (n, nearest-words work h n .1 most, over);
+      together = λ work h m n k l up down. (
+        λ e. nearest-words work h n .1 (together limits case book m n l up down (nearest-words work h m .0 e)),
+        λ e. nearest-words work h m .1 (together limits case book n m k down up (nearest-words work h n .0 e)),
+      );
     }
 
   pub conditions-bounded : Conditions limits

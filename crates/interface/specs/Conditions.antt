@@ -172,17 +172,31 @@ pub record NormalWords (limits : Limits) (picture : List ℕ) : Type 0 where
   pub equivalent : (result : List ℕ) → outcome (normalGiven limits picture result) ≡ outcomeYes →
       Equivalent pictureSignature (pictureTree limits picture) (pictureTree limits (tableWritten limits picture result))
 
--- 01, "Nearest cards for a case"
+-- 01, "Nearest cards for a case", with the rule of 02, U2
 pub record MostSpecificWords (limits : Limits) (case book : List ℕ) : Type 0 where
   -- a word is given exactly with a work space of the length laid down, for a readable case, a book of the book form and
   -- readable cards, each at most 256 rows when merged
   pub given-exactly : (work : List ℕ) →
       (outcome (mostSpecificGiven limits case book work) ≡ outcomeYes)
       ↔ ((workSize limits ≤ length work) × AcceptableBook limits case book)
-  -- "A card is nearest if it covers the case and covers no other card of the book that covers the case. The answer is a
-  -- 32-bit word, bit n for card n."
+  -- "The answer is a 32-bit word, bit n for card n." A card is nearest if it covers the case and is not passed over: "A
+  -- covering card is passed over exactly when it covers another covering card that does not cover it in return."
   pub nearest : (work : List ℕ) → outcome (mostSpecificGiven limits case book work) ≡ outcomeYes →
       (n : ℕ) → (has (value (mostSpecificGiven limits case book work)) n ≡ true) ↔ MostSpecific limits case book n
+  -- "the word is not zero whenever some card covers the case"; and only then
+  pub some-card : (work : List ℕ) → outcome (mostSpecificGiven limits case book work) ≡ outcomeYes →
+      (value (mostSpecificGiven limits case book work) ≡ 0 → ⊥)
+      ↔ ((k : ℕ) × (k < cardCount book) × Covers limits (card book k) case)
+  -- each covering card covers a nearest one
+  pub below-each : (work : List ℕ) → outcome (mostSpecificGiven limits case book work) ≡ outcomeYes →
+      (k : ℕ) → k < cardCount book → Covers limits (card book k) case →
+      (n : ℕ) × (has (value (mostSpecificGiven limits case book work)) n ≡ true) × Covers limits (card book k) (card book n)
+  -- cards of one meaning are nearest together or not at all
+  pub together : (work : List ℕ) → outcome (mostSpecificGiven limits case book work) ≡ outcomeYes →
+      (m n : ℕ) → m < cardCount book → n < cardCount book →
+      Covers limits (card book m) (card book n) → Covers limits (card book n) (card book m) →
+      (has (value (mostSpecificGiven limits case book work)) m ≡ true)
+      ↔ (has (value (mostSpecificGiven limits case book work)) n ≡ true)
 
 -- 02, U1, "Refusals 2 to 13 shall also carry the row being read (rows completed so far) and the byte where its field
 -- begins, from the picture's first. Every call above the row reader hands them on." So a picture that fails at the

@@ -2,6 +2,7 @@
 --   covers-exactly   the test answers yes exactly if the second picture covers the first
 --   covers-not       and no exactly if it does not
 --   covers-fits      covering by 01's own words, "every individual fitting the first root fits the second", is the same
+--   covers-itself, covers-through   covering is reflexive and transitive, of any bytes
 --   any-interpretation   a positive count and any tables for names and roles are an interpretation: what else the
 --                    record asks, that roles respect their inclusion, asks nothing where inclusion is equality
 --   nothing-cut      a readable picture has no row below the depth limit: its tree, and the rows that 14 counts, are
@@ -42,6 +43,12 @@ module _ (limits : Limits) (first second : List ℕ) (first-readable : Readable 
     λ e c. false≢true (sym e ∙ covers-exactly .0 c),
     λ u. by-test (covers limits second first) (λ e. absurd (u (covers-exactly .1 e))) (λ e. e),
   )
+
+pub covers-itself : (limits : Limits) (s : List ℕ) → Covers limits s s
+covers-itself limits s I x l f = f
+
+pub covers-through : (limits : Limits) (a b c : List ℕ) → Covers limits a b → Covers limits b c → Covers limits a c
+covers-through limits a b c p q I x l f = p I x l (q I x l f)
 
 pub any-interpretation : (count : ℕ) → 0 < count → (holds : ℕ → ℕ → Bool) (edge : ℕ → ℕ → ℕ → Bool) →
     (I : Interpretation pictureSignature) × (I .count ≡ count) × (I .holds ≡ holds) × (I .edge ≡ edge)

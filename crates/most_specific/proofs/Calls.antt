@@ -36,7 +36,8 @@ use Rattle.normal.proofs.Answers.{merged-decides}
 use Rattle.normal.specs.Call.{mergedAsked}
 use Rattle.book.specs.Call.{bookAsked, cardMerged, cardRead, mostSpecificAnswer, mostSpecificAsked, mostSpecificWork, noBook}
 use Rattle.book.specs.Form.{bookForm, card, cardCount}
-use Rattle.book.specs.Selection.{cardCovers, cardWord, caseCovered, mostSpecific, mostSpecificCards, subsumesAnother}
+use Rattle.order.specs.Preorder.{minimal, passedOver, strict}
+use Rattle.book.specs.Selection.{cardCovers, cardWord, caseCovered, mostSpecific, mostSpecificCards}
 use Rattle.book_tables.specs.Tables.{CardsRead, CardsTaken, selectedOn}
 use Rattle.most_specific.specs.Asking.{afterCards, afterCase}
 use Rattle.book_form.specs.Places.{Placed}
@@ -84,21 +85,26 @@ module _ (limits : Limits) (case book : List ℕ) (count covering : ℕ) (counte
   pub covering-inside : (k : ℕ) → has covering k ≡ true → k < count
   covering-inside k h = ltb-true k count (both (ltb k count) (caseCovered limits case book k) (sym (covering-has k) ∙ h) .0)
 
-  same-another : (k : ℕ) → subsumesAnother limits book (has covering) k ≡ subsumesAnother limits book (caseCovered limits case book) k
-  unfolding subsumesAnother
-  same-another k =
-      some-same (λ j. not (eqb j k) && (has covering j && cardCovers limits book k j)) (λ j. not (eqb j k) && (caseCovered limits case book j && cardCovers limits book k j)) (cardCount book) 0
-      (λ j a b. ap (λ (t : Bool). not (eqb j k) && (t && cardCovers limits book k j)) (covering-has j ∙ ap (λ (t : Bool). t && caseCovered limits case book j) (lt-ltb j count (omega (arith, counted)))))
+  abbrev passed : (ℕ → Bool) → ℕ → Bool
+  passed = passedOver (cardCovers limits book) (cardCount book)
 
-  pub selected-word : (r : ℕ) → ((k : ℕ) → has r k ≡ (has covering k && not (subsumesAnother limits book (has covering) k))) → r ≡ mostSpecificCards limits case book
-  unfolding mostSpecificCards mostSpecific
+  same-passed : (k : ℕ) → passed (has covering) k ≡ passed (caseCovered limits case book) k
+  unfolding passedOver
+  same-passed k =
+      some-same (λ j. has covering j && strict (cardCovers limits book) k j)
+      (λ j. caseCovered limits case book j && strict (cardCovers limits book) k j) (cardCount book) 0
+      (λ j a b. ap (λ (t : Bool). t && strict (cardCovers limits book) k j)
+      (covering-has j ∙ ap (λ (t : Bool). t && caseCovered limits case book j) (lt-ltb j count (omega (arith, counted)))))
+
+  pub selected-word : (r : ℕ) → ((k : ℕ) → has r k ≡ (has covering k && not (passed (has covering) k))) → r ≡ mostSpecificCards limits case book
+  unfolding mostSpecificCards mostSpecific minimal
   selected-word r bits =
       word-is (mostSpecific limits case book) r (cardCount book)
       (λ k.
       bits k
-      ∙ ap (λ (t : Bool). has covering k && not t) (same-another k)
-      ∙ ap (λ (t : Bool). t && not (subsumesAnother limits book (caseCovered limits case book) k)) (covering-has k)
-      ∙ and-assoc (ltb k count) (caseCovered limits case book k) (not (subsumesAnother limits book (caseCovered limits case book) k))
+      ∙ ap (λ (t : Bool). has covering k && not t) (same-passed k)
+      ∙ ap (λ (t : Bool). t && not (passed (caseCovered limits case book) k)) (covering-has k)
+      ∙ and-assoc (ltb k count) (caseCovered limits case book k) (not (passed (caseCovered limits case book) k))
       ∙ ap (λ (n : ℕ). ltb k n && mostSpecific limits case book k) counted)
 
 -- ---- what is answered, and what is left in the work space, by what the questions answer

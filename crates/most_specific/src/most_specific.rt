@@ -67,8 +67,8 @@ fn select(case: &[u8], book: &[u8], cards: Cards, limits: Limits, work: &mut [u8
                 book,
                 cards,
                 limits,
-                &cache,
-                &spans,
+                &mut cache,
+                &mut spans,
                 covering,
                 &mut work[..size],
             ))

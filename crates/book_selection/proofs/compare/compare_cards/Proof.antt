@@ -1,51 +1,117 @@
--- At the loop's head the cards below m are compared with all earlier ones.
-use Prim.Native.Nat.{_-_, _≤_}
+-- At the loop's head the cards below m are compared with all earlier ones, and m is the next that covers the case, or
+-- past the last card.
+use Prim.Native.Nat.{_+_, _-_, _<_, _≤_}
 use native.Mathlib.Omega.{arith}
 use denote.Ref.{now}
 use lib.ListN.{length}
-use mathlib.Core.Path.{_∙_, _≡_, subst, sym}
+use mathlib.Core.Bool.{true}
+use mathlib.Core.Path.{_∙_, _≡_, refl, sym}
+use Rattle.table.specs.NameSet.{has}
 use Rattle.workspace.specs.Prepare.{workSize}
+use Rattle.book.specs.Form.{mostCards}
+use Rattle.book_tables.specs.Cache.{Cached}
 use Rattle.book_selection.specs.Comparing.{Compared}
-use Rattle.book_selection.proofs.Comparisons.{none-compared}
+use Rattle.book_selection.proofs.Comparisons.{none-compared, rows-left}
 use Rattle.book_selection.proofs.compare.compare_cards.Statement.{statement}
 use Rattle.book_selection.proofs.compare.compare_cards.Tie as tie
 
 abbrev Inv-loop : tie.InvT-loop
-Inv-loop book cards limits cache spans covering work₀ hidden₀ m₀ work redundant m = (m ≤ cards .count) × ((length work ≡ workSize limits) × Compared limits book covering m redundant)
+Inv-loop book cards limits cache₀ spans₀ covering work₀ progress₀ m₀ cache spans work progress m =
+    ((m < cards .count → has covering m ≡ true)
+    × (Compared limits book covering m (progress .redundant) × Cached limits book cache spans (progress .at)))
+    × ((length cache ≡ length cache₀) × (length work ≡ workSize limits))
 
 abbrev μ-loop : tie.MeasureT-loop
-μ-loop book cards limits cache spans covering work₀ hidden₀ m₀ work redundant m = cards .count - m
+μ-loop book cards limits cache₀ spans₀ covering work₀ progress₀ m₀ cache spans work progress m = cards .count - m
+
+next-card-requires : tie.Need-next-card-requires Inv-loop μ-loop
+next-card-requires c κs = omega arith
+
+most : (c : tie.Start Inv-loop μ-loop) → c .args .cards .count ≤ mostCards
+most c = c .pre .taken .cards-read .places-are .most
 
 loop-holds : tie.Need-loop-holds Inv-loop μ-loop
 loop-holds c =
-    let args = c .before .before .before .args in
-    (omega arith, (c .before .before .before .pre .1 .1, none-compared (args .limits) (now (args .book)) (args .covering)))
+    let start = c .before .before .before .before in
+    let a = start .args in
+    let next = c .next-card in (
+      (
+        λ l. next .ensures .there (omega (arith, l, most start)),
+        (
+          rows-left (a .limits) (now (a .book)) (a .covering) 0 (next .result) 0 (next .ensures .none) (none-compared (a .limits) (now (a .book)) (a .covering)),
+          start .pre .cached,
+        ),
+      ),
+      (refl, start .pre .long),
+    )
 
 compare-card-requires : tie.Need-compare-card-requires Inv-loop μ-loop
 compare-card-requires c κs =
-    let pre = c .before .before .before .before .before .before .before .pre in
-    let loop = c .before .before .before .loop in
-    (pre .0, (pre .1 .0, (c .before .if1 .taken, (loop .inv .1 .1, loop .inv .1 .0))))
+    let pre = c .before .before .before .before .before .before .before .before .before .before .pre in
+    let inv = c .before .before .before .before .before .loop .inv in
+    let less = c .before .before .before .if1 .taken in
+    record {
+      bounded = pre .bounded;
+      taken = pre .taken;
+      cached = inv .0 .1 .1;
+      below = less;
+      covers = inv .0 .0 less;
+      compared = inv .0 .1 .0;
+      long = inv .1 .1;
+    }
 
-add-m : tie.Need-add-m Inv-loop μ-loop
-add-m c = omega (arith, c .before .before .before .before .if1 .taken, c .before .before .before .before .before .before .before .before .before .before .pre .1 .0 .taken .cards-read .places-are .most)
+-- the ways back from the card that was compared
+abbrev entry : (c : tie.After-compare-card Inv-loop μ-loop) → tie.Start Inv-loop μ-loop
+entry c = c .before .before .before .before .before .before .before .before .before .before .before
+
+abbrev head : (c : tie.After-compare-card Inv-loop μ-loop) → tie.At-loop Inv-loop μ-loop
+head c = c .before .before .before .before .before .before
+
+less : (c : tie.After-compare-card Inv-loop μ-loop) → head c .loop .m < entry c .args .cards .count
+less c = c .before .before .before .before .if1 .taken
+
+add-next-card : tie.Need-add-next-card Inv-loop μ-loop
+add-next-card c = let card = c .before .before .before .before in omega (arith, less card, most (entry card))
+
+next-card-requires-2 : tie.Need-next-card-requires-2 Inv-loop μ-loop
+next-card-requires-2 c κs = let card = c .before .before .before .before in omega (arith, less card, most (entry card))
 
 loop-less : tie.Need-loop-less Inv-loop μ-loop
-loop-less c = omega (arith, c .before .before .before .before .if1 .taken)
+loop-less c = omega (arith, c .next-card2 .ensures .later, less (c .before .before .before .before .before))
 
 loop-again : tie.Need-loop-again Inv-loop μ-loop
 loop-again c =
-    let compare-card = c .before .before .compare-card in
-    (omega (arith, c .before .before .before .before .if1 .taken), (compare-card .ensures .1 ∙ c .before .before .before .before .before .before .loop .inv .1 .0, compare-card .ensures .0))
+    let card = c .before .before .before .before .before in
+    let a = entry card .args in
+    let inv = head card .loop .inv in
+    let done = card .compare-card .ensures in
+    let next = c .next-card2 in (
+      (
+        λ l. next .ensures .there (omega (arith, l, most (entry card))),
+        (
+          rows-left (a .limits) (now (a .book)) (a .covering) (head card .loop .m + 1) (next .result) (card .compare-card .result .redundant)
+              (next .ensures .none) (done .0 .0),
+          done .0 .1,
+        ),
+      ),
+      (done .1 .0 ∙ inv .1 .0, done .1 .1 ∙ inv .1 .1),
+    )
 
 same-length : tie.Need-same-length Inv-loop μ-loop
-same-length c = c .before .before .loop .inv .1 .0 ∙ sym (c .before .before .before .before .before .before .pre .1 .1)
+same-length c = c .before .before .loop .inv .1 .0
+
+same-length-2 : tie.Need-same-length-2 Inv-loop μ-loop
+same-length-2 c = c .before .before .loop .inv .1 .1 ∙ sym (c .before .before .before .before .before .before .before .pre .long)
 
 returns : tie.Need-returns Inv-loop μ-loop
 returns c =
-    let args = c .before .before .before .before .before .before .args in
-    let end : c .before .before .loop .m ≡ args .cards .count = omega (arith, c .before .before .loop .inv .0, c .if1 .left) in
-    (subst (λ k. Compared (args .limits) (now (args .book)) (args .covering) k (c .before .before .loop .redundant)) end (c .before .before .loop .inv .1 .1), c .before .before .loop .inv .1 .0 ∙ sym (c .before .before .before .before .before .before .pre .1 .1))
+    let start = c .before .before .before .before .before .before .before in
+    let a = start .args in
+    let l = c .before .before .loop in (
+      rows-left (a .limits) (now (a .book)) (a .covering) (l .m) (a .cards .count) (l .progress .redundant)
+          (λ k p q. absurd (omega (arith, p, q, c .if1 .left))) (l .inv .0 .1 .0),
+      l .inv .1 .1 ∙ sym (start .pre .long),
+    )
 
 pub compare-cards-spec : {M : Type 1} → statement M
 compare-cards-spec =
@@ -53,10 +119,13 @@ compare-cards-spec =
     (tie.spec
     Inv-loop
     μ-loop
+    next-card-requires
     loop-holds
     compare-card-requires
-    add-m
+    add-next-card
+    next-card-requires-2
     loop-less
     loop-again
     same-length
+    same-length-2
     returns)

@@ -1,14 +1,16 @@
 -- What is left of the covering cards are the most specific; the work space is cleared from its first byte to its last.
+use native.Mathlib.Omega.{arith}
 use denote.Ref.{now}
 use mathlib.Core.Path.{_∙_, refl}
 use Rattle.workspace.specs.Prepare.{workSize}
+use Rattle.book.proofs.Selections.{cards-preorder}
 use Rattle.book_selection.proofs.Comparisons.{cleared, selected-bits}
 use borrow.Author.Needs.{needs}
 use Rattle.book_selection.proofs.compare.select_cards.Statement.{statement}
 use Rattle.book_selection.proofs.compare.select_cards.Tie as tie
 
 compare-cards-requires : tie.Need-compare-cards-requires
-compare-cards-requires c κs = search needs
+compare-cards-requires c κs = c .before .before .before .before .before .before .pre
 
 clear-requires : tie.Need-clear-requires
 clear-requires c κs = search needs
@@ -19,16 +21,30 @@ without-requires c κs = search needs
 same-length : tie.Need-same-length
 same-length c = search needs
 
+same-length-2 : tie.Need-same-length-2
+same-length-2 c = search needs
+
 returns : tie.Need-returns
 returns c =
-    let args = c .before .before .before .before .before .before .before .before .before .before .before .before .args in
-    let pre = c .before .before .before .before .before .before .before .before .before .before .before .before .pre in
-    let compare-cards = c .before .before .before .before .before .before .before .compare-cards in
+    let compared = c .before .before .before .before .before .before .before .before .before in
+    let start = compared .before .before .before .before .before .before .before in
+    let a = start .args in
+    let pre = start .pre in
+    let counted = pre .taken .cards-read .places-are .counted in
     let clear = c .before .before .before .clear in (
-      selected-bits (args .limits) (now (args .book)) (args .covering) (args .cards .count) (compare-cards .result) (c .without .result) (pre .1 .1 .0) (compare-cards .ensures .0) (c .without .ensures),
-      cleared _ (clear .last .0) _ (workSize (args .limits)) refl (compare-cards .ensures .1 ∙ pre .1 .1 .1) (clear .ensures),
+      selected-bits (a .limits) (now (a .book)) (a .covering) (a .cards .count) (compared .compare-cards .result) (c .without .result)
+          (cards-preorder (a .limits) (now (a .book)) (λ k l. pre .taken .cards-read .readable k (omega (arith, l, counted))))
+          counted (pre .inside) (compared .compare-cards .ensures .0) (c .without .ensures),
+      cleared _ (clear .last .0) _ (workSize (a .limits)) refl (compared .compare-cards .ensures .1 ∙ pre .long) (clear .ensures),
     )
 
 pub select-cards-spec : {M : Type 1} → statement M
 select-cards-spec =
-    tie.close (tie.spec compare-cards-requires clear-requires without-requires same-length returns)
+    tie.close
+    (tie.spec
+    compare-cards-requires
+    clear-requires
+    without-requires
+    same-length
+    same-length-2
+    returns)

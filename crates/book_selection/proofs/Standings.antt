@@ -1,0 +1,182 @@
+-- Laws of the tables of cards, where they stand.
+--   cached-stands      one that is cached
+--   part-long          the part of the work space that is lent to make one
+--   made-before, made-long   what stands before it stays; and so does the length
+--   made-stands        one that is made in the work space, from a byte on
+--   stands-kept        one in the work space stays where the cache changes
+--   stands-whole       and it is there whole
+--   stands-start       at the start of the work space it is the table that is cached
+--   stands-checkable   it has all that a search needs
+--   low-kept           with its links it stays where another is made in the second half
+--   spots-order        the search on two of them says which card covers the other
+use Prim.Native.Nat.{_+_, _-_, _<_, _≤_, ℕ}
+use borrow.Rule.Slice.PartMut.{midOf, putMid}
+use lib.ListN.{drop, getD, length, length-append, length-drop, take}
+use lib.Seq.{drop-at, length-take-le, take-at, take-take}
+use mathlib.Core.Bool.{Bool, false, true}
+use mathlib.Core.List.{List, _++_}
+use mathlib.Core.Path.{_∙_, _≡_, ap, refl, subst, sym}
+use native.Mathlib.Omega.{arith}
+use Rattle.homomorphism_search.proofs.NormalMaps.{normal-maps}
+use Rattle.homomorphism_search.specs.Search.{LinkedTable, rowMaps}
+use Rattle.meaning.proofs.Normals.{normal-length, normal-reads, normal-size}
+use Rattle.meaning.specs.NormalTable.{mergedCount, normalFile}
+use Rattle.row_sets.proofs.Checks.{readable-checked}
+use Rattle.row_sets.specs.Rows.{Checked}
+use Rattle.table.proofs.Bools.{by-test}
+use Rattle.table.specs.Bounds.{Bounded, maxRows, pictureSize}
+use Rattle.table.specs.Layout.{endSize, «place»}
+use Rattle.table.specs.declared.layout.Limits.{Limits}
+use Rattle.workspace.proofs.Halves.{put-upper, upper-part}
+use Rattle.workspace.specs.Prepare.{workSize}
+use Rattle.book.specs.Form.{card, mostCards}
+use Rattle.book.specs.Selection.{cardCovers}
+use Rattle.book_form.specs.declared.form.Cards.{Cards}
+use Rattle.book_tables.proofs.Caches.{cached-few, tabled-at}
+use Rattle.book_tables.specs.Cache.{Cached, TableAt}
+use Rattle.book_tables.specs.Tables.{CardsTaken}
+use Rattle.book_selection.specs.Comparing.{Ordered}
+use Rattle.book_selection.specs.Standing.{Checkable, Inside, LowTable, Stands, areaOf, tableAt}
+use Rattle.book_selection.specs.declared.compare.Order.{Order}
+use Rattle.book_selection.specs.declared.spot.Spot.{Spot}
+use Rattle.normal_writer.proofs.Tablings.{tabled-there}
+use Rattle.normal_writer.specs.Tables.{Tabled, tableRows}
+
+-- ---- where it is found
+
+pub cached-stands : (limits : Limits) (book cache spans : List ℕ) (at : ℕ) → Bounded limits → Cached limits book cache spans at →
+    (work : List ℕ) (k : ℕ) → k < mostCards → (getD spans (mostCards + k) 0 ≡ 0 → ⊥) →
+    Stands limits book cache work (record { card = k; cached = true; start = getD spans k 0; rows = getD spans (mostCards + k) 0 })
+cached-stands limits book cache spans at bounded so work k l some =
+    let start = getD spans k 0 in
+    let rows = getD spans (mostCards + k) 0 in
+    let there = so .tables k l some in
+    let fits = cached-few limits (card book k) cache start rows at there in
+    record {
+      inside = record { few = omega (arith, fits, bounded .0); ends = omega (arith, there .ends, so .long) };
+      table = there .table;
+    }
+
+pub part-long : (d : List ℕ) (from : ℕ) → length (midOf from (length d - from) d) ≡ length d - from
+part-long d from = ap length (upper-part from d) ∙ length-drop from d
+
+module _ (work : List ℕ) (from : ℕ) (end : List ℕ) (inside : from ≤ length work) where
+  abbrev new : List ℕ
+  new = putMid from (length work - from) work end
+
+  front : length (take from work) ≡ from
+  front = length-take-le from work inside
+
+  from-there : drop from new ≡ end
+  from-there = ap (drop from) (put-upper from work end) ∙ drop-at (take from work) end from front
+
+  pub made-before : take from new ≡ take from work
+  made-before = ap (take from) (put-upper from work end) ∙ take-at (take from work) end from front
+
+  pub made-long : length end ≡ length work - from → length new ≡ length work
+  made-long same = ap length (put-upper from work end) ∙ length-append (take from work) end ∙ omega (arith, front, same, inside)
+
+module _ (limits : Limits) (book cache work : List ℕ) (from k r : ℕ) (end : List ℕ) (bounded : Bounded limits)
+    (few : mergedCount limits (card book k) ≤ limits .rows) (room : from + pictureSize limits ≤ length work)
+    (tabled : Tabled limits (card book k) (midOf from (length work - from) work) r end) where
+  pub made-stands : Stands limits book cache (new work from end (omega (arith, room))) (record { card = k; cached = false; start = from; rows = r })
+  made-stands =
+      let inside : from ≤ length work = omega (arith, room) in
+      let part = part-long work from in
+      let there = tabled-there limits (card book k) (midOf from (length work - from) work) r end bounded tabled few (omega (arith, part, room)) in
+      record {
+        inside = record { few = there .0; ends = omega (arith, there .1, made-long work from end inside (tabled .same ∙ part), tabled .same, part, room) };
+        table = subst (λ d. TableAt limits (card book k) d r) (sym (from-there work from end inside))
+            (tabled-at limits (card book k) (midOf from (length work - from) work) r end tabled few);
+      }
+
+-- ---- where it is
+
+module _ (limits : Limits) (book work : List ℕ) (spot : Spot) where
+  pub stands-kept : (cache cache₂ : List ℕ) → spot .cached ≡ false → Stands limits book cache work spot → Stands limits book cache₂ work spot
+  stands-kept cache cache₂ outside so =
+      let same : areaOf cache work spot ≡ areaOf cache₂ work spot = rw outside in
+      record {
+        inside = record {
+          few = so .inside .few;
+          ends = subst (λ d. spot .start + place (spot .rows) endSize ≤ length d) same (so .inside .ends);
+        };
+        table = subst (λ d. TableAt limits (card book (spot .card)) (drop (spot .start) d) (spot .rows)) same (so .table);
+      }
+
+  pub stands-start : (cache : List ℕ) → spot .cached ≡ false → spot .start ≡ 0 → Stands limits book cache work spot →
+      TableAt limits (card book (spot .card)) work (spot .rows)
+  stands-start cache outside first so =
+      let is : drop (spot .start) (areaOf cache work spot) ≡ work = rw (outside, first) in
+      subst (λ d. TableAt limits (card book (spot .card)) d (spot .rows)) is (so .table)
+
+  pub stands-whole : (cache : List ℕ) → spot .cached ≡ false → Stands limits book cache work spot → place (spot .rows) endSize ≤ length work
+  stands-whole cache outside so =
+      let area : areaOf cache work spot ≡ work = rw outside in omega (arith, ap length area, so .inside .ends)
+
+-- ---- what a search needs of it
+
+module _ {limits : Limits} {book cache work : List ℕ} {spot : Spot} (bounded : Bounded limits)
+    (so : Stands limits book cache work spot) where
+  pub stands-checkable : Checkable cache work spot
+  stands-checkable =
+      let s = card book (spot .card) in
+      let whole = readable-checked limits (normalFile limits s) (tableRows limits s) (normal-reads limits s (so .table .few) bounded) bounded in
+      record {
+        inside = so .inside;
+        checked =
+            subst (λ t. Checked t (spot .rows)) (sym (so .table .is))
+            (subst (λ n. Checked (normalFile limits s) n) (sym (so .table .rows-are)) whole);
+      }
+
+module _ {limits : Limits} {book cache work : List ℕ} {low : Spot} {links : List ℕ}
+    (so : LowTable limits book cache work low links) (work₂ : List ℕ) (half : ℕ) (is : half ≡ pictureSize limits)
+    (same : take half work₂ ≡ take half work) (long : length work₂ ≡ length work) where
+  few : place (low .rows) endSize ≤ pictureSize limits
+  few =
+      let s = card book (low .card) in
+      omega (arith, so .stands .table .rows-are, normal-length limits s, normal-size limits s (so .stands .table .few))
+
+  low-part : (n : ℕ) → n ≤ half →
+      take n (drop (low .start) (areaOf cache work₂ low)) ≡ take n (drop (low .start) (areaOf cache work low))
+  low-part n l =
+      by-test (low .cached) (λ e. rw e)
+      (λ e. rw (e, so .first e) (sym (take-take n half work₂ l) ∙ ap (take n) same ∙ take-take n half work l))
+
+  low-long : length (areaOf cache work₂ low) ≡ length (areaOf cache work low)
+  low-long = by-test (low .cached) (λ e. rw e) (λ e. rw e long)
+
+  pub low-kept : LowTable limits book cache work₂ low links
+  low-kept =
+      let part = low-part (place (low .rows) endSize) (omega (arith, few, is)) in
+      let table = so .stands .table in
+      record {
+        stands = record {
+          inside = record { few = so .stands .inside .few; ends = omega (arith, so .stands .inside .ends, low-long) };
+          table = record { few = table .few; rows-are = table .rows-are; is = part ∙ table .is };
+        };
+        first = so .first;
+        long = long ∙ so .long;
+        linked = subst (λ t. LinkedTable t (low .rows) links) (sym part) (so .linked);
+      }
+
+-- ---- two of them
+
+module _ {limits : Limits} {book : List ℕ} {cards : Cards} (taken : CardsTaken limits book cards) (bounded : Bounded limits)
+    {cache work : List ℕ} {low high : Spot} (l : low .card < cards .count) (h : high .card < cards .count)
+    (a : Stands limits book cache work low) (b : Stands limits book cache work high) where
+  covers-is : (u v : List ℕ) (i j : ℕ) → u ≡ normalFile limits (card book i) → v ≡ normalFile limits (card book j) →
+      i < cards .count → j < cards .count → rowMaps u v (limits .depth) 0 0 ≡ cardCovers limits book j i
+  covers-is u v i j d e p q =
+      ap (λ (x : List ℕ). rowMaps x v (limits .depth) 0 0) d
+      ∙ ap (λ (x : List ℕ). rowMaps (normalFile limits (card book i)) x (limits .depth) 0 0) e
+      ∙ normal-maps limits (card book i) (card book j) bounded (taken .few i p) (taken .few j q)
+
+  pub spots-order : (order : Order) →
+      order .over ≡ rowMaps (tableAt cache work high) (tableAt cache work low) (limits .depth) 0 0 →
+      order .under ≡ rowMaps (tableAt cache work low) (tableAt cache work high) (limits .depth) 0 0 →
+      Ordered limits book (low .card) (high .card) order
+  spots-order order over under = (
+    over ∙ covers-is (tableAt cache work high) (tableAt cache work low) (high .card) (low .card) (b .table .is) (a .table .is) h l,
+    under ∙ covers-is (tableAt cache work low) (tableAt cache work high) (low .card) (high .card) (a .table .is) (b .table .is) l h,
+  )

@@ -1,0 +1,177 @@
+-- At the loop's head the card is compared with the earlier ones below n that are not redundant; n is the next of them,
+-- or past the card.
+use Prim.Native.Nat.{_+_, _-_, _<_, _≤_}
+use native.Mathlib.Omega.{arith}
+use borrow.Author.Needs.{needs}
+use denote.Ref.{now}
+use mathlib.Core.Bool.{false, true}
+use mathlib.Core.Path.{_∙_, _≡_, refl, sym}
+use Rattle.table.specs.NameSet.{has}
+use Rattle.table_rows.proofs.Stores.{blank}
+use Rattle.book.proofs.Selections.{cards-preorder}
+use Rattle.book.specs.Form.{cardCount, mostCards}
+use Rattle.book_selection.specs.Comparing.{ComparedTo, Paired}
+use Rattle.book_selection.specs.Standing.{LowTable}
+use Rattle.book_selection.proofs.Comparisons.{pair-compared, paired, row-ended, row-next, row-stopped}
+use Rattle.book_selection.proofs.Standings.{stands-checkable}
+use Rattle.book_selection.proofs.compare.compare_row.Statement.{statement}
+use Rattle.book_selection.proofs.compare.compare_row.Tie as tie
+
+abbrev Inv-loop : tie.InvT-loop
+Inv-loop book cards limits cache spans covering low redundant work₀ m links word₀ n₀ work word n =
+    ((n < low .card → (has covering n ≡ true) × (has word n ≡ false)) × ComparedTo limits book covering (low .card) n word)
+    × LowTable limits book cache work low links
+
+abbrev μ-loop : tie.MeasureT-loop
+μ-loop book cards limits cache spans covering low redundant work₀ m links word₀ n₀ work word n = low .card - n
+
+link-table-requires : tie.Need-link-table-requires Inv-loop μ-loop
+link-table-requires c κs =
+    let pre = c .before .before .before .before .before .pre in
+    (stands-checkable (pre .bounded) (pre .stands), blank 512 512 refl)
+
+without-requires : tie.Need-without-requires Inv-loop μ-loop
+without-requires c κs = search needs
+
+next-card-requires : tie.Need-next-card-requires Inv-loop μ-loop
+next-card-requires c κs = omega arith
+
+-- a card of the book is one of 32
+small : (c : tie.Start Inv-loop μ-loop) → c .args .low .card < mostCards
+small c = omega (arith, c .pre .below, c .pre .cached .taken .cards-read .places-are .most)
+
+loop-holds : tie.Need-loop-holds Inv-loop μ-loop
+loop-holds c =
+    let start = c .before .before .before .before .before .before .before .before in
+    let a = start .args in
+    let pre = start .pre in (
+      row-next (a .limits) (now (a .book)) (a .covering) (a .low .card) (a .redundant) (c .before .without .result) 0 (c .next-card .result)
+          (c .before .without .ensures) (c .next-card .ensures) (small start) (pre .compared),
+      record {
+        stands = pre .stands;
+        first = pre .first;
+        long = pre .long;
+        linked = c .before .before .link-table .ensures;
+      },
+    )
+
+compare-pair-requires : tie.Need-compare-pair-requires Inv-loop μ-loop
+compare-pair-requires c κs =
+    let start = c .before .before .before .before .before .before .before .before .before .before .before .before in
+    let pre = start .pre in
+    record {
+      bounded = pre .bounded;
+      cached = pre .cached;
+      low-table = c .before .before .before .loop .inv .1;
+      low-below = pre .below;
+      below = omega (arith, c .before .before .loop-test .taken, pre .below);
+    }
+
+-- the ways back from the pair that was compared
+abbrev entry : (c : tie.After-compare-pair Inv-loop μ-loop) → tie.Start Inv-loop μ-loop
+entry c = c .before .before .before .before .before .before .before .before .before .before .before .before .before
+
+abbrev head : (c : tie.After-compare-pair Inv-loop μ-loop) → tie.At-loop Inv-loop μ-loop
+head c = c .before .before .before .before
+
+less : (c : tie.After-compare-pair Inv-loop μ-loop) → head c .loop .n < entry c .args .low .card
+less c = c .before .before .before .loop-test .taken
+
+mark-passed-requires : tie.Need-mark-passed-requires Inv-loop μ-loop
+mark-passed-requires c κs =
+    let pair = c .before .before in
+    (small (entry pair), omega (arith, less pair, small (entry pair)))
+
+-- the two that were compared, as they are marked
+marked : (c : tie.After-mark-passed Inv-loop μ-loop) → let pair = c .before .before .before in let a = entry pair .args in
+    Paired (a .limits) (now (a .book)) (a .low .card) (head pair .loop .n) (head pair .loop .word) (c .mark-passed .result)
+marked c =
+    let pair = c .before .before .before in
+    let a = entry pair .args in
+    let l = head pair .loop in
+    paired (a .limits) (now (a .book)) (a .low .card) (l .n) (l .word) (c .mark-passed .result) (pair .compare-pair .result) (pair .compare-pair .ensures .0)
+    (c .mark-passed .ensures)
+
+inside : (c : tie.Start Inv-loop μ-loop) → c .args .low .card < cardCount (now (c .args .book))
+inside c = omega (arith, c .pre .below, c .pre .cached .taken .cards-read .places-are .counted)
+
+same-length : tie.Need-same-length Inv-loop μ-loop
+same-length c =
+    let pair = c .before .before .before .before in pair .compare-pair .ensures .1 .long ∙ sym (entry pair .pre .long)
+
+returns : tie.Need-returns Inv-loop μ-loop
+returns c =
+    let pair = c .before .before .before .before in
+    let start = entry pair in
+    let a = start .args in
+    let l = head pair .loop in
+    let here = l .inv .0 .0 (less pair) in
+    let counted = start .pre .cached .taken .cards-read .places-are .counted in (
+      row-stopped (a .limits) (now (a .book)) (a .covering) (a .low .card) (l .word) (l .n) (c .before .mark-passed .result) (l .inv .0 .1) (less pair)
+          (inside start) (start .pre .covers) (here .0) (marked (c .before))
+          (cards-preorder (a .limits) (now (a .book)) (λ k m. start .pre .cached .taken .cards-read .readable k (omega (arith, m, counted))))
+          (sym (pair .compare-pair .ensures .0 .0) ∙ c .if1 .taken) (here .1),
+      pair .compare-pair .ensures .1 .long ∙ sym (start .pre .long),
+    )
+
+without-requires-2 : tie.Need-without-requires-2 Inv-loop μ-loop
+without-requires-2 c κs = search needs
+
+add-next-card : tie.Need-add-next-card Inv-loop μ-loop
+add-next-card c = let pair = c .before .before .before .before .before in omega (arith, less pair, small (entry pair))
+
+next-card-requires-2 : tie.Need-next-card-requires-2 Inv-loop μ-loop
+next-card-requires-2 c κs = let pair = c .before .before .before .before .before in omega (arith, less pair, small (entry pair))
+
+loop-less : tie.Need-loop-less Inv-loop μ-loop
+loop-less c = omega (arith, c .next-card2 .ensures .later, less (c .before .before .before .before .before .before))
+
+loop-again : tie.Need-loop-again Inv-loop μ-loop
+loop-again c =
+    let pair = c .before .before .before .before .before .before in
+    let start = entry pair in
+    let a = start .args in
+    let l = head pair .loop in
+    let word = c .before .before .before .mark-passed .result in
+    let here = l .inv .0 .0 (less pair) in (
+      row-next (a .limits) (now (a .book)) (a .covering) (a .low .card) word (c .before .without2 .result) (l .n + 1) (c .next-card2 .result)
+          (c .before .without2 .ensures) (c .next-card2 .ensures) (small start)
+          (pair-compared (a .limits) (now (a .book)) (a .covering) (a .low .card) (l .word) (l .n) word (l .inv .0 .1) (less pair) (inside start)
+          (start .pre .covers) (here .0) (marked (c .before .before .before))),
+      pair .compare-pair .ensures .1,
+    )
+
+same-length-2 : tie.Need-same-length-2 Inv-loop μ-loop
+same-length-2 c =
+    c .before .loop .inv .1 .long ∙ sym (c .before .before .before .before .before .before .before .before .before .before .pre .long)
+
+returns-2 : tie.Need-returns-2 Inv-loop μ-loop
+returns-2 c =
+    let start = c .before .before .before .before .before .before .before .before .before .before in
+    let a = start .args in
+    let l = c .before .loop in (
+      row-ended (a .limits) (now (a .book)) (a .covering) (a .low .card) (l .word) (l .n) (omega (arith, c .loop-test .left)) (l .inv .0 .1),
+      l .inv .1 .long ∙ sym (start .pre .long),
+    )
+
+pub compare-row-spec : {M : Type 1} → statement M
+compare-row-spec =
+    tie.close
+    (tie.spec
+    Inv-loop
+    μ-loop
+    link-table-requires
+    without-requires
+    next-card-requires
+    loop-holds
+    compare-pair-requires
+    mark-passed-requires
+    same-length
+    returns
+    without-requires-2
+    add-next-card
+    next-card-requires-2
+    loop-less
+    loop-again
+    same-length-2
+    returns-2)

@@ -1,0 +1,63 @@
+-- The search on the two tables, each way.
+use denote.Ref.{now}
+use mathlib.Core.List.{List}
+use mathlib.Core.Path.{_∙_, _≡_, ap, refl, subst, sym}
+use Prim.Native.Nat.{ℕ}
+use Rattle.table_rows.proofs.Stores.{blank}
+use Rattle.homomorphism_search.specs.Search.{LinkedTable, rowMaps}
+use Rattle.book_selection.specs.Standing.{tableAt}
+use borrow.Author.Needs.{needs}
+use Rattle.book_selection.proofs.compare.compare_spots.Statement.{statement}
+use Rattle.book_selection.proofs.compare.compare_spots.Tie as tie
+
+same-search : {s t u v : List ℕ} → s ≡ t → u ≡ v → (depth : ℕ) → rowMaps s u depth 0 0 ≡ rowMaps t v depth 0 0
+same-search {s} {t} {u} {v} e f depth = ap (λ (x : List ℕ). rowMaps x u depth 0 0) e ∙ ap (λ (x : List ℕ). rowMaps t x depth 0 0) f
+
+link-table-requires : tie.Need-link-table-requires
+link-table-requires c κs = (c .before .before .before .pre .high-table, blank 512 512 refl)
+
+table-at-requires : tie.Need-table-at-requires
+table-at-requires c κs = c .before .before .before .before .pre .low-inside
+
+table-at-requires-2 : tie.Need-table-at-requires-2
+table-at-requires-2 c κs = c .before .before .before .before .before .pre .high-table .inside
+
+-- both tables, with their links
+low-linked : (c : tie.After-table-at2) → let a = c .before .before .before .before .before .before .args in
+    LinkedTable (now (c .before .table-at .result)) (a .low .rows) (now (a .links))
+low-linked c =
+    let start = c .before .before .before .before .before .before in
+    subst (λ t. LinkedTable t (start .args .low .rows) (now (start .args .links))) (sym (c .before .table-at .ensures)) (start .pre .linked)
+
+high-linked : (c : tie.After-table-at2) → let a = c .before .before .before .before .before .before .args in
+    LinkedTable (now (c .table-at2 .result)) (a .high .rows) (c .before .before .link-table .last .1 .1 .1 .0)
+high-linked c =
+    let a = c .before .before .before .before .before .before .args in
+    subst (λ t. LinkedTable t (a .high .rows) (c .before .before .link-table .last .1 .1 .1 .0)) (sym (c .table-at2 .ensures)) (c .before .before .link-table .ensures)
+
+table-covers-requires : tie.Need-table-covers-requires
+table-covers-requires c κs = (high-linked (c .before), low-linked (c .before))
+
+table-covers-requires-2 : tie.Need-table-covers-requires-2
+table-covers-requires-2 c κs = (low-linked (c .before .before .before), high-linked (c .before .before .before))
+
+returns : tie.Need-returns
+returns c =
+    let both = c .before .before .before .before in
+    let a = both .before .before .before .before .before .before .args in
+    let low : now (both .before .table-at .result) ≡ tableAt (now (a .cache)) (now (a .work)) (a .low) = both .before .table-at .ensures in
+    let high : now (both .table-at2 .result) ≡ tableAt (now (a .cache)) (now (a .work)) (a .high) = both .table-at2 .ensures in (
+      c .before .before .table-covers .ensures ∙ same-search high low (a .depth),
+      c .table-covers2 .ensures ∙ same-search low high (a .depth),
+    )
+
+pub compare-spots-spec : {M : Type 1} → statement M
+compare-spots-spec =
+    tie.close
+    (tie.spec
+    link-table-requires
+    table-at-requires
+    table-at-requires-2
+    table-covers-requires
+    table-covers-requires-2
+    returns)

@@ -1,0 +1,31 @@
+-- The links of the part that is the table.
+use denote.Ref.{now}
+use mathlib.Core.List.{List}
+use mathlib.Core.Path.{subst, sym}
+use Rattle.row_sets.specs.Rows.{Checked}
+use Rattle.homomorphism_search.specs.Search.{LinkedTable}
+use Rattle.table.specs.Bounds.{maxRows}
+use Rattle.table.specs.Fields.{parentOf}
+use Rattle.table_rows.specs.Links.{Linked}
+use borrow.Author.Needs.{needs}
+use Rattle.book_selection.proofs.compare.link_table.Statement.{statement}
+use Rattle.book_selection.proofs.compare.link_table.Tie as tie
+
+table-at-requires : tie.Need-table-at-requires
+table-at-requires c κs = search needs
+
+fill-links-requires : tie.Need-fill-links-requires
+fill-links-requires c κs =
+    let start = c .before .before .before .before in
+    (subst (λ t. Checked t (start .args .spot .rows)) (sym (c .before .table-at .ensures)) (start .pre .0 .checked), start .pre .1)
+
+returns : tie.Need-returns
+returns c =
+    let start = c .before .before .before .before .before in
+    record {
+      checked = start .pre .0 .checked;
+      linked = subst (λ t. Linked (parentOf t) (start .args .spot .rows) maxRows (c .fill-links .last .1 .1 .0)) (c .before .before .table-at .ensures) (c .fill-links .ensures);
+    }
+
+pub link-table-spec : {M : Type 1} → statement M
+link-table-spec = tie.close (tie.spec table-at-requires fill-links-requires returns)

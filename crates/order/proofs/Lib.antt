@@ -1,0 +1,3 @@
+-- The worked case, and the laws.
+pub mod OrderCases
+pub mod Minima
