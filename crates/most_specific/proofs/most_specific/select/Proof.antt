@@ -9,7 +9,7 @@ use mathlib.Core.Path.{_∙_, ap, refl, subst, sym}
 use Rattle.table_rows.proofs.Stores.{blank}
 use Rattle.workspace.specs.Prepare.{workSize}
 use Rattle.book.specs.Selection.{mostSpecificCards}
-use Rattle.book_tables.specs.Cache.{CachedAfter}
+use Rattle.book_tables.specs.Cache.{CachedAfter, tableSize}
 use Rattle.most_specific.specs.Asking.{afterCards}
 use Rattle.most_specific.proofs.Calls.{cleared-part, covering-inside, done, found-all, found-is, found-refused, found-taken, selected-word, stopped}
 use borrow.Author.Needs.{needs}
@@ -22,7 +22,7 @@ slice-aggregate-find-subsumers c = search needs
 find-subsumers-requires : tie.Need-find-subsumers-requires
 find-subsumers-requires c κs =
     let pre = c .before .before .before .before .before .pre in
-    (pre .0, (pre .1 .0, (pre .1 .1 .0, blank 64 64 refl)))
+    record { bounded = pre .0; readable = pre .1 .0; cards-read = pre .1 .1 .0; long = refl; blank = blank 64 64 refl }
 
 enum-known-covering : tie.Need-enum-known-covering
 enum-known-covering c = search needs
@@ -55,7 +55,7 @@ select-cards-requires c κs =
     let cache = subst (λ r. CachedAfter r (args .limits) (now (args .book)) (find-subsumers .last .1 .1 .1 .1 .0) (find-subsumers .last .1 .1 .1 .1 .1 .0)) (covering .given .1) (find-subsumers .ensures .1) in (
       pre .0,
       (
-        record { taken = found-taken (args .limits) (now (args .case)) (now (args .book)) (args .cards) (pre .1 .1 .0) (find-subsumers .result) (find-subsumers .ensures .0) (covering .given .0 .0) (covering .given .1); at = cache .0; cache-is = cache .1 },
+        record { taken = found-taken (args .limits) (now (args .case)) (now (args .book)) (args .cards) (pre .1 .1 .0) (find-subsumers .result) (find-subsumers .ensures .0) (covering .given .0 .0) (covering .given .1); at = tableSize; cache-is = cache },
         (covering-inside (args .limits) (now (args .case)) (now (args .book)) (args .cards .count) (covering .given .0 .0) (pre .1 .1 .0 .places-are .counted) (found-is (args .limits) (now (args .case)) (now (args .book)) (args .cards) (pre .1 .1 .0) (find-subsumers .result) (find-subsumers .ensures .0) (covering .given .0 .0) (covering .given .1)), lent ∙ omega (arith, half-size .ensures)),
       ),
     )
