@@ -1,14 +1,14 @@
 -- Laws of the tables that are kept.
---   tabled-at               a table at the start of a part
---   table-same              one at the start of a part with the same bytes
+--   tabled-at                   a table at the start of a part
+--   table-same                  one at the start of a part with the same bytes
 --   part-tabled, part-checked   one that was made in a part is at the part's start, and has all that a search needs
---   none-cached             none is kept
---   cached-same             those that end before a place stay when only bytes from there on change
---   cached-within           they end before any later place
---   cached-more             one table more, after those that are there
---   cached-stored           one that was put there
---   cached-few              a table that is kept has as many rows as it may
---   cached-tabled           one that is copied is as one that is made
+--   none-cached                 none is kept
+--   cached-same                 those that end before a place stay when only bytes from there on change
+--   cached-within               they end before any later place
+--   cached-more                 one table more, after those that are there
+--   cached-stored               one that was put there
+--   cached-few                  a table that is kept has as many rows as it may
+--   cached-tabled               one that is copied is as one that is made
 use Prim.Native.Nat.{_+_, _-_, _<_, _≤_, ℕ}
 use borrow.Author.Tests.{le-leb}
 use borrow.Rule.Slice.PartMut.{midOf, putMid, take-put as front-put}
@@ -52,7 +52,7 @@ none-cached limits book cache spans blank =
       tables = λ j l some. absurd (some (blank .zeros (mostCards + j)));
     }
 
-pub table-same : {limits : Limits} {s part : List ℕ} {rows : ℕ} → TableAt limits s part rows → (part₂ : List ℕ) →
+table-same : {limits : Limits} {s part : List ℕ} {rows : ℕ} → TableAt limits s part rows → (part₂ : List ℕ) →
     take (place rows endSize) part₂ ≡ take (place rows endSize) part → TableAt limits s part₂ rows
 table-same so part₂ same = record { few = so .few; rows-are = so .rows-are; is = same ∙ so .is }
 
@@ -61,15 +61,18 @@ table-same so part₂ same = record { few = so .few; rows-are = so .rows-are; is
 module _ (limits : Limits) (s tables : List ℕ) (a e r : ℕ) (end : List ℕ) (bounded : Bounded limits)
     (tabled : Tabled limits s (midOf a (e - a) tables) r end) (few : mergedCount limits s ≤ limits .rows)
     (begins : a ≤ length tables) (room : pictureSize limits ≤ length (midOf a (e - a) tables)) where
-  there : take (place r endSize) (drop a (putMid a (e - a) tables end)) ≡ take (place r endSize) end
+  abbrev made : List ℕ
+  made = putMid a (e - a) tables end
+
+  there : take (place r endSize) (drop a made) ≡ take (place r endSize) end
   there =
       part-there tables a (e - a) end (place r endSize) begins
       (omega (arith, tabled-fits limits s (midOf a (e - a) tables) r end bounded tabled few, tabled .same, room))
 
-  pub part-tabled : TableAt limits s (drop a (putMid a (e - a) tables end)) r
-  part-tabled = table-same (tabled-at limits s (midOf a (e - a) tables) r end tabled few) (drop a (putMid a (e - a) tables end)) there
+  pub part-tabled : TableAt limits s (drop a made) r
+  part-tabled = table-same (tabled-at limits s (midOf a (e - a) tables) r end tabled few) (drop a made) there
 
-  pub part-checked : Checked (tableIn (putMid a (e - a) tables end) a r) r
+  pub part-checked : Checked (tableIn made a r) r
   part-checked =
       subst (λ t. Checked t r) (sym there)
       (tabled-checked limits s (midOf a (e - a) tables) r end bounded tabled few (place r endSize) refl)
@@ -147,7 +150,9 @@ module _ (limits : Limits) (book cache spans : List ℕ) (at m k : ℕ) (so : Ca
         long = room;
         spanned = length-set (set spans k at) (mostCards + k) m ∙ length-set spans k at ∙ so .spanned;
         tables = λ j b some. elim (ℕ-discrete j k) [
-          | yes s ↦ subst (λ i. CachedAt limits (card book i) cache (getD new i 0) (getD new (mostCards + i) 0) end) (sym s) last
+          | yes s ↦
+              subst (λ i. CachedAt limits (card book i) cache (getD new i 0) (getD new (mostCards + i) 0) end) (sym s)
+              last
           | no u ↦ earlier j b u some
         ];
       }

@@ -93,9 +93,8 @@ module _ {limits : Limits} {t book : List ℕ} {count n : ℕ} where
       pub test-many : m ≡ 0 → Refused (tooMany (Card k)) ≡ Answer limits t book count
       test-many none =
           let many = none-many limits (card book k) part m made bounded tabled none in
-          sym
-          (rw (to-no (cardMerged limits book) count k (tooMany (Card k)) l (merged-many limits (Card k) (card book k) many)
-          (so .few)))
+          let no = merged-many limits (Card k) (card book k) many in
+          sym (rw (to-no (cardMerged limits book) count k (tooMany (Card k)) l no (so .few)))
 
       abbrev new : List ℕ
       new = putMid at (end - at) tables made
@@ -113,11 +112,16 @@ module _ {limits : Limits} {t book : List ℕ} {count n : ℕ} where
         case-same : tableIn new casePlace n ≡ t
         case-same =
             ap (take (place n endSize))
-            (part-after tables at end made casePlace (omega arith) inside (tabled .same ∙ part-long) (omega (arith, so .early)))
+            (part-after tables at end made casePlace (omega arith) inside (tabled .same ∙ part-long)
+            (omega (arith, so .early)))
             ∙ so .case-is
 
+        begins : at ≤ length tables
+        begins = omega (arith, inside)
+
         table : TableAt limits (card book k) (drop at new) m
-        table = part-tabled limits (card book k) tables at end m made bounded tabled few (omega (arith, inside)) (test-room bounded)
+        table =
+            part-tabled limits (card book k) tables at end m made bounded tabled few begins (test-room bounded)
 
         pub testable : {links : List ℕ} → LinkedTable t n links → Testable new n links at m
         testable {links} linked =
@@ -125,7 +129,8 @@ module _ {limits : Limits} {t book : List ℕ} {count n : ℕ} where
               long = test-long;
               early = so .early;
               linked = subst (λ u. LinkedTable u n links) (sym case-same) linked;
-              checked = part-checked limits (card book k) tables at end m made bounded tabled few (omega (arith, inside)) (test-room bounded);
+              checked =
+                  part-checked limits (card book k) tables at end m made bounded tabled few begins (test-room bounded);
             }
 
         word-room : count ≤ mostCards → subsumers .word + 2 ^ k < 2 ^ mostCards
@@ -144,7 +149,8 @@ module _ {limits : Limits} {t book : List ℕ} {count n : ℕ} where
               spanned = so .cache-is .spanned;
             }
 
-        module _ {says : Bool} (is : says ≡ rowMaps (tableIn new casePlace n) (tableIn new at m) (limits .depth) 0 0) where
+        module _ {says : Bool}
+            (is : says ≡ rowMaps (tableIn new casePlace n) (tableIn new at m) (limits .depth) 0 0) where
           answer : says ≡ coversTable limits t book k
           answer =
               is
@@ -154,20 +160,24 @@ module _ {limits : Limits} {t book : List ℕ} {count n : ℕ} where
           pub test-next : {next : Subsumers} {spans₂ : List ℕ} → Added says m k subsumers spans next spans₂ →
               SubsumersBelow limits t book count n new spans₂ next (k + 1)
           test-next added =
-              let kept = cached-same limits book tables spans at (so .cache-is) new (omega (arith, test-long, so .early))
-              (take-put at (end - at) tables made (omega (arith, inside))) in
+              let kept =
+              cached-same limits book tables spans at (so .cache-is) new (omega (arith, test-long, so .early))
+              (take-put at (end - at) tables made begins) in
               record {
                 long = test-long;
                 case-is = case-same;
                 most = omega arith;
-                few = yes-on (cardMerged limits book) k (merged-decides limits (Card k) (card book k) .yes .1 few) (so .few);
+                few =
+                    yes-on (cardMerged limits book) k (merged-decides limits (Card k) (card book k) .yes .1 few)
+                    (so .few);
                 word-is =
                     added .word-is
                     ∙ ap (λ (b : Bool). subsumers .word + pick b (2 ^ k) 0) answer
                     ∙ ap (λ (i : ℕ). i + pick (coversTable limits t book k) (2 ^ k) 0) (so .word-is)
                     ∙ sym (cardWord-suc (coversTable limits t book) k);
                 early = added .early;
-                cache-is = added .cached limits book new (omega (arith, test-long, fits, bounded .0, so .early)) kept table;
+                cache-is =
+                    added .cached limits book new (omega (arith, test-long, fits, bounded .0, so .early)) kept table;
               }
 
   pub test-all : {tables spans : List ℕ} {subsumers : Subsumers} {k : ℕ} →
@@ -177,60 +187,69 @@ module _ {limits : Limits} {t book : List ℕ} {count n : ℕ} where
       let end : k ≡ count = omega (arith, so .most) in
       let all = to-yes (cardMerged limits book) count k done (so .few) in (
         ap Cards (so .word-is ∙ ap (cardWord (coversTable limits t book)) end) ∙ sym (rw all),
-        cached-within limits book tables spans (subsumers .at) (so .cache-is) tableSize (so .early) (omega (arith, so .long)),
+        cached-within limits book tables spans (subsumers .at) (so .cache-is) tableSize (so .early)
+            (omega (arith, so .long)),
       )
 
 -- ---- the case
 
-module _ (limits : Limits) (case book : List ℕ) (count : ℕ) where
-  abbrev Both : Selected
-  Both = selectedOn (andThen (mergedAsked limits First case) (askedFrom (cardMerged limits book) count 0)) (cardWord (caseCovered limits case book) count)
+abbrev Both : Limits → List ℕ → List ℕ → ℕ → Selected
+Both limits case book count =
+    selectedOn (andThen (mergedAsked limits First case) (askedFrom (cardMerged limits book) count 0))
+    (cardWord (caseCovered limits case book) count)
 
-  by-cards : Bounded limits → mergedCount limits case ≤ limits .rows → (a : Asked) → askedFrom (cardMerged limits book) count 0 ≡ a →
-      selectedOn a (cardWord (coversTable limits (normalFile limits case) book) count) ≡ selectedOn a (cardWord (caseCovered limits case book) count)
-  by-cards bounded few Yes e =
-      ap Cards
-      (cardWord-same (coversTable limits (normalFile limits case) book) (caseCovered limits case book) count
-      (λ k l. normal-maps limits case (card book k) bounded few
-      (merged-decides limits (Card k) (card book k) .yes .0 (yes-to (cardMerged limits book) count e k l))))
-  by-cards bounded few (No r) e = refl
+by-cards : (limits : Limits) (case book : List ℕ) (count : ℕ) → Bounded limits →
+    mergedCount limits case ≤ limits .rows → (a : Asked) → askedFrom (cardMerged limits book) count 0 ≡ a →
+    selectedOn a (cardWord (coversTable limits (normalFile limits case) book) count)
+    ≡ selectedOn a (cardWord (caseCovered limits case book) count)
+by-cards limits case book count bounded few Yes e =
+    ap Cards
+    (cardWord-same (coversTable limits (normalFile limits case) book) (caseCovered limits case book) count
+    (λ k l. normal-maps limits case (card book k) bounded few
+    (merged-decides limits (Card k) (card book k) .yes .0 (yes-to (cardMerged limits book) count e k l))))
+by-cards limits case book count bounded few (No r) e = refl
 
-  module _ (tables : List ℕ) (long : length tables ≡ tablesSize) (bounded : Bounded limits) where
-    abbrev case-part : List ℕ
-    case-part = midOf casePlace (length tables - casePlace) tables
+module _ {limits : Limits} {case : List ℕ} (tables : List ℕ) (long : length tables ≡ tablesSize)
+    (bounded : Bounded limits) {n : ℕ} {made : List ℕ}
+    (tabled : Tabled limits case (midOf casePlace (length tables - casePlace) tables) n made) where
+  abbrev case-part : List ℕ
+  case-part = midOf casePlace (length tables - casePlace) tables
 
-    case-part-long : length case-part ≡ length tables - casePlace
-    case-part-long = mid-len casePlace (length tables) tables (omega arith)
+  abbrev case-new : List ℕ
+  case-new = putMid casePlace (length tables - casePlace) tables made
+
+  pub case-many : (book : List ℕ) (count : ℕ) → n ≡ 0 → Refused (tooMany First) ≡ Both limits case book count
+  unfolding mergedAsked
+  case-many book count none = sym (rw (none-many limits case case-part n made bounded tabled none))
+
+  pub case-long : length case-new ≡ tablesSize
+  case-long = same-len-mid casePlace (length tables - casePlace) tables made (tabled .same) ∙ long
+
+  module _ (some : n ≡ 0 → ⊥) where
+    case-few : mergedCount limits case ≤ limits .rows
+    case-few = some-few limits case case-part n made bounded tabled some
+
+    case-begins : casePlace ≤ length tables
+    case-begins = omega arith
 
     case-room : pictureSize limits ≤ length case-part
-    case-room = omega (arith, case-part-long, bounded .0)
+    case-room = omega (arith, mid-len casePlace (length tables) tables (omega arith), bounded .0)
 
-    module _ {n : ℕ} {made : List ℕ} (tabled : Tabled limits case case-part n made) where
-      pub case-many : n ≡ 0 → Refused (tooMany First) ≡ Both
-      unfolding mergedAsked
-      case-many none = sym (rw (none-many limits case case-part n made bounded tabled none))
+    pub case-checked : Checked (tableIn case-new casePlace n) n
+    case-checked =
+        part-checked limits case tables casePlace (length tables) n made bounded tabled case-few case-begins case-room
 
-      abbrev case-new : List ℕ
-      case-new = putMid casePlace (length tables - casePlace) tables made
+    case-table : TableAt limits case (drop casePlace case-new) n
+    case-table =
+        part-tabled limits case tables casePlace (length tables) n made bounded tabled case-few case-begins case-room
 
-      pub case-long : length case-new ≡ tablesSize
-      case-long = same-len-mid casePlace (length tables - casePlace) tables made (tabled .same) ∙ long
-
-      module _ (some : n ≡ 0 → ⊥) where
-        case-few : mergedCount limits case ≤ limits .rows
-        case-few = some-few limits case case-part n made bounded tabled some
-
-        pub case-checked : Checked (tableIn case-new casePlace n) n
-        case-checked = part-checked limits case tables casePlace (length tables) n made bounded tabled case-few (omega arith) case-room
-
-        case-table : TableAt limits case (drop casePlace case-new) n
-        case-table = part-tabled limits case tables casePlace (length tables) n made bounded tabled case-few (omega arith) case-room
-
-        pub case-tested : {r : Selected} →
-            r ≡ selectedOn (askedFrom (cardMerged limits book) count 0) (cardWord (coversTable limits (tableIn case-new casePlace n) book) count) →
-            r ≡ Both
-        case-tested is =
-            is
-            ∙ ap (λ (u : List ℕ). selectedOn (askedFrom (cardMerged limits book) count 0) (cardWord (coversTable limits u book) count)) (case-table .is)
-            ∙ by-cards bounded case-few (askedFrom (cardMerged limits book) count 0) refl
-            ∙ sym (ap (λ a. selectedOn (andThen a (askedFrom (cardMerged limits book) count 0)) (cardWord (caseCovered limits case book) count)) (merged-decides limits First case .yes .1 case-few))
+    pub case-tested : (book : List ℕ) (count : ℕ) {r : Selected} →
+        r ≡ Answer limits (tableIn case-new casePlace n) book count → r ≡ Both limits case book count
+    case-tested book count is =
+        let cards = askedFrom (cardMerged limits book) count 0 in
+        is
+        ∙ ap (λ (u : List ℕ). Answer limits u book count) (case-table .is)
+        ∙ by-cards limits case book count bounded case-few cards refl
+        ∙ sym
+        (ap (λ a. selectedOn (andThen a cards) (cardWord (caseCovered limits case book) count))
+        (merged-decides limits First case .yes .1 case-few))

@@ -1,5 +1,5 @@
--- The tables that the test of the cards makes, those of covering cards that are kept, and the test of each card. All stand
--- in one run of bytes: from the first byte on those that are kept, within the size of one table, and the case's last.
+-- The test of the cards, and the tables that it makes in one run of bytes: those of covering cards that are kept, from
+-- the first byte on and within the size of one; behind them that of the card that is tested; and the case's, the last.
 -- Nobody has to believe these.
 --   tableSize        as many bytes as the longest table takes
 --   casePlace        where the case's table begins
@@ -15,8 +15,8 @@
 --   Testable         what testing one card needs: its table, and the case's with its links
 --   Addable          there is room for card k's bit and rows
 --   Added            card k's bit is added if it covers the case, and its table is kept if it ends soon enough
---   SubsumersBelow   the cards below k are tested, the word has those that cover the case, the tables are kept where the
---                    spans say, and the case's is there still
+--   SubsumersBelow   the cards below k are tested, the word has those that cover the case, the tables are kept where
+--                    the spans say, and the case's is there still
 --   CachedAfter      the tables once all are tested
 use Prim.Native.Nat.{ℕ, _+_, _^_, _<_, _≤_}
 use lib.ListN.{drop, getD, length, set, take}

@@ -1,6 +1,6 @@
-// Which cards cover the case. 14 is asked of the case and of each card in turn; nothing that the caller of the library
-// lent is written before all are answered yes, so the tables stand in an array of the call's own: the case's at its end,
-// each card's behind those that are kept. That of a covering card is kept if it ends early enough.
+// Which cards cover the case. 14 is asked of the case and of each card in turn; nothing that the call was lent is
+// written before all are answered yes, so the tables stand in an array of its own: the case's at its end, each card's
+// behind those that are kept. That of a covering card is kept if it ends early enough.
 use crate::cache::SPANS;
 use crate::cache::keep_span;
 use crate::cache::table_at;

@@ -52,14 +52,15 @@ returns-3 c =
     let size = c .before .before .before .place in
     let start = c .before .before .before .before .before .before .before in
     let a = start .args in
+    let at = a .subsumers .at in
+    let spans = now (a .spans) in
     record {
       word-is = word-is (c .before .before .before .before .before);
       early = omega (arith, c .before .before .if2 .left);
       cached = λ limits book tables room so table.
-          subst (λ (s : List ℕ). Cached limits book tables s (a .subsumers .at + size .result)) (sym (c .keep-span .ensures))
-          (subst (λ (i : ℕ). Cached limits book tables (withSpan (now (a .spans)) (a .k) (a .subsumers .at) (a .m)) (a .subsumers .at + i))
-          (sym (size .ensures))
-          (cached-more limits book tables (now (a .spans)) (a .subsumers .at) (a .m) (a .k) so (start .pre .below) table room));
+          subst (λ (s : List ℕ). Cached limits book tables s (at + size .result)) (sym (c .keep-span .ensures))
+          (subst (λ (i : ℕ). Cached limits book tables (withSpan spans (a .k) at (a .m)) (at + i)) (sym (size .ensures))
+          (cached-more limits book tables spans at (a .m) (a .k) so (start .pre .below) table room));
     }
 
 pub add-card-spec : {M : Type 1} → statement M

@@ -5,11 +5,11 @@ use borrow.Author.Needs.{needs}
 use borrow.Rule.Slice.PartMut.{putMid}
 use denote.Ref.{now}
 use lib.ListN.{length}
-use mathlib.Core.Path.{refl, subst, sym}
+use mathlib.Core.Path.{_≡_, refl, subst, sym}
 use Rattle.table_rows.proofs.Stores.{blank}
 use Rattle.row_sets.specs.Rows.{Checked}
 use Rattle.homomorphism_search.specs.Search.{LinkedTable}
-use Rattle.book_tables.specs.Cache.{casePlace, tableIn}
+use Rattle.book_tables.specs.Cache.{casePlace, tableIn, tablesSize}
 use Rattle.book_tables.proofs.CardTests.{case-checked, case-long, case-many, case-tested}
 use Rattle.book_tables.proofs.subsumers.find_subsumers.Statement.{statement}
 use Rattle.book_tables.proofs.subsumers.find_subsumers.Tie as tie
@@ -39,57 +39,57 @@ entry c = c .before .before .before .before .before
 returns : tie.Need-returns
 returns c =
     let made = c .before .before .before .before in
-    let start = entry made in
-    let a = start .args in
+    let a = entry made .args in
+    let pre = entry made .pre in
     rw (c .too-many .ensures) (
-      case-many (a .limits) (now (a .case)) (now (a .book)) (a .cards .count) (now (a .tables)) (start .pre .long)
-          (start .pre .bounded) (made .normal-table .ensures) (c .before .if1 .taken),
+      case-many (now (a .tables)) (pre .long) (pre .bounded) (made .normal-table .ensures) (now (a .book))
+          (a .cards .count) (c .before .if1 .taken),
       tt,
     )
 
 -- where a row was given, 14 is answered yes, and the table has all that a search needs
+long : (c : tie.After-normal-table) → let t = now (entry c .args .tables) in
+    length (putMid casePlace (length t - casePlace) t (c .normal-table .last .1 .1 .0)) ≡ tablesSize
+long c =
+    let pre = entry c .pre in
+    case-long (now (entry c .args .tables)) (pre .long) (pre .bounded) (c .normal-table .ensures)
+
 checked : (c : tie.Else1) → let made = c .before .before .before in let t = now (entry made .args .tables) in
     let n = made .normal-table .result in
     Checked (tableIn (putMid casePlace (length t - casePlace) t (made .normal-table .last .1 .1 .0)) casePlace n) n
 checked c =
     let made = c .before .before .before in
-    let start = entry made in
-    let a = start .args in
-    case-checked (a .limits) (now (a .case)) (now (a .book)) (a .cards .count) (now (a .tables)) (start .pre .long)
-    (start .pre .bounded) (made .normal-table .ensures) (c .if1 .left)
+    let pre = entry made .pre in
+    case-checked (now (entry made .args .tables)) (pre .long) (pre .bounded) (made .normal-table .ensures)
+    (c .if1 .left)
 
 table-at-requires : tie.Need-table-at-requires
 table-at-requires c κs =
-    let made = c .before .before .before .before in
-    let start = entry made in
-    let a = start .args in
-    let most = checked (c .before) .most in
-    let long = case-long (a .limits) (now (a .case)) (now (a .book)) (a .cards .count) (now (a .tables)) (start .pre .long)
-    (start .pre .bounded) (made .normal-table .ensures) in
-    (most, omega (arith, most, long))
+    let most = checked (c .before) .most in (most, omega (arith, most, long (c .before .before .before .before)))
 
-cut-checked : (c : tie.After-table-at) → Checked (now (c .table-at .result)) (c .before .before .before .before .before .normal-table .result)
+cut-checked : (c : tie.After-table-at) →
+    Checked (now (c .table-at .result)) (c .before .before .before .before .before .normal-table .result)
 cut-checked c =
-    subst (λ t. Checked t (c .before .before .before .before .before .normal-table .result)) (sym (c .table-at .ensures))
-    (checked (c .before .before))
+    subst (λ t. Checked t (c .before .before .before .before .before .normal-table .result))
+    (sym (c .table-at .ensures)) (checked (c .before .before))
 
 fill-links-requires : tie.Need-fill-links-requires
 fill-links-requires c κs = (cut-checked (c .before), blank 512 512 refl)
 
 test-cards-requires : tie.Need-test-cards-requires
 test-cards-requires c κs =
+    let linked = c .before .before .before .fill-links in
     let cut = c .before .before .before .before .before in
     let made = cut .before .before .before .before .before in
-    let start = entry made in
-    let a = start .args in
+    let pre = entry made .pre in
     record {
-      bounded = start .pre .bounded;
-      cards-read = start .pre .cards-read;
-      long = case-long (a .limits) (now (a .case)) (now (a .book)) (a .cards .count) (now (a .tables)) (start .pre .long)
-          (start .pre .bounded) (made .normal-table .ensures);
-      linked = subst (λ t. LinkedTable t (made .normal-table .result) (c .before .before .before .fill-links .last .1 .1 .0)) (cut .table-at .ensures)
-          (record { checked = cut-checked cut; linked = c .before .before .before .fill-links .ensures });
-      blank = start .pre .blank;
+      bounded = pre .bounded;
+      cards-read = pre .cards-read;
+      long = long made;
+      linked =
+          subst (λ t. LinkedTable t (made .normal-table .result) (linked .last .1 .1 .0)) (cut .table-at .ensures)
+          (record { checked = cut-checked cut; linked = linked .ensures });
+      blank = pre .blank;
     }
 
 same-length-2 : tie.Need-same-length-2
@@ -100,10 +100,10 @@ returns-2 c =
     let tested = c .before .before .test-cards in
     let here = c .before .before .before .before .before .before .before .before .before .before in
     let made = here .before .before .before in
-    let start = entry made in
-    let a = start .args in (
-      case-tested (a .limits) (now (a .case)) (now (a .book)) (a .cards .count) (now (a .tables)) (start .pre .long)
-          (start .pre .bounded) (made .normal-table .ensures) (here .if1 .left) (tested .ensures .0),
+    let a = entry made .args in
+    let pre = entry made .pre in (
+      case-tested (now (a .tables)) (pre .long) (pre .bounded) (made .normal-table .ensures) (here .if1 .left)
+          (now (a .book)) (a .cards .count) (tested .ensures .0),
       tested .ensures .1,
     )
 

@@ -1,5 +1,5 @@
--- At the loop's head the cards below k are tested. The table of card k is made behind those that are kept, and before the
--- case's; where 14 is answered yes, the search on both tables says whether it covers the case.
+-- At the loop's head the cards below k are tested. The table of card k is made behind those that are kept, and before
+-- the case's; where 14 is answered yes, the search on both tables says whether it covers the case.
 use Prim.Native.Nat.{_+_, _-_}
 use native.Mathlib.Omega.{arith}
 use borrow.Author.Needs.{needs}
@@ -10,7 +10,8 @@ use Rattle.normal_writer.specs.Tables.{Tabled}
 use Rattle.book.specs.Form.{card}
 use Rattle.book_tables.specs.Cache.{SubsumersBelow, casePlace, tableIn, tableSize}
 use Rattle.book_tables.proofs.CardTables.{card-room, card-tabled}
-use Rattle.book_tables.proofs.CardTests.{addable, test-all, test-long, test-many, test-next, test-room, test-start, testable}
+use Rattle.book_tables.proofs.CardTests.{addable, testable}
+use Rattle.book_tables.proofs.CardTests.{test-all, test-long, test-many, test-next, test-room, test-start}
 use Rattle.book_tables.proofs.subsumers.test_cards.Statement.{statement}
 use Rattle.book_tables.proofs.subsumers.test_cards.Tie as tie
 
@@ -59,14 +60,16 @@ turn c = c .before .before .before
 -- it is card k's
 tabled : (c : tie.After-normal-table Inv-loop μ-loop) → let a = entry c .args in let l = head c .loop in
     let at = l .subsumers .at in
-    Tabled (a .limits) (card (now (a .book)) (l .k)) (midOf at (at + tableSize - at) (l .tables)) (c .normal-table .result)
-    (c .normal-table .last .1 .1 .0)
+    Tabled (a .limits) (card (now (a .book)) (l .k)) (midOf at (at + tableSize - at) (l .tables))
+    (c .normal-table .result) (c .normal-table .last .1 .1 .0)
 tabled c =
-    card-tabled (entry c .pre .cards-read) (turn c .if1 .taken) (c .before .before .card .ensures) (c .normal-table .ensures)
+    card-tabled (entry c .pre .cards-read) (turn c .if1 .taken) (c .before .before .card .ensures)
+    (c .normal-table .ensures)
 
 cast-t21 : tie.Need-cast-t21 Inv-loop μ-loop
 cast-t21 c =
-    let made = c .before .before .before in omega (arith, turn made .if1 .taken, entry made .pre .cards-read .places-are .most)
+    let made = c .before .before .before in
+    omega (arith, turn made .if1 .taken, entry made .pre .cards-read .places-are .most)
 
 too-many-requires : tie.Need-too-many-requires Inv-loop μ-loop
 too-many-requires c κs = search needs
@@ -80,18 +83,23 @@ same-length c =
 returns : tie.Need-returns Inv-loop μ-loop
 returns c =
     let made = c .before .before .before .before in
-    rw (c .too-many .ensures) (test-many (head made .loop .inv) (turn made .if1 .taken) (entry made .pre .bounded) (tabled made) (c .before .if2 .taken), tt)
+    rw (c .too-many .ensures) (
+      test-many (head made .loop .inv) (turn made .if1 .taken) (entry made .pre .bounded) (tabled made)
+          (c .before .if2 .taken),
+      tt,
+    )
 
 covers-case-requires : tie.Need-covers-case-requires Inv-loop μ-loop
 covers-case-requires c κs =
     let made = c .before .before .before .before in
-    testable (head made .loop .inv) (turn made .if1 .taken) (entry made .pre .bounded) (tabled made) (c .before .if2 .left) (entry made .pre .linked)
+    testable (head made .loop .inv) (turn made .if1 .taken) (entry made .pre .bounded) (tabled made)
+    (c .before .if2 .left) (entry made .pre .linked)
 
 add-card-requires : tie.Need-add-card-requires Inv-loop μ-loop
 add-card-requires c κs =
     let made = c .before .before .before .before .before .before in
-    addable (head made .loop .inv) (turn made .if1 .taken) (entry made .pre .bounded) (tabled made) (c .before .before .before .if2 .left)
-    (entry made .pre .cards-read .places-are .most)
+    addable (head made .loop .inv) (turn made .if1 .taken) (entry made .pre .bounded) (tabled made)
+    (c .before .before .before .if2 .left) (entry made .pre .cards-read .places-are .most)
 
 add-k : tie.Need-add-k Inv-loop μ-loop
 add-k c =
@@ -104,8 +112,8 @@ loop-less c = omega (arith, turn (c .before .before .before .before .before .bef
 loop-again : tie.Need-loop-again Inv-loop μ-loop
 loop-again c =
     let made = c .before .before .before .before .before .before .before in
-    test-next (head made .loop .inv) (turn made .if1 .taken) (entry made .pre .bounded) (tabled made) (c .before .before .before .before .if2 .left)
-    (c .before .before .covers-case .ensures) (c .add-card .ensures)
+    test-next (head made .loop .inv) (turn made .if1 .taken) (entry made .pre .bounded) (tabled made)
+    (c .before .before .before .before .if2 .left) (c .before .before .covers-case .ensures) (c .add-card .ensures)
 
 same-length-2 : tie.Need-same-length-2 Inv-loop μ-loop
 same-length-2 c = c .before .before .loop .inv .long ∙ sym (c .before .before .before .before .before .pre .long)

@@ -55,7 +55,12 @@ select-cards-requires c κs =
     let cache = subst (λ r. CachedAfter r (args .limits) (now (args .book)) (find-subsumers .last .1 .1 .1 .1 .0) (find-subsumers .last .1 .1 .1 .1 .1 .0)) (covering .given .1) (find-subsumers .ensures .1) in (
       pre .0,
       (
-        record { taken = found-taken (args .limits) (now (args .case)) (now (args .book)) (args .cards) (pre .1 .1 .0) (find-subsumers .result) (find-subsumers .ensures .0) (covering .given .0 .0) (covering .given .1); at = tableSize; cache-is = cache },
+        record {
+          taken = found-taken (args .limits) (now (args .case)) (now (args .book)) (args .cards) (pre .1 .1 .0)
+              (find-subsumers .result) (find-subsumers .ensures .0) (covering .given .0 .0) (covering .given .1);
+          at = tableSize;
+          cache-is = cache;
+        },
         (covering-inside (args .limits) (now (args .case)) (now (args .book)) (args .cards .count) (covering .given .0 .0) (pre .1 .1 .0 .places-are .counted) (found-is (args .limits) (now (args .case)) (now (args .book)) (args .cards) (pre .1 .1 .0) (find-subsumers .result) (find-subsumers .ensures .0) (covering .given .0 .0) (covering .given .1)), lent ∙ omega (arith, half-size .ensures)),
       ),
     )
