@@ -3,7 +3,7 @@
 --   part-long          the part of the work space that is lent to make one
 --   made-before, made-long   what stands before it stays; and so does the length
 --   made-stands        one that is made in the work space, from a byte on
---   stands-kept        one in the work space stays where the cache changes
+--   stands-kept        one in the work space stays where the tables changes
 --   stands-whole       and it is there whole
 --   stands-start       at the start of the work space it is the table that is cached
 --   stands-checkable   it has all that a search needs
@@ -44,14 +44,14 @@ use Rattle.normal_writer.specs.Tables.{Tabled, tableRows}
 
 -- ---- where it is found
 
-pub cached-stands : (limits : Limits) (book cache spans : List ℕ) (at : ℕ) → Bounded limits → Cached limits book cache spans at →
+pub cached-stands : (limits : Limits) (book tables spans : List ℕ) (at : ℕ) → Bounded limits → Cached limits book tables spans at →
     (work : List ℕ) (k : ℕ) → k < mostCards → (getD spans (mostCards + k) 0 ≡ 0 → ⊥) →
-    Stands limits book cache work (record { card = k; cached = true; start = getD spans k 0; rows = getD spans (mostCards + k) 0 })
-cached-stands limits book cache spans at bounded so work k l some =
+    Stands limits book tables work (record { card = k; cached = true; start = getD spans k 0; rows = getD spans (mostCards + k) 0 })
+cached-stands limits book tables spans at bounded so work k l some =
     let start = getD spans k 0 in
     let rows = getD spans (mostCards + k) 0 in
     let there = so .tables k l some in
-    let fits = cached-few limits (card book k) cache start rows at there in
+    let fits = cached-few limits (card book k) tables start rows at there in
     record {
       inside = record { few = omega (arith, fits, bounded .0); ends = omega (arith, there .ends, so .long) };
       table = there .table;
@@ -76,10 +76,10 @@ module _ (work : List ℕ) (from : ℕ) (end : List ℕ) (inside : from ≤ leng
   pub made-long : length end ≡ length work - from → length new ≡ length work
   made-long same = ap length (put-upper from work end) ∙ length-append (take from work) end ∙ omega (arith, front, same, inside)
 
-module _ (limits : Limits) (book cache work : List ℕ) (from k r : ℕ) (end : List ℕ) (bounded : Bounded limits)
+module _ (limits : Limits) (book tables work : List ℕ) (from k r : ℕ) (end : List ℕ) (bounded : Bounded limits)
     (few : mergedCount limits (card book k) ≤ limits .rows) (room : from + pictureSize limits ≤ length work)
     (tabled : Tabled limits (card book k) (midOf from (length work - from) work) r end) where
-  pub made-stands : Stands limits book cache (new work from end (omega (arith, room))) (record { card = k; cached = false; start = from; rows = r })
+  pub made-stands : Stands limits book tables (new work from end (omega (arith, room))) (record { card = k; cached = false; start = from; rows = r })
   made-stands =
       let inside : from ≤ length work = omega (arith, room) in
       let part = part-long work from in
@@ -93,9 +93,9 @@ module _ (limits : Limits) (book cache work : List ℕ) (from k r : ℕ) (end : 
 -- ---- where it is
 
 module _ (limits : Limits) (book work : List ℕ) (spot : Spot) where
-  pub stands-kept : (cache cache₂ : List ℕ) → spot .cached ≡ false → Stands limits book cache work spot → Stands limits book cache₂ work spot
-  stands-kept cache cache₂ outside so =
-      let same : areaOf cache work spot ≡ areaOf cache₂ work spot = rw outside in
+  pub stands-kept : (tables tables₂ : List ℕ) → spot .cached ≡ false → Stands limits book tables work spot → Stands limits book tables₂ work spot
+  stands-kept tables tables₂ outside so =
+      let same : areaOf tables work spot ≡ areaOf tables₂ work spot = rw outside in
       record {
         inside = record {
           few = so .inside .few;
@@ -104,21 +104,21 @@ module _ (limits : Limits) (book work : List ℕ) (spot : Spot) where
         table = subst (λ d. TableAt limits (card book (spot .card)) (drop (spot .start) d) (spot .rows)) same (so .table);
       }
 
-  pub stands-start : (cache : List ℕ) → spot .cached ≡ false → spot .start ≡ 0 → Stands limits book cache work spot →
+  pub stands-start : (tables : List ℕ) → spot .cached ≡ false → spot .start ≡ 0 → Stands limits book tables work spot →
       TableAt limits (card book (spot .card)) work (spot .rows)
-  stands-start cache outside first so =
-      let is : drop (spot .start) (areaOf cache work spot) ≡ work = rw (outside, first) in
+  stands-start tables outside first so =
+      let is : drop (spot .start) (areaOf tables work spot) ≡ work = rw (outside, first) in
       subst (λ d. TableAt limits (card book (spot .card)) d (spot .rows)) is (so .table)
 
-  pub stands-whole : (cache : List ℕ) → spot .cached ≡ false → Stands limits book cache work spot → place (spot .rows) endSize ≤ length work
-  stands-whole cache outside so =
-      let area : areaOf cache work spot ≡ work = rw outside in omega (arith, ap length area, so .inside .ends)
+  pub stands-whole : (tables : List ℕ) → spot .cached ≡ false → Stands limits book tables work spot → place (spot .rows) endSize ≤ length work
+  stands-whole tables outside so =
+      let area : areaOf tables work spot ≡ work = rw outside in omega (arith, ap length area, so .inside .ends)
 
 -- ---- what a search needs of it
 
-module _ {limits : Limits} {book cache work : List ℕ} {spot : Spot} (bounded : Bounded limits)
-    (so : Stands limits book cache work spot) where
-  pub stands-checkable : Checkable cache work spot
+module _ {limits : Limits} {book tables work : List ℕ} {spot : Spot} (bounded : Bounded limits)
+    (so : Stands limits book tables work spot) where
+  pub stands-checkable : Checkable tables work spot
   stands-checkable =
       let s = card book (spot .card) in
       let whole = readable-checked limits (normalFile limits s) (tableRows limits s) (normal-reads limits s (so .table .few) bounded) bounded in
@@ -129,8 +129,8 @@ module _ {limits : Limits} {book cache work : List ℕ} {spot : Spot} (bounded :
             (subst (λ n. Checked (normalFile limits s) n) (sym (so .table .rows-are)) whole);
       }
 
-module _ {limits : Limits} {book cache work : List ℕ} {low : Spot} {links : List ℕ}
-    (so : LowTable limits book cache work low links) (work₂ : List ℕ) (half : ℕ) (is : half ≡ pictureSize limits)
+module _ {limits : Limits} {book tables work : List ℕ} {low : Spot} {links : List ℕ}
+    (so : LowTable limits book tables work low links) (work₂ : List ℕ) (half : ℕ) (is : half ≡ pictureSize limits)
     (same : take half work₂ ≡ take half work) (long : length work₂ ≡ length work) where
   few : place (low .rows) endSize ≤ pictureSize limits
   few =
@@ -138,15 +138,15 @@ module _ {limits : Limits} {book cache work : List ℕ} {low : Spot} {links : Li
       omega (arith, so .stands .table .rows-are, normal-length limits s, normal-size limits s (so .stands .table .few))
 
   low-part : (n : ℕ) → n ≤ half →
-      take n (drop (low .start) (areaOf cache work₂ low)) ≡ take n (drop (low .start) (areaOf cache work low))
+      take n (drop (low .start) (areaOf tables work₂ low)) ≡ take n (drop (low .start) (areaOf tables work low))
   low-part n l =
       by-test (low .cached) (λ e. rw e)
       (λ e. rw (e, so .first e) (sym (take-take n half work₂ l) ∙ ap (take n) same ∙ take-take n half work l))
 
-  low-long : length (areaOf cache work₂ low) ≡ length (areaOf cache work low)
+  low-long : length (areaOf tables work₂ low) ≡ length (areaOf tables work low)
   low-long = by-test (low .cached) (λ e. rw e) (λ e. rw e long)
 
-  pub low-kept : LowTable limits book cache work₂ low links
+  pub low-kept : LowTable limits book tables work₂ low links
   low-kept =
       let part = low-part (place (low .rows) endSize) (omega (arith, few, is)) in
       let table = so .stands .table in
@@ -163,8 +163,8 @@ module _ {limits : Limits} {book cache work : List ℕ} {low : Spot} {links : Li
 -- ---- two of them
 
 module _ {limits : Limits} {book : List ℕ} {cards : Cards} (taken : CardsTaken limits book cards) (bounded : Bounded limits)
-    {cache work : List ℕ} {low high : Spot} (l : low .card < cards .count) (h : high .card < cards .count)
-    (a : Stands limits book cache work low) (b : Stands limits book cache work high) where
+    {tables work : List ℕ} {low high : Spot} (l : low .card < cards .count) (h : high .card < cards .count)
+    (a : Stands limits book tables work low) (b : Stands limits book tables work high) where
   covers-is : (u v : List ℕ) (i j : ℕ) → u ≡ normalFile limits (card book i) → v ≡ normalFile limits (card book j) →
       i < cards .count → j < cards .count → rowMaps u v (limits .depth) 0 0 ≡ cardCovers limits book j i
   covers-is u v i j d e p q =
@@ -173,10 +173,10 @@ module _ {limits : Limits} {book : List ℕ} {cards : Cards} (taken : CardsTaken
       ∙ normal-maps limits (card book i) (card book j) bounded (taken .few i p) (taken .few j q)
 
   pub spots-order : (order : Order) →
-      order .over ≡ rowMaps (tableAt cache work high) (tableAt cache work low) (limits .depth) 0 0 →
-      order .under ≡ rowMaps (tableAt cache work low) (tableAt cache work high) (limits .depth) 0 0 →
+      order .over ≡ rowMaps (tableAt tables work high) (tableAt tables work low) (limits .depth) 0 0 →
+      order .under ≡ rowMaps (tableAt tables work low) (tableAt tables work high) (limits .depth) 0 0 →
       Ordered limits book (low .card) (high .card) order
   spots-order order over under = (
-    over ∙ covers-is (tableAt cache work high) (tableAt cache work low) (high .card) (low .card) (b .table .is) (a .table .is) h l,
-    under ∙ covers-is (tableAt cache work low) (tableAt cache work high) (low .card) (high .card) (a .table .is) (b .table .is) l h,
+    over ∙ covers-is (tableAt tables work high) (tableAt tables work low) (high .card) (low .card) (b .table .is) (a .table .is) h l,
+    under ∙ covers-is (tableAt tables work low) (tableAt tables work high) (low .card) (high .card) (a .table .is) (b .table .is) l h,
   )

@@ -12,8 +12,7 @@ use mathlib.Core.Bool.{Bool, false, true}
 use mathlib.Core.List.{List}
 use mathlib.Core.Logic.{_⊎_}
 use mathlib.Core.Path.{_≡_}
-use Rattle.table.specs.Bounds.{Bounded, maxRows}
-use Rattle.table.specs.Layout.{endSize, «place»}
+use Rattle.table.specs.Bounds.{Bounded}
 use Rattle.table.specs.NameSet.{has}
 use Rattle.table.specs.declared.layout.Limits.{Limits}
 use Rattle.workspace.specs.Prepare.{workSize}
@@ -22,7 +21,7 @@ use Rattle.book.specs.Form.{cardCount, mostCards}
 use Rattle.book.specs.Selection.{cardCovers}
 use Rattle.book_form.specs.Places.{WithEach}
 use Rattle.book_form.specs.declared.form.Cards.{Cards}
-use Rattle.book_tables.specs.Cache.{Cached, CardsCached}
+use Rattle.book_tables.specs.Cache.{Cached, CardsCached, tableSize}
 use Rattle.book_tables.specs.Tables.{CardsTaken}
 use Rattle.book_selection.specs.Standing.{LowTable, Stands}
 use Rattle.book_selection.specs.declared.compare.Order.{Order}
@@ -52,35 +51,35 @@ pub record ComparedTo (limits : Limits) (book : List ℕ) (covering m n redundan
 abbrev pub Compared : Limits → List ℕ → ℕ → ℕ → ℕ → Type 0
 Compared limits book covering m redundant = ComparedTo limits book covering m 0 redundant
 
-pub record PairRoom (limits : Limits) (book : List ℕ) (cards : Cards) (cache spans : List ℕ) (low : Spot) (links : List ℕ) (n : ℕ) (work : List ℕ) : Type 0 where
+pub record PairRoom (limits : Limits) (book : List ℕ) (cards : Cards) (tables spans : List ℕ) (low : Spot) (links : List ℕ) (n : ℕ) (work : List ℕ) : Type 0 where
   pub bounded : Bounded limits
-  pub cached : CardsCached limits book cards cache spans
-  pub low-table : LowTable limits book cache work low links
+  pub cached : CardsCached limits book cards tables spans
+  pub low-table : LowTable limits book tables work low links
   pub low-below : low .card < cards .count
   pub below : n < cards .count
 
-pub record RowRoom (limits : Limits) (book : List ℕ) (cards : Cards) (cache spans : List ℕ) (covering : ℕ) (low : Spot) (redundant : ℕ) (work : List ℕ) : Type 0 where
+pub record RowRoom (limits : Limits) (book : List ℕ) (cards : Cards) (tables spans : List ℕ) (covering : ℕ) (low : Spot) (redundant : ℕ) (work : List ℕ) : Type 0 where
   pub bounded : Bounded limits
-  pub cached : CardsCached limits book cards cache spans
-  pub stands : Stands limits book cache work low
+  pub cached : CardsCached limits book cards tables spans
+  pub stands : Stands limits book tables work low
   pub first : low .cached ≡ false → low .start ≡ 0
   pub below : low .card < cards .count
   pub covers : has covering (low .card) ≡ true
   pub compared : Compared limits book covering (low .card) redundant
   pub long : length work ≡ workSize limits
 
-pub record CardRoom (limits : Limits) (book : List ℕ) (cards : Cards) (cache spans : List ℕ) (covering m : ℕ) (progress : Progress) (work : List ℕ) : Type 0 where
+pub record CardRoom (limits : Limits) (book : List ℕ) (cards : Cards) (tables spans : List ℕ) (covering m : ℕ) (progress : Progress) (work : List ℕ) : Type 0 where
   pub bounded : Bounded limits
   pub taken : CardsTaken limits book cards
-  pub cached : Cached limits book cache spans (progress .at)
+  pub cached : Cached limits book tables spans (progress .at)
   pub below : m < cards .count
   pub covers : has covering m ≡ true
   pub compared : Compared limits book covering m (progress .redundant)
   pub long : length work ≡ workSize limits
 
-pub record SelectRoom (limits : Limits) (book : List ℕ) (cards : Cards) (cache spans : List ℕ) (covering : ℕ) (work : List ℕ) : Type 0 where
+pub record SelectRoom (limits : Limits) (book : List ℕ) (cards : Cards) (tables spans : List ℕ) (covering : ℕ) (work : List ℕ) : Type 0 where
   pub bounded : Bounded limits
   pub taken : CardsTaken limits book cards
-  pub cached : Cached limits book cache spans (place maxRows endSize)
+  pub cached : Cached limits book tables spans tableSize
   pub inside : (k : ℕ) → has covering k ≡ true → k < cards .count
   pub long : length work ≡ workSize limits

@@ -1,5 +1,5 @@
 -- Where the tables of cards stand while they are compared. Nobody has to believe these.
---   tableAt     the bytes of the table at a spot, in the cache or in the work space
+--   tableAt     the bytes of the table at a spot, in the tables or in the work space
 --   Inside      a spot lies in its area
 --   Stands      the table there is that of the spot's card
 --   Checkable   the table there has all that a search needs
@@ -8,7 +8,7 @@
 --   Keepable    what caching a table at the start of the work space needs
 --   LowTable    card m's table, with its links; in the work space it stands before the second half
 use Prim.Native.Nat.{ℕ, _+_, _<_, _≤_}
-use lib.ListN.{drop, length, take}
+use lib.ListN.{drop, length}
 use mathlib.Core.Bool.{false}
 use mathlib.Core.List.{List}
 use mathlib.Core.Path.{_≡_}
@@ -21,48 +21,48 @@ use Rattle.homomorphism_search.specs.Search.{LinkedTable}
 use Rattle.workspace.specs.Prepare.{workSize}
 use Rattle.book.specs.Form.{card, mostCards}
 use Rattle.book_form.specs.declared.form.Cards.{Cards}
-use Rattle.book_tables.specs.Cache.{CardsCached, TableAt}
+use Rattle.book_tables.specs.Cache.{CardsCached, TableAt, tableIn}
 use Rattle.book_selection.specs.declared.spot.Spot.{Spot}
 
 abbrev pub areaOf : List ℕ → List ℕ → Spot → List ℕ
-areaOf cache work spot = pick (spot .cached) cache work
+areaOf tables work spot = pick (spot .cached) tables work
 
 abbrev pub tableAt : List ℕ → List ℕ → Spot → List ℕ
-tableAt cache work spot = take (place (spot .rows) endSize) (drop (spot .start) (areaOf cache work spot))
+tableAt tables work spot = tableIn (areaOf tables work spot) (spot .start) (spot .rows)
 
-pub record Inside (cache work : List ℕ) (spot : Spot) : Type 0 where
+pub record Inside (tables work : List ℕ) (spot : Spot) : Type 0 where
   pub few : spot .rows ≤ maxRows
-  pub ends : spot .start + place (spot .rows) endSize ≤ length (areaOf cache work spot)
+  pub ends : spot .start + place (spot .rows) endSize ≤ length (areaOf tables work spot)
 
-pub record Stands (limits : Limits) (book cache work : List ℕ) (spot : Spot) : Type 0 where
-  pub inside : Inside cache work spot
-  pub table : TableAt limits (card book (spot .card)) (drop (spot .start) (areaOf cache work spot)) (spot .rows)
+pub record Stands (limits : Limits) (book tables work : List ℕ) (spot : Spot) : Type 0 where
+  pub inside : Inside tables work spot
+  pub table : TableAt limits (card book (spot .card)) (drop (spot .start) (areaOf tables work spot)) (spot .rows)
 
-pub record Checkable (cache work : List ℕ) (spot : Spot) : Type 0 where
-  pub inside : Inside cache work spot
-  pub checked : Checked (tableAt cache work spot) (spot .rows)
+pub record Checkable (tables work : List ℕ) (spot : Spot) : Type 0 where
+  pub inside : Inside tables work spot
+  pub checked : Checked (tableAt tables work spot) (spot .rows)
 
-pub record Facing (cache work : List ℕ) (low : Spot) (links : List ℕ) (high : Spot) : Type 0 where
-  pub low-inside : Inside cache work low
-  pub linked : LinkedTable (tableAt cache work low) (low .rows) links
-  pub high-table : Checkable cache work high
+pub record Facing (tables work : List ℕ) (low : Spot) (links : List ℕ) (high : Spot) : Type 0 where
+  pub low-inside : Inside tables work low
+  pub linked : LinkedTable (tableAt tables work low) (low .rows) links
+  pub high-table : Checkable tables work high
 
-pub record Placeable (limits : Limits) (book : List ℕ) (cards : Cards) (k : ℕ) (cache spans work : List ℕ) (from : ℕ) : Type 0 where
+pub record Placeable (limits : Limits) (book : List ℕ) (cards : Cards) (k : ℕ) (tables spans work : List ℕ) (from : ℕ) : Type 0 where
   pub bounded : Bounded limits
-  pub cached : CardsCached limits book cards cache spans
+  pub cached : CardsCached limits book cards tables spans
   pub below : k < cards .count
   pub room : from + pictureSize limits ≤ length work
 
-pub record Keepable (work : List ℕ) (spot : Spot) (at : ℕ) (cache spans : List ℕ) : Type 0 where
+pub record Keepable (work : List ℕ) (spot : Spot) (at : ℕ) (tables spans : List ℕ) : Type 0 where
   pub few : spot .rows ≤ maxRows
   pub first : spot .cached ≡ false → spot .start ≡ 0
   pub whole : spot .cached ≡ false → place (spot .rows) endSize ≤ length work
   pub below : spot .card < mostCards
-  pub inside : at ≤ length cache
+  pub inside : at ≤ length tables
   pub spanned : length spans ≡ mostCards + mostCards
 
-pub record LowTable (limits : Limits) (book cache work : List ℕ) (low : Spot) (links : List ℕ) : Type 0 where
-  pub stands : Stands limits book cache work low
+pub record LowTable (limits : Limits) (book tables work : List ℕ) (low : Spot) (links : List ℕ) : Type 0 where
+  pub stands : Stands limits book tables work low
   pub first : low .cached ≡ false → low .start ≡ 0
   pub long : length work ≡ workSize limits
-  pub linked : LinkedTable (tableAt cache work low) (low .rows) links
+  pub linked : LinkedTable (tableAt tables work low) (low .rows) links

@@ -5,13 +5,13 @@
 use crate::spot::Spot;
 use crate::spot::cache_table;
 use crate::spot::find_table;
-use crate::spot::table_at;
+use crate::spot::spot_table;
 use book_form::form::Cards;
 use book_form::word::with_card;
 use book_form::word::without;
-use book_tables::cache::CACHE;
 use book_tables::cache::SPANS;
 use book_tables::covering::table_covers;
+use normal_writer::write::TABLE;
 use prepare_pair::prepare::half_size;
 use row_sets::rows::LINKS;
 use row_sets::rows::fill_links;
@@ -57,31 +57,31 @@ fn next_card(word: u32, from: usize) -> usize
 }
 
 // The links of the table at a spot.
-fn link_table<'a>(cache: &'a [u8], work: &'a [u8], spot: Spot, links: &mut [u8; LINKS])
-    requires { ⌜ (Checkable (now cache) (now work) spot) × (Zeros (maxRows + maxRows) (now links)) ⌝ }
-    ensures { λ _. ⌜ LinkedTable (tableAt (now (cache .entry)) (now (work .entry)) spot) (spot .rows) (now (links .exit)) ⌝ }
+fn link_table<'a>(tables: &'a [u8], work: &'a [u8], spot: Spot, links: &mut [u8; LINKS])
+    requires { ⌜ (Checkable (now tables) (now work) spot) × (Zeros (maxRows + maxRows) (now links)) ⌝ }
+    ensures { λ _. ⌜ LinkedTable (tableAt (now (tables .entry)) (now (work .entry)) spot) (spot .rows) (now (links .exit)) ⌝ }
 {
-    let table = table_at(cache, work, spot);
+    let table = spot_table(tables, work, spot);
     fill_links(table, spot.rows, links);
 }
 
 // The two tables at these spots, of which the first has its links, each with the other.
 fn compare_spots<'a>(
-    cache: &'a [u8],
+    tables: &'a [u8],
     work: &'a [u8],
     low: Spot,
     links: &[u8; LINKS],
     high: Spot,
     depth: usize,
 ) -> Order
-    requires { ⌜ Facing (now cache) (now work) low (now links) high ⌝ }
-    ensures { λ r. ⌜ (r .over ≡ rowMaps (tableAt (now (cache .entry)) (now (work .entry)) high) (tableAt (now (cache .entry)) (now (work .entry)) low) depth 0 0)
-        × (r .under ≡ rowMaps (tableAt (now (cache .entry)) (now (work .entry)) low) (tableAt (now (cache .entry)) (now (work .entry)) high) depth 0 0) ⌝ }
+    requires { ⌜ Facing (now tables) (now work) low (now links) high ⌝ }
+    ensures { λ r. ⌜ (r .over ≡ rowMaps (tableAt (now (tables .entry)) (now (work .entry)) high) (tableAt (now (tables .entry)) (now (work .entry)) low) depth 0 0)
+        × (r .under ≡ rowMaps (tableAt (now (tables .entry)) (now (work .entry)) low) (tableAt (now (tables .entry)) (now (work .entry)) high) depth 0 0) ⌝ }
 {
     let mut others = [0u8; LINKS];
-    link_table(cache, work, high, &mut others);
-    let first = table_at(cache, work, low);
-    let second = table_at(cache, work, high);
+    link_table(tables, work, high, &mut others);
+    let first = spot_table(tables, work, low);
+    let second = spot_table(tables, work, high);
     let a = low.rows;
     let b = high.rows;
     let over = table_covers(second, b, &others, first, a, links, depth);
@@ -94,20 +94,20 @@ fn compare_pair(
     book: &[u8],
     cards: Cards,
     limits: Limits,
-    cache: &[u8],
+    tables: &[u8],
     spans: &[usize; SPANS],
     low: Spot,
     links: &[u8; LINKS],
     n: usize,
     work: &mut [u8],
 ) -> Order
-    requires { ⌜ PairRoom limits (now book) cards (now cache) (now spans) low (now links) n (now work) ⌝ }
+    requires { ⌜ PairRoom limits (now book) cards (now tables) (now spans) low (now links) n (now work) ⌝ }
     ensures { λ r. ⌜ (Ordered limits (now (book .entry)) (low .card) n r)
-        × (LowTable limits (now (book .entry)) (now (cache .entry)) (now (work .exit)) low (now (links .entry))) ⌝ }
+        × (LowTable limits (now (book .entry)) (now (tables .entry)) (now (work .exit)) low (now (links .entry))) ⌝ }
 {
     let half = half_size(limits);
-    let high = find_table(book, cards, n, limits, cache, spans, work, half);
-    compare_spots(cache, work, low, links, high, limits.depth)
+    let high = find_table(book, cards, n, limits, tables, spans, work, half);
+    compare_spots(tables, work, low, links, high, limits.depth)
 }
 
 // The word with the one of cards m and n that covers the other and is not covered by it, if there is one.
@@ -132,24 +132,24 @@ fn compare_row(
     book: &[u8],
     cards: Cards,
     limits: Limits,
-    cache: &[u8],
+    tables: &[u8],
     spans: &[usize; SPANS],
     covering: u32,
     low: Spot,
     redundant: u32,
     work: &mut [u8],
 ) -> u32
-    requires { ⌜ RowRoom limits (now book) cards (now cache) (now spans) covering low redundant (now work) ⌝ }
+    requires { ⌜ RowRoom limits (now book) cards (now tables) (now spans) covering low redundant (now work) ⌝ }
     ensures { λ r. ⌜ (Compared limits (now (book .entry)) covering (low .card + 1) r)
         × (length (now (work .exit)) ≡ length (now (work .entry))) ⌝ }
 {
     let m = low.card;
     let mut links = [0u8; LINKS];
-    link_table(cache, work, low, &mut links);
+    link_table(tables, work, low, &mut links);
     let mut word = redundant;
     let mut n = next_card(without(covering, word), 0);
     while n < m {
-        let order = compare_pair(book, cards, limits, cache, spans, low, &links, n, work);
+        let order = compare_pair(book, cards, limits, tables, spans, low, &links, n, work);
         word = mark_passed(word, m, n, order);
         if order.over {
             return word;
@@ -164,25 +164,25 @@ fn compare_card(
     book: &[u8],
     cards: Cards,
     limits: Limits,
-    cache: &mut [u8],
+    tables: &mut [u8],
     spans: &mut [usize; SPANS],
     covering: u32,
     m: usize,
     progress: Progress,
     work: &mut [u8],
 ) -> Progress
-    requires { ⌜ CardRoom limits (now book) cards (now cache) (now spans) covering m progress (now work) ⌝ }
+    requires { ⌜ CardRoom limits (now book) cards (now tables) (now spans) covering m progress (now work) ⌝ }
     ensures { λ r. ⌜ ((Compared limits (now (book .entry)) covering (m + 1) (r .redundant))
-        × (Cached limits (now (book .entry)) (now (cache .exit)) (now (spans .exit)) (r .at)))
-        × ((length (now (cache .exit)) ≡ length (now (cache .entry))) × (length (now (work .exit)) ≡ length (now (work .entry)))) ⌝ }
+        × (Cached limits (now (book .entry)) (now (tables .exit)) (now (spans .exit)) (r .at)))
+        × ((length (now (tables .exit)) ≡ length (now (tables .entry))) × (length (now (work .exit)) ≡ length (now (work .entry)))) ⌝ }
 {
-    let low = find_table(book, cards, m, limits, cache, spans, work, 0);
-    let at = cache_table(work, low, progress.at, cache, spans);
+    let low = find_table(book, cards, m, limits, tables, spans, work, 0);
+    let at = cache_table(work, low, progress.at, tables, spans);
     let redundant = compare_row(
         book,
         cards,
         limits,
-        cache,
+        tables,
         spans,
         covering,
         low,
@@ -197,17 +197,17 @@ fn compare_cards(
     book: &[u8],
     cards: Cards,
     limits: Limits,
-    cache: &mut [u8],
+    tables: &mut [u8],
     spans: &mut [usize; SPANS],
     covering: u32,
     work: &mut [u8],
 ) -> u32
-    requires { ⌜ SelectRoom limits (now book) cards (now cache) (now spans) covering (now work) ⌝ }
+    requires { ⌜ SelectRoom limits (now book) cards (now tables) (now spans) covering (now work) ⌝ }
     ensures { λ r. ⌜ (Compared limits (now (book .entry)) covering (cards .count) r) × (length (now (work .exit)) ≡ length (now (work .entry))) ⌝ }
 {
     let mut progress = Progress {
         redundant: 0,
-        at: CACHE,
+        at: TABLE,
     };
     let mut m = next_card(covering, 0);
     while m < cards.count {
@@ -215,7 +215,7 @@ fn compare_cards(
             book,
             cards,
             limits,
-            cache,
+            tables,
             spans,
             covering,
             m,
@@ -232,16 +232,16 @@ pub fn select_cards(
     book: &[u8],
     cards: Cards,
     limits: Limits,
-    cache: &mut [u8],
+    tables: &mut [u8],
     spans: &mut [usize; SPANS],
     covering: u32,
     work: &mut [u8],
 ) -> u32
-    requires { ⌜ SelectRoom limits (now book) cards (now cache) (now spans) covering (now work) ⌝ }
+    requires { ⌜ SelectRoom limits (now book) cards (now tables) (now spans) covering (now work) ⌝ }
     ensures { λ r. ⌜ ((k : ℕ) → has r k ≡ (has covering k && not (passedOver (cardCovers limits (now (book .entry))) (cardCount (now (book .entry))) (has covering) k)))
         × (now (work .exit) ≡ zeros (workSize limits)) ⌝ }
 {
-    let redundant = compare_cards(book, cards, limits, cache, spans, covering, work);
+    let redundant = compare_cards(book, cards, limits, tables, spans, covering, work);
     clear(work, 0, work.len());
     without(covering, redundant)
 }

@@ -1,14 +1,13 @@
-// Where the table of a card stands while cards are compared: in the cache, or in the work space, where it is made if
-// the cache has had no room for it.
+// Where the table of a card stands while cards are compared: in the tables, or in the work space, where it is made if
+// the tables has had no room for it.
 use book_form::form::Cards;
 use book_form::form::MAX_CARDS;
 use book_form::form::card;
 use book_tables::cache::SPANS;
 use book_tables::cache::store;
+use book_tables::cache::table_at;
 use normal_writer::write::normal_table;
-use table::layout::END_SIZE;
 use table::layout::Limits;
-use table::layout::place;
 ghost use mathlib.Core.List.{List};
 ghost use mathlib.Core.Path.{_≡_};
 ghost use mathlib.Core.Bool.{false};
@@ -25,16 +24,14 @@ pub struct Spot {
 }
 
 // The table there.
-pub fn table_at<'a>(cache: &'a [u8], work: &'a [u8], spot: Spot) -> &'a [u8]
-    requires { ⌜ Inside (now cache) (now work) spot ⌝ }
-    ensures { λ r. ⌜ now r ≡ tableAt (now (cache .entry)) (now (work .entry)) spot ⌝ }
+pub fn spot_table<'a>(tables: &'a [u8], work: &'a [u8], spot: Spot) -> &'a [u8]
+    requires { ⌜ Inside (now tables) (now work) spot ⌝ }
+    ensures { λ r. ⌜ now r ≡ tableAt (now (tables .entry)) (now (work .entry)) spot ⌝ }
 {
-    let start = spot.start;
-    let end = start + place(spot.rows, END_SIZE);
     if spot.cached {
-        return &cache[start..end];
+        return table_at(tables, spot.start, spot.rows);
     }
-    &work[start..end]
+    table_at(work, spot.start, spot.rows)
 }
 
 // Where card k's table stands; if it is not cached it is made in the work space, from a byte on.
@@ -43,13 +40,13 @@ pub fn find_table(
     cards: Cards,
     k: usize,
     limits: Limits,
-    cache: &[u8],
+    tables: &[u8],
     spans: &[usize; SPANS],
     work: &mut [u8],
     from: usize,
 ) -> Spot
-    requires { ⌜ Placeable limits (now book) cards k (now cache) (now spans) (now work) from ⌝ }
-    ensures { λ r. ⌜ ((Stands limits (now (book .entry)) (now (cache .entry)) (now (work .exit)) r) × (r .card ≡ k) × (r .cached ≡ false → r .start ≡ from))
+    requires { ⌜ Placeable limits (now book) cards k (now tables) (now spans) (now work) from ⌝ }
+    ensures { λ r. ⌜ ((Stands limits (now (book .entry)) (now (tables .entry)) (now (work .exit)) r) × (r .card ≡ k) × (r .cached ≡ false → r .start ≡ from))
         × ((take from (now (work .exit)) ≡ take from (now (work .entry))) × (length (now (work .exit)) ≡ length (now (work .entry)))) ⌝ }
 {
     let rows = spans[MAX_CARDS + k];
@@ -76,18 +73,18 @@ pub fn cache_table(
     work: &[u8],
     spot: Spot,
     at: usize,
-    cache: &mut [u8],
+    tables: &mut [u8],
     spans: &mut [usize; SPANS],
 ) -> usize
-    requires { ⌜ Keepable (now work) spot at (now cache) (now spans) ⌝ }
-    ensures { λ r. ⌜ ((limits : Limits) (book : List ℕ) → Cached limits book (now (cache .entry)) (now (spans .entry)) at →
-        Stands limits book (now (cache .entry)) (now (work .entry)) spot →
-        (Cached limits book (now (cache .exit)) (now (spans .exit)) r)
-        × (Stands limits book (now (cache .exit)) (now (work .entry)) spot))
-        × (length (now (cache .exit)) ≡ length (now (cache .entry))) ⌝ }
+    requires { ⌜ Keepable (now work) spot at (now tables) (now spans) ⌝ }
+    ensures { λ r. ⌜ ((limits : Limits) (book : List ℕ) → Cached limits book (now (tables .entry)) (now (spans .entry)) at →
+        Stands limits book (now (tables .entry)) (now (work .entry)) spot →
+        (Cached limits book (now (tables .exit)) (now (spans .exit)) r)
+        × (Stands limits book (now (tables .exit)) (now (work .entry)) spot))
+        × (length (now (tables .exit)) ≡ length (now (tables .entry))) ⌝ }
 {
     if spot.cached {
         return at;
     }
-    store(work, spot.rows, spot.card, at, cache, spans)
+    store(work, spot.rows, spot.card, at, tables, spans)
 }

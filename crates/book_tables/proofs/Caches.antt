@@ -1,31 +1,40 @@
--- Laws of the cache of tables.
---   tabled-at       a table at the start of a part
---   none-cached     an empty cache
---   cached-more     one table more, after those that are there
---   cached-few      a table that is cached has as many rows as it may
---   cached-tabled   one that is copied is as one that is made
+-- Laws of the tables that are kept.
+--   tabled-at                   a table at the start of a part
+--   table-same                  one at the start of a part with the same bytes
+--   part-tabled, part-checked   one that was made in a part is at the part's start, and has all that a search needs
+--   none-cached                 none is kept
+--   cached-same                 those that end before a place stay when only bytes from there on change
+--   cached-within               they end before any later place
+--   cached-more                 one table more, after those that are there
+--   cached-stored               one that was put there
+--   cached-few                  a table that is kept has as many rows as it may
+--   cached-tabled               one that is copied is as one that is made
 use Prim.Native.Nat.{_+_, _-_, _<_, _≤_, ℕ}
 use borrow.Author.Tests.{le-leb}
-use lib.ListN.{drop, getD, length, length-drop, length-set, set, take, take-append-drop}
-use lib.Seq.{drop-append-le, drop-at, getD-set-other, getD-set-same, length-take-le, take-append-le, take-at}
+use borrow.Rule.Slice.PartMut.{midOf, putMid, take-put as front-put}
+use lib.ListN.{drop, getD, length, length-set, set, take}
+use lib.Seq.{getD-set-other, getD-set-same, length-take-le, take-all}
 use mathlib.Core.Bool.{Bool}
-use mathlib.Core.List.{List, _++_, append-assoc}
-use mathlib.Core.Path.{_∙_, _≡_, ap, subst, sym}
+use mathlib.Core.List.{List}
+use mathlib.Core.Path.{_∙_, _≡_, ap, refl, subst, sym}
 use native.Mathlib.Decide.{ℕ-discrete}
 use native.Mathlib.Omega.{arith}
 use Rattle.meaning.proofs.Normals.{normal-length, normal-size}
 use Rattle.meaning.specs.NormalTable.{mergedCount, normalFile}
+use Rattle.row_sets.specs.Rows.{Checked}
 use Rattle.normal_writer.proofs.Prefixes.{take-put}
+use Rattle.normal_writer.proofs.Tablings.{tabled-checked, tabled-fits}
 use Rattle.normal_writer.specs.Tables.{Tabled, tableRows}
 use Rattle.table.proofs.Puts.{length-put}
-use Rattle.table.specs.Bounds.{pictureSize}
+use Rattle.table.specs.Bounds.{Bounded, pictureSize}
 use Rattle.table.specs.Layout.{endSize, «place»}
 use Rattle.table_rows.specs.Links.{Zeros}
 use Rattle.table.specs.Pick.{pick}
 use Rattle.table.specs.Put.{put}
 use Rattle.table.specs.declared.layout.Limits.{Limits}
 use Rattle.book.specs.Form.{card, mostCards}
-use Rattle.book_tables.specs.Cache.{Cached, CachedAt, TableAt}
+use Rattle.book_tables.specs.Cache.{Cached, CachedAt, TableAt, tableIn, withSpan}
+use Rattle.book_tables.proofs.Parts.{front-same, part-there, put-part}
 
 pub tabled-at : (limits : Limits) (s out : List ℕ) (r : ℕ) (end : List ℕ) → Tabled limits s out r end → mergedCount limits s ≤ limits .rows → TableAt limits s end r
 tabled-at limits s out r end tabled few =
@@ -43,93 +52,146 @@ none-cached limits book cache spans blank =
       tables = λ j l some. absurd (some (blank .zeros (mostCards + j)));
     }
 
--- bytes before a place stay when others are put there
-before : (d part : List ℕ) (at start n : ℕ) → at ≤ length d → start + n ≤ at → take n (drop start (put d at part)) ≡ take n (drop start d)
-unfolding put
-before d part at start n inside l =
-    let split : put d at part ≡ take at d ++ (part ++ drop (at + length part) d) = append-assoc (take at d) part (drop (at + length part) d) in
-    let front = length-take-le at d inside in
-    let rest = length-drop start (take at d) in
-    ap (λ (l : List ℕ). take n (drop start l)) split
-    ∙ ap (take n) (drop-append-le start (take at d) (part ++ drop (at + length part) d) (omega (arith, front)))
-    ∙ take-append-le n (drop start (take at d)) (part ++ drop (at + length part) d) (omega (arith, front, rest))
-    ∙ sym
-    (ap (λ (l : List ℕ). take n (drop start l)) (sym (take-append-drop at d))
-    ∙ ap (take n) (drop-append-le start (take at d) (drop at d) (omega (arith, front)))
-    ∙ take-append-le n (drop start (take at d)) (drop at d) (omega (arith, front, rest)))
+table-same : {limits : Limits} {s part : List ℕ} {rows : ℕ} → TableAt limits s part rows → (part₂ : List ℕ) →
+    take (place rows endSize) part₂ ≡ take (place rows endSize) part → TableAt limits s part₂ rows
+table-same so part₂ same = record { few = so .few; rows-are = so .rows-are; is = same ∙ so .is }
 
--- the bytes that are put
-there : (d part : List ℕ) (at n : ℕ) → at ≤ length d → n ≡ length part → take n (drop at (put d at part)) ≡ part
-unfolding put
-there d part at n inside e =
-    ap (λ (l : List ℕ). take n (drop at l)) (append-assoc (take at d) part (drop (at + length part) d))
-    ∙ ap (take n) (drop-at (take at d) (part ++ drop (at + length part) d) at (length-take-le at d inside))
-    ∙ take-at part (drop (at + length part) d) n (sym e)
+-- ---- a table that was made in the part from a on, before e
 
-module _ (limits : Limits) (book cache spans : List ℕ) (at : ℕ) (so : Cached limits book cache spans at) (scratch : List ℕ) (m k n : ℕ) (cache₂ : List ℕ) (l : k < mostCards) (table : TableAt limits (card book k) scratch m) (e : n ≡ place m endSize) (inside : n ≤ length scratch) (room : at + n ≤ length cache) (written : cache₂ ≡ put cache at (take n scratch)) where
+module _ (limits : Limits) (s tables : List ℕ) (a e r : ℕ) (end : List ℕ) (bounded : Bounded limits)
+    (tabled : Tabled limits s (midOf a (e - a) tables) r end) (few : mergedCount limits s ≤ limits .rows)
+    (begins : a ≤ length tables) (room : pictureSize limits ≤ length (midOf a (e - a) tables)) where
+  abbrev made : List ℕ
+  made = putMid a (e - a) tables end
+
+  there : take (place r endSize) (drop a made) ≡ take (place r endSize) end
+  there =
+      part-there tables a (e - a) end (place r endSize) begins
+      (omega (arith, tabled-fits limits s (midOf a (e - a) tables) r end bounded tabled few, tabled .same, room))
+
+  pub part-tabled : TableAt limits s (drop a made) r
+  part-tabled = table-same (tabled-at limits s (midOf a (e - a) tables) r end tabled few) (drop a made) there
+
+  pub part-checked : Checked (tableIn made a r) r
+  part-checked =
+      subst (λ t. Checked t r) (sym there)
+      (tabled-checked limits s (midOf a (e - a) tables) r end bounded tabled few (place r endSize) refl)
+
+-- ---- those that are kept
+
+module _ (limits : Limits) (book cache spans : List ℕ) (at : ℕ) (so : Cached limits book cache spans at) where
+  pub cached-same : (cache₂ : List ℕ) → at ≤ length cache₂ → take at cache₂ ≡ take at cache →
+      Cached limits book cache₂ spans at
+  cached-same cache₂ inside same =
+      record {
+        long = inside;
+        spanned = so .spanned;
+        tables = λ j b some.
+            let old = so .tables j b some in
+            let start : ℕ = getD spans j 0 in
+            let n : ℕ = place (getD spans (mostCards + j) 0) endSize in
+            record {
+              ends = old .ends;
+              table = table-same (old .table) (drop start cache₂)
+                  (front-same cache cache₂ at start n (so .long) inside same (old .ends));
+            };
+      }
+
+  pub cached-within : (end : ℕ) → at ≤ end → end ≤ length cache → Cached limits book cache spans end
+  cached-within end later inside =
+      record {
+        long = inside;
+        spanned = so .spanned;
+        tables = λ j b some.
+            let old = so .tables j b some in record { ends = omega (arith, old .ends); table = old .table };
+      }
+
+module _ (limits : Limits) (book cache spans : List ℕ) (at m k : ℕ) (so : Cached limits book cache spans at)
+    (l : k < mostCards) (table : TableAt limits (card book k) (drop at cache) m)
+    (room : at + place m endSize ≤ length cache) where
   abbrev new : List ℕ
-  new = set (set spans k at) (mostCards + k) m
+  new = withSpan spans k at m
 
-  part-long : length (take n scratch) ≡ n
-  part-long = length-take-le n scratch inside
+  abbrev end : ℕ
+  end = at + place m endSize
 
   -- what is true of a span holds of the new spans where they say the same
-  spanned-same : (j start rows : ℕ) → getD new j 0 ≡ start → getD new (mostCards + j) 0 ≡ rows → CachedAt limits (card book j) cache₂ start rows (at + n) →
-      CachedAt limits (card book j) cache₂ (getD new j 0) (getD new (mostCards + j) 0) (at + n)
+  spanned-same : (j start rows : ℕ) → getD new j 0 ≡ start → getD new (mostCards + j) 0 ≡ rows →
+      CachedAt limits (card book j) cache start rows end →
+      CachedAt limits (card book j) cache (getD new j 0) (getD new (mostCards + j) 0) end
   spanned-same j start rows same-start same-rows there-is =
-      subst (λ r. CachedAt limits (card book j) cache₂ (getD new j 0) r (at + n)) (sym same-rows)
-      (subst (λ a. CachedAt limits (card book j) cache₂ a rows (at + n)) (sym same-start) there-is)
+      subst (λ r. CachedAt limits (card book j) cache (getD new j 0) r end) (sym same-rows)
+      (subst (λ a. CachedAt limits (card book j) cache a rows end) (sym same-start) there-is)
 
-  last : CachedAt limits (card book k) cache₂ (getD new k 0) (getD new (mostCards + k) 0) (at + n)
+  last : CachedAt limits (card book k) cache (getD new k 0) (getD new (mostCards + k) 0) end
   last =
       spanned-same k at m
-      (getD-set-other (set spans k at) (mostCards + k) k m 0 (λ z. omega (arith, z)) ∙ getD-set-same spans k at 0 (omega (arith, so .spanned)))
+      (getD-set-other (set spans k at) (mostCards + k) k m 0 (λ z. omega (arith, z))
+      ∙ getD-set-same spans k at 0 (omega (arith, so .spanned)))
       (getD-set-same (set spans k at) (mostCards + k) m 0 (omega (arith, length-set spans k at, so .spanned)))
-      (record {
-        ends = omega (arith, e);
-        table = record {
-          few = table .few;
-          rows-are = table .rows-are;
-          is =
-              ap (λ (d : List ℕ). take (place m endSize) (drop at d)) written
-              ∙ there cache (take n scratch) at (place m endSize) (so .long) (sym e ∙ sym part-long)
-              ∙ ap (λ (i : ℕ). take i scratch) e
-              ∙ table .is;
-        };
-      })
+      (record { ends = omega arith; table = table })
 
   same-rows : (j : ℕ) → (j ≡ k → ⊥) → j < mostCards → getD new (mostCards + j) 0 ≡ getD spans (mostCards + j) 0
   same-rows j u b =
       getD-set-other (set spans k at) (mostCards + k) (mostCards + j) m 0 (λ z. u (omega (arith, z)))
       ∙ getD-set-other spans k (mostCards + j) at 0 (λ z. omega (arith, z))
 
-  earlier : (j : ℕ) → j < mostCards → (j ≡ k → ⊥) → (getD new (mostCards + j) 0 ≡ 0 → ⊥) → CachedAt limits (card book j) cache₂ (getD new j 0) (getD new (mostCards + j) 0) (at + n)
+  earlier : (j : ℕ) → j < mostCards → (j ≡ k → ⊥) → (getD new (mostCards + j) 0 ≡ 0 → ⊥) →
+      CachedAt limits (card book j) cache (getD new j 0) (getD new (mostCards + j) 0) end
   earlier j b u some =
-      let old = so .tables j b (λ z. some (same-rows j u b ∙ z)) in
+      let wider = cached-within limits book cache spans at so end (omega arith) room in
       spanned-same j (getD spans j 0) (getD spans (mostCards + j) 0)
-      (getD-set-other (set spans k at) (mostCards + k) j m 0 (λ z. omega (arith, z)) ∙ getD-set-other spans k j at 0 u) (same-rows j u b)
-      (record {
-        ends = omega (arith, old .ends);
-        table = record {
-          few = old .table .few;
-          rows-are = old .table .rows-are;
-          is =
-              ap (λ (d : List ℕ). take (place (getD spans (mostCards + j) 0) endSize) (drop (getD spans j 0) d)) written
-              ∙ before cache (take n scratch) at (getD spans j 0) (place (getD spans (mostCards + j) 0) endSize) (so .long) (old .ends)
-              ∙ old .table .is;
-        };
-      })
+      (getD-set-other (set spans k at) (mostCards + k) j m 0 (λ z. omega (arith, z)) ∙ getD-set-other spans k j at 0 u)
+      (same-rows j u b) (wider .tables j b (λ z. some (same-rows j u b ∙ z)))
 
-  pub cached-more : Cached limits book cache₂ new (at + n)
+  pub cached-more : Cached limits book cache new end
   cached-more =
       record {
-        long = omega (arith, ap length written, length-put cache at (take n scratch) (omega (arith, part-long, room)), room);
+        long = room;
         spanned = length-set (set spans k at) (mostCards + k) m ∙ length-set spans k at ∙ so .spanned;
         tables = λ j b some. elim (ℕ-discrete j k) [
-          | yes s ↦ subst (λ i. CachedAt limits (card book i) cache₂ (getD new i 0) (getD new (mostCards + i) 0) (at + n)) (sym s) last
+          | yes s ↦
+              subst (λ i. CachedAt limits (card book i) cache (getD new i 0) (getD new (mostCards + i) 0) end) (sym s)
+              last
           | no u ↦ earlier j b u some
         ];
       }
+
+-- a table of n bytes that was put behind those that are kept
+module _ (limits : Limits) (book cache spans : List ℕ) (at : ℕ) (so : Cached limits book cache spans at)
+    (scratch : List ℕ) (m k n : ℕ) (cache₂ : List ℕ) (l : k < mostCards)
+    (table : TableAt limits (card book k) scratch m) (e : n ≡ place m endSize) (inside : n ≤ length scratch)
+    (room : at + n ≤ length cache) (written : cache₂ ≡ put cache at (take n scratch)) where
+  abbrev part : List ℕ
+  part = take n scratch
+
+  part-long : length part ≡ n
+  part-long = length-take-le n scratch inside
+
+  is-put : cache₂ ≡ putMid at (length part) cache part
+  is-put = written ∙ put-part cache at part
+
+  as-long : length cache₂ ≡ length cache
+  as-long = ap length written ∙ length-put cache at part (omega (arith, part-long, room))
+
+  kept : Cached limits book cache₂ spans at
+  kept =
+      cached-same limits book cache spans at so cache₂ (omega (arith, as-long, so .long))
+      (ap (take at) is-put ∙ front-put at (length part) cache part (so .long))
+
+  stored : TableAt limits (card book k) (drop at cache₂) m
+  stored =
+      table-same table (drop at cache₂)
+      (ap (λ (i : ℕ). take i (drop at cache₂)) (sym e)
+      ∙ ap (λ (d : List ℕ). take n (drop at d)) is-put
+      ∙ part-there cache at (length part) part n (so .long) (omega (arith, part-long))
+      ∙ take-all n part (omega (arith, part-long))
+      ∙ ap (λ (i : ℕ). take i scratch) e)
+
+  pub cached-stored : Cached limits book cache₂ (withSpan spans k at m) (at + n)
+  cached-stored =
+      subst (λ i. Cached limits book cache₂ (withSpan spans k at m) (at + i)) (sym e)
+      (cached-more limits book cache₂ spans at m k kept l stored (omega (arith, e, as-long, room)))
 
 module _ (limits : Limits) (s cache : List ℕ) (start rows at : ℕ) (so : CachedAt limits s cache start rows at) where
   pub cached-few : place rows endSize ≤ pictureSize limits

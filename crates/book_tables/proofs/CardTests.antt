@@ -1,22 +1,29 @@
 -- Laws of testing the cards: 14 of each, and whether it covers the case, over the case's table t.
---   test-start, test-all                none is tested; all are
---   test-room, test-next                one card more: the word has room for it; what was tested with it
---   test-no                             14 of it is answered no, and decides
---   case-many, case-tested              14 of the case is answered no; else the table is the case's
-use Prim.Native.Nat.{_*_, _+_, _<_, _^_, _≤_, ℕ}
-use lib.Dec.{leb}
+--   test-start, test-all       none is tested; all are
+--   test-room                  there is room for card k's table behind those that are kept. Once it is made there:
+--   test-many                  14 of it is answered no, and decides
+--   test-long                  the bytes are as many as before
+--   testable, addable          it can be tested, and added to the subsumers
+--   test-next                  what was tested with it
+--   case-many                  once the case's table is made there: 14 of the case is answered no
+--   case-long, case-checked    it has all that testing the cards needs
+--   case-tested                it is the case's, so what was found of it is the answer
+use Prim.Native.Nat.{_*_, _+_, _-_, _<_, _^_, _≤_, ℕ}
+use borrow.Rule.Slice.PartMut.{mid-len, midOf, putMid, same-len-mid, take-put}
+use lib.ListN.{drop, length, take}
 use lib.Pow.{pow-add, pow-mono}
-use mathlib.Core.Bool.{Bool, false}
+use mathlib.Core.Bool.{Bool}
 use mathlib.Core.List.{List}
-use mathlib.Core.Path.{_∙_, _≡_, ap, refl, sym}
-use native.Mathlib.Decide.{ℕ-discrete}
+use mathlib.Core.Path.{_∙_, _≡_, ap, refl, subst, sym}
 use native.Mathlib.Omega.{arith}
 use Rattle.homomorphism_search.proofs.NormalMaps.{normal-maps}
-use Rattle.homomorphism_search.specs.Search.{rowMaps}
+use Rattle.homomorphism_search.specs.Search.{LinkedTable, rowMaps}
 use Rattle.meaning.specs.NormalTable.{mergedCount, normalFile}
 use Rattle.picture.specs.Refusal.{tooMany}
 use Rattle.picture.specs.declared.answer.Input.the-variants.{Card, First}
-use Rattle.table.specs.Bounds.{Bounded}
+use Rattle.row_sets.specs.Rows.{Checked}
+use Rattle.table.specs.Bounds.{Bounded, pictureSize}
+use Rattle.table.specs.Layout.{endSize, «place»}
 use Rattle.table_rows.specs.Links.{Zeros}
 use Rattle.table.specs.Pick.{pick}
 use Rattle.table.specs.declared.layout.Limits.{Limits}
@@ -24,10 +31,13 @@ use Rattle.picture.proofs.Orders.{to-no, to-yes, yes-on, yes-to}
 use Rattle.picture.specs.Asked.{andThen, askedFrom}
 use Rattle.normal.proofs.Answers.{merged-decides, merged-many}
 use Rattle.normal.specs.Call.{mergedAsked}
+use Rattle.normal_writer.proofs.Tablings.{none-many, some-few, tabled-fits}
+use Rattle.normal_writer.specs.Tables.{Tabled}
 use Rattle.book.specs.Call.{cardMerged}
 use Rattle.book.specs.Form.{card, mostCards}
 use Rattle.book.specs.Selection.{cardWord, caseCovered}
-use Rattle.book_tables.specs.Cache.{Cached, SubsumersBelow}
+use Rattle.book_tables.specs.Cache.{Addable, Added, Cached, SubsumersBelow, TableAt, Testable}
+use Rattle.book_tables.specs.Cache.{casePlace, tableIn, tableSize, tablesSize}
 use Rattle.book_tables.specs.Tables.{coversTable, selectedOn}
 use Rattle.picture.specs.declared.answer.Asked.{Asked}
 use Rattle.picture.specs.declared.answer.Asked.the-variants.{No, Yes}
@@ -35,80 +45,211 @@ use Rattle.book.specs.declared.answer.Selected.{Selected}
 use Rattle.book.specs.declared.answer.Selected.the-variants.{Cards, Refused}
 use Rattle.book_tables.specs.declared.subsumers.Subsumers.{Subsumers}
 use Rattle.book.proofs.CardWords.{cardWord-below, cardWord-same, cardWord-suc, cardWord-zero}
-use Rattle.book_tables.proofs.Caches.{none-cached}
+use Rattle.book_tables.proofs.Caches.{cached-same, cached-within, none-cached, part-checked, part-tabled}
+use Rattle.book_tables.proofs.Parts.{part-after}
 
 -- ---- the cards in turn
 
-module _ (limits : Limits) (t book : List ℕ) (count : ℕ) where
-  abbrev Answer : Selected
-  Answer = selectedOn (askedFrom (cardMerged limits book) count 0) (cardWord (coversTable limits t book) count)
+abbrev Answer : Limits → List ℕ → List ℕ → ℕ → Selected
+Answer limits t book count =
+    selectedOn (askedFrom (cardMerged limits book) count 0) (cardWord (coversTable limits t book) count)
 
-  pub test-start : (cache spans : List ℕ) → Zeros (mostCards + mostCards) spans → SubsumersBelow limits t book count cache spans (record { word = 0; at = 0 }) 0
-  test-start cache spans blank =
+module _ {limits : Limits} {t book : List ℕ} {count n : ℕ} where
+  pub test-start : {tables spans : List ℕ} → length tables ≡ tablesSize → tableIn tables casePlace n ≡ t →
+      Zeros (mostCards + mostCards) spans →
+      SubsumersBelow limits t book count n tables spans (record { word = 0; at = 0 }) 0
+  test-start {tables} {spans} long case blank =
       record {
+        long = long;
+        case-is = case;
         most = omega arith;
         few = λ j l. absurd (omega arith);
         word-is = sym (cardWord-zero (coversTable limits t book));
-        cache-is = none-cached limits book cache spans blank;
+        early = omega arith;
+        cache-is = none-cached limits book tables spans blank;
       }
 
-  module _ (cache spans : List ℕ) (subsumers : Subsumers) (k : ℕ) (so : SubsumersBelow limits t book count cache spans subsumers k) (l : k < count) where
-    pub test-room : count ≤ mostCards → subsumers .word + 2 ^ k < 2 ^ mostCards
-    test-room most =
-        let wide : 2 ^ (k + 1) ≤ 2 ^ mostCards = pow-mono {j = mostCards} (omega arith) in
-        let twice : 2 ^ (k + 1) ≡ 2 ^ k * 2 = pow-add 2 k 1 in
-        omega (arith, so .word-is, cardWord-below (coversTable limits t book) k, wide, twice)
+  module _ {tables spans : List ℕ} {subsumers : Subsumers} {k : ℕ}
+      (so : SubsumersBelow limits t book count n tables spans subsumers k) (l : k < count) where
+    abbrev at : ℕ
+    at = subsumers .at
 
-    module _ (few : mergedCount limits (card book k) ≤ limits .rows) (says : Bool) (u : List ℕ) (is : says ≡ rowMaps t u (limits .depth) 0 0) (table : u ≡ normalFile limits (card book k)) where
-      answer : says ≡ coversTable limits t book k
-      answer = is ∙ ap (λ (v : List ℕ). rowMaps t v (limits .depth) 0 0) table
+    abbrev end : ℕ
+    end = at + tableSize
 
-      pub test-next : (next : Subsumers) (cache₂ spans₂ : List ℕ) → next .word ≡ subsumers .word + pick says (2 ^ k) 0 → Cached limits book cache₂ spans₂ (next .at) →
-          SubsumersBelow limits t book count cache₂ spans₂ next (k + 1)
-      test-next next cache₂ spans₂ e there =
-          record {
-            most = omega arith;
-            few = yes-on (cardMerged limits book) k (merged-decides limits (Card k) (card book k) .yes .1 few) (so .few);
-            word-is =
-                e
-                ∙ ap (λ (b : Bool). subsumers .word + pick b (2 ^ k) 0) answer
-                ∙ ap (λ (n : ℕ). n + pick (coversTable limits t book k) (2 ^ k) 0) (so .word-is)
-                ∙ sym (cardWord-suc (coversTable limits t book) k);
-            cache-is = there;
-          }
+    abbrev part : List ℕ
+    part = midOf at (end - at) tables
 
-    pub test-no : leb (mergedCount limits (card book k)) (limits .rows) ≡ false → Refused (tooMany (Card k)) ≡ Answer
-    test-no many = sym (rw (to-no (cardMerged limits book) count k (tooMany (Card k)) l (merged-many limits (Card k) (card book k) many) (so .few)))
+    inside : end ≤ length tables
+    inside = omega (arith, so .long, so .early)
 
-  pub test-all : (cache spans : List ℕ) (subsumers : Subsumers) (k : ℕ) → SubsumersBelow limits t book count cache spans subsumers k → count ≤ k → Cards (subsumers .word) ≡ Answer
-  test-all cache spans subsumers k so done =
+    part-long : length part ≡ end - at
+    part-long = mid-len at end tables inside
+
+    pub test-room : Bounded limits → pictureSize limits ≤ length part
+    test-room bounded = omega (arith, part-long, bounded .0)
+
+    module _ (bounded : Bounded limits) {m : ℕ} {made : List ℕ} (tabled : Tabled limits (card book k) part m made) where
+      pub test-many : m ≡ 0 → Refused (tooMany (Card k)) ≡ Answer limits t book count
+      test-many none =
+          let many = none-many limits (card book k) part m made bounded tabled none in
+          let no = merged-many limits (Card k) (card book k) many in
+          sym (rw (to-no (cardMerged limits book) count k (tooMany (Card k)) l no (so .few)))
+
+      abbrev new : List ℕ
+      new = putMid at (end - at) tables made
+
+      pub test-long : length new ≡ tablesSize
+      test-long = same-len-mid at (end - at) tables made (tabled .same) ∙ so .long
+
+      module _ (some : m ≡ 0 → ⊥) where
+        few : mergedCount limits (card book k) ≤ limits .rows
+        few = some-few limits (card book k) part m made bounded tabled some
+
+        fits : place m endSize ≤ pictureSize limits
+        fits = tabled-fits limits (card book k) part m made bounded tabled few
+
+        case-same : tableIn new casePlace n ≡ t
+        case-same =
+            ap (take (place n endSize))
+            (part-after tables at end made casePlace (omega arith) inside (tabled .same ∙ part-long)
+            (omega (arith, so .early)))
+            ∙ so .case-is
+
+        begins : at ≤ length tables
+        begins = omega (arith, inside)
+
+        table : TableAt limits (card book k) (drop at new) m
+        table =
+            part-tabled limits (card book k) tables at end m made bounded tabled few begins (test-room bounded)
+
+        pub testable : {links : List ℕ} → LinkedTable t n links → Testable new n links at m
+        testable {links} linked =
+            record {
+              long = test-long;
+              early = so .early;
+              linked = subst (λ u. LinkedTable u n links) (sym case-same) linked;
+              checked =
+                  part-checked limits (card book k) tables at end m made bounded tabled few begins (test-room bounded);
+            }
+
+        word-room : count ≤ mostCards → subsumers .word + 2 ^ k < 2 ^ mostCards
+        word-room most =
+            let wide : 2 ^ (k + 1) ≤ 2 ^ mostCards = pow-mono {j = mostCards} (omega arith) in
+            let twice : 2 ^ (k + 1) ≡ 2 ^ k * 2 = pow-add 2 k 1 in
+            omega (arith, so .word-is, cardWord-below (coversTable limits t book) k, wide, twice)
+
+        pub addable : count ≤ mostCards → Addable m k subsumers spans
+        addable most =
+            record {
+              few = omega (arith, fits, bounded .0);
+              below = omega arith;
+              room = word-room most;
+              early = so .early;
+              spanned = so .cache-is .spanned;
+            }
+
+        module _ {says : Bool}
+            (is : says ≡ rowMaps (tableIn new casePlace n) (tableIn new at m) (limits .depth) 0 0) where
+          answer : says ≡ coversTable limits t book k
+          answer =
+              is
+              ∙ ap (λ (u : List ℕ). rowMaps u (tableIn new at m) (limits .depth) 0 0) case-same
+              ∙ ap (λ (u : List ℕ). rowMaps t u (limits .depth) 0 0) (table .is)
+
+          pub test-next : {next : Subsumers} {spans₂ : List ℕ} → Added says m k subsumers spans next spans₂ →
+              SubsumersBelow limits t book count n new spans₂ next (k + 1)
+          test-next added =
+              let kept =
+              cached-same limits book tables spans at (so .cache-is) new (omega (arith, test-long, so .early))
+              (take-put at (end - at) tables made begins) in
+              record {
+                long = test-long;
+                case-is = case-same;
+                most = omega arith;
+                few =
+                    yes-on (cardMerged limits book) k (merged-decides limits (Card k) (card book k) .yes .1 few)
+                    (so .few);
+                word-is =
+                    added .word-is
+                    ∙ ap (λ (b : Bool). subsumers .word + pick b (2 ^ k) 0) answer
+                    ∙ ap (λ (i : ℕ). i + pick (coversTable limits t book k) (2 ^ k) 0) (so .word-is)
+                    ∙ sym (cardWord-suc (coversTable limits t book) k);
+                early = added .early;
+                cache-is =
+                    added .cached limits book new (omega (arith, test-long, fits, bounded .0, so .early)) kept table;
+              }
+
+  pub test-all : {tables spans : List ℕ} {subsumers : Subsumers} {k : ℕ} →
+      SubsumersBelow limits t book count n tables spans subsumers k → count ≤ k →
+      (Cards (subsumers .word) ≡ Answer limits t book count) × Cached limits book tables spans tableSize
+  test-all {tables} {spans} {subsumers} {k} so done =
       let end : k ≡ count = omega (arith, so .most) in
-      let all = to-yes (cardMerged limits book) count k done (so .few) in
-      ap Cards (so .word-is ∙ ap (cardWord (coversTable limits t book)) end) ∙ sym (rw all)
+      let all = to-yes (cardMerged limits book) count k done (so .few) in (
+        ap Cards (so .word-is ∙ ap (cardWord (coversTable limits t book)) end) ∙ sym (rw all),
+        cached-within limits book tables spans (subsumers .at) (so .cache-is) tableSize (so .early)
+            (omega (arith, so .long)),
+      )
 
 -- ---- the case
 
-module _ (limits : Limits) (case book : List ℕ) (count : ℕ) where
-  abbrev Both : Selected
-  Both = selectedOn (andThen (mergedAsked limits First case) (askedFrom (cardMerged limits book) count 0)) (cardWord (caseCovered limits case book) count)
+abbrev Both : Limits → List ℕ → List ℕ → ℕ → Selected
+Both limits case book count =
+    selectedOn (andThen (mergedAsked limits First case) (askedFrom (cardMerged limits book) count 0))
+    (cardWord (caseCovered limits case book) count)
 
-  pub case-many : leb (mergedCount limits case) (limits .rows) ≡ false → Refused (tooMany First) ≡ Both
+by-cards : (limits : Limits) (case book : List ℕ) (count : ℕ) → Bounded limits →
+    mergedCount limits case ≤ limits .rows → (a : Asked) → askedFrom (cardMerged limits book) count 0 ≡ a →
+    selectedOn a (cardWord (coversTable limits (normalFile limits case) book) count)
+    ≡ selectedOn a (cardWord (caseCovered limits case book) count)
+by-cards limits case book count bounded few Yes e =
+    ap Cards
+    (cardWord-same (coversTable limits (normalFile limits case) book) (caseCovered limits case book) count
+    (λ k l. normal-maps limits case (card book k) bounded few
+    (merged-decides limits (Card k) (card book k) .yes .0 (yes-to (cardMerged limits book) count e k l))))
+by-cards limits case book count bounded few (No r) e = refl
+
+module _ {limits : Limits} {case : List ℕ} (tables : List ℕ) (long : length tables ≡ tablesSize)
+    (bounded : Bounded limits) {n : ℕ} {made : List ℕ}
+    (tabled : Tabled limits case (midOf casePlace (length tables - casePlace) tables) n made) where
+  abbrev case-part : List ℕ
+  case-part = midOf casePlace (length tables - casePlace) tables
+
+  abbrev case-new : List ℕ
+  case-new = putMid casePlace (length tables - casePlace) tables made
+
+  pub case-many : (book : List ℕ) (count : ℕ) → n ≡ 0 → Refused (tooMany First) ≡ Both limits case book count
   unfolding mergedAsked
-  case-many many = sym (rw many)
+  case-many book count none = sym (rw (none-many limits case case-part n made bounded tabled none))
 
-  by-cards : Bounded limits → mergedCount limits case ≤ limits .rows → (a : Asked) → askedFrom (cardMerged limits book) count 0 ≡ a →
-      selectedOn a (cardWord (coversTable limits (normalFile limits case) book) count) ≡ selectedOn a (cardWord (caseCovered limits case book) count)
-  by-cards bounded few Yes e =
-      ap Cards
-      (cardWord-same (coversTable limits (normalFile limits case) book) (caseCovered limits case book) count
-      (λ k l. normal-maps limits case (card book k) bounded few
-      (merged-decides limits (Card k) (card book k) .yes .0 (yes-to (cardMerged limits book) count e k l))))
-  by-cards bounded few (No r) e = refl
+  pub case-long : length case-new ≡ tablesSize
+  case-long = same-len-mid casePlace (length tables - casePlace) tables made (tabled .same) ∙ long
 
-  pub case-tested : Bounded limits → mergedCount limits case ≤ limits .rows → (t : List ℕ) → t ≡ normalFile limits case → (r : Selected) →
-      r ≡ selectedOn (askedFrom (cardMerged limits book) count 0) (cardWord (coversTable limits t book) count) → r ≡ Both
-  case-tested bounded few t table r is =
-      is
-      ∙ ap (λ (u : List ℕ). selectedOn (askedFrom (cardMerged limits book) count 0) (cardWord (coversTable limits u book) count)) table
-      ∙ by-cards bounded few (askedFrom (cardMerged limits book) count 0) refl
-      ∙ sym (ap (λ a. selectedOn (andThen a (askedFrom (cardMerged limits book) count 0)) (cardWord (caseCovered limits case book) count)) (merged-decides limits First case .yes .1 few))
+  module _ (some : n ≡ 0 → ⊥) where
+    case-few : mergedCount limits case ≤ limits .rows
+    case-few = some-few limits case case-part n made bounded tabled some
+
+    case-begins : casePlace ≤ length tables
+    case-begins = omega arith
+
+    case-room : pictureSize limits ≤ length case-part
+    case-room = omega (arith, mid-len casePlace (length tables) tables (omega arith), bounded .0)
+
+    pub case-checked : Checked (tableIn case-new casePlace n) n
+    case-checked =
+        part-checked limits case tables casePlace (length tables) n made bounded tabled case-few case-begins case-room
+
+    case-table : TableAt limits case (drop casePlace case-new) n
+    case-table =
+        part-tabled limits case tables casePlace (length tables) n made bounded tabled case-few case-begins case-room
+
+    pub case-tested : (book : List ℕ) (count : ℕ) {r : Selected} →
+        r ≡ Answer limits (tableIn case-new casePlace n) book count → r ≡ Both limits case book count
+    case-tested book count is =
+        let cards = askedFrom (cardMerged limits book) count 0 in
+        is
+        ∙ ap (λ (u : List ℕ). Answer limits u book count) (case-table .is)
+        ∙ by-cards limits case book count bounded case-few cards refl
+        ∙ sym
+        (ap (λ a. selectedOn (andThen a cards) (cardWord (caseCovered limits case book) count))
+        (merged-decides limits First case .yes .1 case-few))

@@ -1,29 +1,59 @@
--- The cache of the tables of covering cards, and the test of each card. Nobody has to believe these.
+-- The test of the cards, and the tables that it makes in one run of bytes: those of covering cards that are kept, from
+-- the first byte on and within the size of one; behind them that of the card that is tested; and the case's, the last.
+-- Nobody has to believe these.
+--   tableSize        as many bytes as the longest table takes
+--   casePlace        where the case's table begins
+--   tablesSize       as many bytes as all of them take
+--   tableIn          the table of so many rows from a byte on
 --   TableAt          the normal table of a picture, of so many rows, at the start of a part
---   CachedAt         one that is in the cache, from a byte on, before another
+--   CachedAt         one that is kept, from a byte on, before another
 --   Cached           each card with rows of its own in the spans has its table there, before where all end
---   CardsCached      the cards have passed 2 to 14, and the cache has what the spans say
---   Addable          there is room for card k's bit and rows, and its table is whole
---   SubsumersBelow   the cards below k are tested, the word has those that cover the case, and the cache has what the spans say
---   CachedAfter      the cache once all are tested
+--   CardsCached      the cards have passed 2 to 14, and the tables are kept where the spans say
+--   withSpan         the spans with that of card k
+--   Findable         what finding the subsumers needs
+--   CardsTestable    what testing all cards needs
+--   Testable         what testing one card needs: its table, and the case's with its links
+--   Addable          there is room for card k's bit and rows
+--   Added            card k's bit is added if it covers the case, and its table is kept if it ends soon enough
+--   SubsumersBelow   the cards below k are tested, the word has those that cover the case, the tables are kept where
+--                    the spans say, and the case's is there still
+--   CachedAfter      the tables once all are tested
 use Prim.Native.Nat.{ℕ, _+_, _^_, _<_, _≤_}
-use lib.ListN.{drop, getD, length, take}
+use lib.ListN.{drop, getD, length, set, take}
+use mathlib.Core.Bool.{Bool}
 use mathlib.Core.List.{List}
 use mathlib.Core.Path.{_≡_}
-use Rattle.table.specs.Bounds.{maxRows}
+use Rattle.table.specs.Bounds.{Bounded, maxRows}
 use Rattle.table.specs.Layout.{endSize, «place»}
+use Rattle.table.specs.Pick.{pick}
 use Rattle.table.specs.declared.layout.Limits.{Limits}
+use Rattle.table_rows.specs.Links.{Zeros}
+use Rattle.picture.specs.Readable.{Readable}
 use Rattle.meaning.specs.NormalTable.{mergedCount, normalFile}
+use Rattle.row_sets.specs.Rows.{Checked}
+use Rattle.homomorphism_search.specs.Search.{LinkedTable}
 use Rattle.normal_writer.specs.Tables.{tableRows}
 use Rattle.book.specs.Call.{cardMerged}
 use Rattle.book.specs.Form.{card, mostCards}
 use Rattle.book.specs.Selection.{cardWord}
 use Rattle.book_form.specs.declared.form.Cards.{Cards}
-use Rattle.book_tables.specs.Tables.{CardsTaken, coversTable}
+use Rattle.book_tables.specs.Tables.{CardsRead, CardsTaken, coversTable}
 use Rattle.picture.specs.declared.answer.Asked.the-variants.{Yes}
 use Rattle.book.specs.declared.answer.Selected.{Selected}
 use Rattle.book.specs.declared.answer.Selected.the-variants as selected
 use Rattle.book_tables.specs.declared.subsumers.Subsumers.{Subsumers}
+
+abbrev pub tableSize : ℕ
+tableSize = place maxRows endSize
+
+abbrev pub casePlace : ℕ
+casePlace = tableSize + tableSize
+
+abbrev pub tablesSize : ℕ
+tablesSize = casePlace + tableSize
+
+abbrev pub tableIn : List ℕ → ℕ → ℕ → List ℕ
+tableIn tables start rows = take (place rows endSize) (drop start tables)
 
 pub record TableAt (limits : Limits) (s part : List ℕ) (rows : ℕ) : Type 0 where
   pub few : mergedCount limits s ≤ limits .rows
@@ -44,20 +74,55 @@ pub record CardsCached (limits : Limits) (book : List ℕ) (cards : Cards) (cach
   pub at : ℕ
   pub cache-is : Cached limits book cache spans at
 
-pub record Addable (scratch : List ℕ) (m k : ℕ) (subsumers : Subsumers) (cache spans : List ℕ) : Type 0 where
+abbrev pub withSpan : List ℕ → ℕ → ℕ → ℕ → List ℕ
+withSpan spans k start rows = set (set spans k start) (mostCards + k) rows
+
+pub record Findable (limits : Limits) (case book : List ℕ) (cards : Cards) (tables spans : List ℕ) : Type 0 where
+  pub bounded : Bounded limits
+  pub readable : Readable limits case
+  pub cards-read : CardsRead limits book cards
+  pub long : length tables ≡ tablesSize
+  pub blank : Zeros (mostCards + mostCards) spans
+
+pub record CardsTestable (limits : Limits) (book : List ℕ) (cards : Cards) (n : ℕ) (links tables spans : List ℕ) :
+    Type 0 where
+  pub bounded : Bounded limits
+  pub cards-read : CardsRead limits book cards
+  pub long : length tables ≡ tablesSize
+  pub linked : LinkedTable (tableIn tables casePlace n) n links
+  pub blank : Zeros (mostCards + mostCards) spans
+
+pub record Testable (tables : List ℕ) (n : ℕ) (links : List ℕ) (at m : ℕ) : Type 0 where
+  pub long : length tables ≡ tablesSize
+  pub early : at ≤ tableSize
+  pub linked : LinkedTable (tableIn tables casePlace n) n links
+  pub checked : Checked (tableIn tables at m) m
+
+pub record Addable (m k : ℕ) (subsumers : Subsumers) (spans : List ℕ) : Type 0 where
   pub few : m ≤ maxRows
-  pub whole : place m endSize ≤ length scratch
   pub below : k < mostCards
   pub room : subsumers .word + 2 ^ k < 2 ^ mostCards
-  pub inside : subsumers .at ≤ length cache
+  pub early : subsumers .at ≤ tableSize
   pub spanned : length spans ≡ mostCards + mostCards
 
-pub record SubsumersBelow (limits : Limits) (t book : List ℕ) (count : ℕ) (cache spans : List ℕ) (subsumers : Subsumers) (k : ℕ) : Type 0 where
+pub record Added (covers : Bool) (m k : ℕ) (subsumers : Subsumers) (spans : List ℕ) (r : Subsumers) (end : List ℕ) :
+    Type 0 where
+  pub word-is : r .word ≡ subsumers .word + pick covers (2 ^ k) 0
+  pub early : r .at ≤ tableSize
+  pub cached : (limits : Limits) (book tables : List ℕ) → subsumers .at + place m endSize ≤ length tables →
+      Cached limits book tables spans (subsumers .at) → TableAt limits (card book k) (drop (subsumers .at) tables) m →
+      Cached limits book tables end (r .at)
+
+pub record SubsumersBelow (limits : Limits) (t book : List ℕ) (count n : ℕ) (tables spans : List ℕ)
+    (subsumers : Subsumers) (k : ℕ) : Type 0 where
+  pub long : length tables ≡ tablesSize
+  pub case-is : tableIn tables casePlace n ≡ t
   pub most : k ≤ count
   pub few : (j : ℕ) → j < k → cardMerged limits book j ≡ Yes
   pub word-is : subsumers .word ≡ cardWord (coversTable limits t book) k
-  pub cache-is : Cached limits book cache spans (subsumers .at)
+  pub early : subsumers .at ≤ tableSize
+  pub cache-is : Cached limits book tables spans (subsumers .at)
 
 abbrev pub CachedAfter : Selected → Limits → List ℕ → List ℕ → List ℕ → Type 0
-CachedAfter (selected.Cards word) limits book cache spans = (at : ℕ) × Cached limits book cache spans at
-CachedAfter (selected.Refused r) limits book cache spans = Unit
+CachedAfter (selected.Cards word) limits book tables spans = Cached limits book tables spans tableSize
+CachedAfter (selected.Refused r) limits book tables spans = Unit

@@ -1,4 +1,5 @@
-// A cache of the tables of covering cards, one after the other in an array of the call's own, so that they are copied and not made again.
+// The tables of the cards and of the case, in one array of the call's own. Those of covering cards are kept one after
+// the other from its first byte on, so that they need not be made again; what lies after them is free.
 use book_form::form::Cards;
 use book_form::form::MAX_CARDS;
 use book_form::form::card;
@@ -17,13 +18,31 @@ ghost use Rattle.table.specs.Layout.{endSize, «place»};
 ghost use Rattle.table.specs.declared.layout.Limits.{Limits};
 ghost use Rattle.normal_writer.specs.Tables.{Tabled};
 ghost use Rattle.book.specs.Form.{«card», mostCards};
-ghost use Rattle.book_tables.specs.Cache.{Cached, TableAt, CardsCached};
+ghost use Rattle.book_tables.specs.Cache.{Cached, TableAt, CardsCached, tableIn, withSpan};
 
-// The cache has as many bytes as the longest table takes.
-pub const CACHE: usize = TABLE;
+// The tables that are kept end within the first third, so that of the card that is tested within the second; the case's
+// is the third.
+pub const TABLES: usize = 3 * TABLE;
 
 // For each card where its table begins, and then for each card its rows; 0 if it is not cached.
 pub const SPANS: usize = 2 * MAX_CARDS;
+
+// The table of so many rows from a byte on.
+pub fn table_at(tables: &[u8], start: usize, rows: usize) -> &[u8]
+    requires { ⌜ (rows ≤ maxRows) × (start + «place» rows endSize ≤ length (now tables)) ⌝ }
+    ensures { λ r. ⌜ now r ≡ tableIn (now (tables .entry)) start rows ⌝ }
+{
+    &tables[start..start + place(rows, END_SIZE)]
+}
+
+// Says where the table of card k begins, and its rows.
+pub fn keep_span(k: usize, start: usize, rows: usize, spans: &mut [usize; SPANS])
+    requires { ⌜ (k < mostCards) × (length (now spans) ≡ mostCards + mostCards) ⌝ }
+    ensures { λ _. ⌜ now (spans .exit) ≡ withSpan (now (spans .entry)) k start rows ⌝ }
+{
+    spans[k] = start;
+    spans[MAX_CARDS + k] = rows;
+}
 
 // Stores the table of card k, of m rows, if it fits after those that end at a place; the place where all end then.
 pub fn store(
@@ -42,8 +61,7 @@ pub fn store(
         return at;
     }
     copy_in(cache, at, &scratch[..size]);
-    spans[k] = at;
-    spans[MAX_CARDS + k] = m;
+    keep_span(k, at, m, spans);
     at + size
 }
 

@@ -5,8 +5,8 @@ use book_form::form::card;
 use book_form::form::find_cards;
 use book_form::form::has_form;
 use book_selection::compare::select_cards;
-use book_tables::cache::CACHE;
 use book_tables::cache::SPANS;
+use book_tables::cache::TABLES;
 use book_tables::subsumers::find_subsumers;
 use picture::answer::Answer;
 use picture::answer::Asked;
@@ -57,9 +57,9 @@ fn select(case: &[u8], book: &[u8], cards: Cards, limits: Limits, work: &mut [u8
         × (now (work .exit) ≡ kept (afterCards limits (now (case .entry)) (now (book .entry)))
         (put (now (work .entry)) 0 (zeros (workSize limits))) (now (work .entry))) ⌝ }
 {
-    let mut cache = [0u8; CACHE];
+    let mut tables = [0u8; TABLES];
     let mut spans = [0usize; SPANS];
-    match find_subsumers(case, book, cards, limits, &mut cache, &mut spans) {
+    match find_subsumers(case, book, cards, limits, &mut tables, &mut spans) {
         Selected::Cards(covering) => {
             let half = half_size(limits);
             let size = half + half;
@@ -67,7 +67,7 @@ fn select(case: &[u8], book: &[u8], cards: Cards, limits: Limits, work: &mut [u8
                 book,
                 cards,
                 limits,
-                &mut cache,
+                &mut tables,
                 &mut spans,
                 covering,
                 &mut work[..size],

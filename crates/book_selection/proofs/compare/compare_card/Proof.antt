@@ -36,19 +36,19 @@ cache-table-requires c κs =
     record {
       few = stands .inside .few;
       first = find .ensures .0 .2;
-      whole = λ outside. stands-whole (a .limits) (now (a .book)) (find .last .1 .1 .1 .1 .1 .1 .0) (find .result) (now (a .cache)) outside stands;
+      whole = λ outside. stands-whole (a .limits) (now (a .book)) (find .last .1 .1 .1 .1 .1 .1 .0) (find .result) (now (a .tables)) outside stands;
       below = omega (arith, find .ensures .0 .1, pre .below, pre .taken .cards-read .places-are .most);
       inside = pre .cached .long;
       spanned = pre .cached .spanned;
     }
 
--- the cache with the table, and where it stands
+-- the tables with the table, and where it stands
 kept : (c : tie.After-cache-table) →
     let found = c .before .before .before .before .before .before in
     let a = entry found .args in
-    let cache = c .cache-table .last .1 .1 .1 .0 in
-    (Cached (a .limits) (now (a .book)) cache (c .cache-table .last .1 .1 .1 .1 .0) (c .cache-table .result))
-    × (Stands (a .limits) (now (a .book)) cache (found .find-table .last .1 .1 .1 .1 .1 .1 .0) (found .find-table .result))
+    let tables = c .cache-table .last .1 .1 .1 .0 in
+    (Cached (a .limits) (now (a .book)) tables (c .cache-table .last .1 .1 .1 .1 .0) (c .cache-table .result))
+    × (Stands (a .limits) (now (a .book)) tables (found .find-table .last .1 .1 .1 .1 .1 .1 .0) (found .find-table .result))
 kept c =
     let found = c .before .before .before .before .before .before in
     let a = entry found .args in

@@ -18,12 +18,12 @@ use Rattle.book_selection.proofs.compare.compare_row.Statement.{stateme
 use Rattle.book_selection.proofs.compare.compare_row.Tie as tie
 
 abbrev Inv-loop : tie.InvT-loop
-Inv-loop book cards limits cache spans covering low redundant work₀ m links word₀ n₀ work word n =
+Inv-loop book cards limits tables spans covering low redundant work₀ m links word₀ n₀ work word n =
     ((n < low .card → (has covering n ≡ true) × (has word n ≡ false)) × ComparedTo limits book covering (low .card) n word)
-    × LowTable limits book cache work low links
+    × LowTable limits book tables work low links
 
 abbrev μ-loop : tie.MeasureT-loop
-μ-loop book cards limits cache spans covering low redundant work₀ m links word₀ n₀ work word n = low .card - n
+μ-loop book cards limits tables spans covering low redundant work₀ m links word₀ n₀ work word n = low .card - n
 
 link-table-requires : tie.Need-link-table-requires Inv-loop μ-loop
 link-table-requires c κs =

@@ -16,24 +16,24 @@ same-search {s} {t} {u} {v} e f depth = ap (λ (x : List ℕ). rowMaps x u depth
 link-table-requires : tie.Need-link-table-requires
 link-table-requires c κs = (c .before .before .before .pre .high-table, blank 512 512 refl)
 
-table-at-requires : tie.Need-table-at-requires
-table-at-requires c κs = c .before .before .before .before .pre .low-inside
+spot-table-requires : tie.Need-spot-table-requires
+spot-table-requires c κs = c .before .before .before .before .pre .low-inside
 
-table-at-requires-2 : tie.Need-table-at-requires-2
-table-at-requires-2 c κs = c .before .before .before .before .before .pre .high-table .inside
+spot-table-requires-2 : tie.Need-spot-table-requires-2
+spot-table-requires-2 c κs = c .before .before .before .before .before .pre .high-table .inside
 
 -- both tables, with their links
-low-linked : (c : tie.After-table-at2) → let a = c .before .before .before .before .before .before .args in
-    LinkedTable (now (c .before .table-at .result)) (a .low .rows) (now (a .links))
+low-linked : (c : tie.After-spot-table2) → let a = c .before .before .before .before .before .before .args in
+    LinkedTable (now (c .before .spot-table .result)) (a .low .rows) (now (a .links))
 low-linked c =
     let start = c .before .before .before .before .before .before in
-    subst (λ t. LinkedTable t (start .args .low .rows) (now (start .args .links))) (sym (c .before .table-at .ensures)) (start .pre .linked)
+    subst (λ t. LinkedTable t (start .args .low .rows) (now (start .args .links))) (sym (c .before .spot-table .ensures)) (start .pre .linked)
 
-high-linked : (c : tie.After-table-at2) → let a = c .before .before .before .before .before .before .args in
-    LinkedTable (now (c .table-at2 .result)) (a .high .rows) (c .before .before .link-table .last .1 .1 .1 .0)
+high-linked : (c : tie.After-spot-table2) → let a = c .before .before .before .before .before .before .args in
+    LinkedTable (now (c .spot-table2 .result)) (a .high .rows) (c .before .before .link-table .last .1 .1 .1 .0)
 high-linked c =
     let a = c .before .before .before .before .before .before .args in
-    subst (λ t. LinkedTable t (a .high .rows) (c .before .before .link-table .last .1 .1 .1 .0)) (sym (c .table-at2 .ensures)) (c .before .before .link-table .ensures)
+    subst (λ t. LinkedTable t (a .high .rows) (c .before .before .link-table .last .1 .1 .1 .0)) (sym (c .spot-table2 .ensures)) (c .before .before .link-table .ensures)
 
 table-covers-requires : tie.Need-table-covers-requires
 table-covers-requires c κs = (high-linked (c .before), low-linked (c .before))
@@ -45,8 +45,8 @@ returns : tie.Need-returns
 returns c =
     let both = c .before .before .before .before in
     let a = both .before .before .before .before .before .before .args in
-    let low : now (both .before .table-at .result) ≡ tableAt (now (a .cache)) (now (a .work)) (a .low) = both .before .table-at .ensures in
-    let high : now (both .table-at2 .result) ≡ tableAt (now (a .cache)) (now (a .work)) (a .high) = both .table-at2 .ensures in (
+    let low : now (both .before .spot-table .result) ≡ tableAt (now (a .tables)) (now (a .work)) (a .low) = both .before .spot-table .ensures in
+    let high : now (both .spot-table2 .result) ≡ tableAt (now (a .tables)) (now (a .work)) (a .high) = both .spot-table2 .ensures in (
       c .before .before .table-covers .ensures ∙ same-search high low (a .depth),
       c .table-covers2 .ensures ∙ same-search low high (a .depth),
     )
@@ -56,8 +56,8 @@ compare-spots-spec =
     tie.close
     (tie.spec
     link-table-requires
-    table-at-requires
-    table-at-requires-2
+    spot-table-requires
+    spot-table-requires-2
     table-covers-requires
     table-covers-requires-2
     returns)

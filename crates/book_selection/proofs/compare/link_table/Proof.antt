@@ -11,21 +11,21 @@ use borrow.Author.Needs.{needs}
 use Rattle.book_selection.proofs.compare.link_table.Statement.{statement}
 use Rattle.book_selection.proofs.compare.link_table.Tie as tie
 
-table-at-requires : tie.Need-table-at-requires
-table-at-requires c κs = search needs
+spot-table-requires : tie.Need-spot-table-requires
+spot-table-requires c κs = search needs
 
 fill-links-requires : tie.Need-fill-links-requires
 fill-links-requires c κs =
     let start = c .before .before .before .before in
-    (subst (λ t. Checked t (start .args .spot .rows)) (sym (c .before .table-at .ensures)) (start .pre .0 .checked), start .pre .1)
+    (subst (λ t. Checked t (start .args .spot .rows)) (sym (c .before .spot-table .ensures)) (start .pre .0 .checked), start .pre .1)
 
 returns : tie.Need-returns
 returns c =
     let start = c .before .before .before .before .before in
     record {
       checked = start .pre .0 .checked;
-      linked = subst (λ t. Linked (parentOf t) (start .args .spot .rows) maxRows (c .fill-links .last .1 .1 .0)) (c .before .before .table-at .ensures) (c .fill-links .ensures);
+      linked = subst (λ t. Linked (parentOf t) (start .args .spot .rows) maxRows (c .fill-links .last .1 .1 .0)) (c .before .before .spot-table .ensures) (c .fill-links .ensures);
     }
 
 pub link-table-spec : {M : Type 1} → statement M
-link-table-spec = tie.close (tie.spec table-at-requires fill-links-requires returns)
+link-table-spec = tie.close (tie.spec spot-table-requires fill-links-requires returns)

@@ -24,8 +24,8 @@ returns-2 c =
     let outside = c .before .before .before .before .before .if1 .left in
     let store = c .before .before .store in (
       (λ limits book so stands. (
-        store .ensures .0 limits book so (stands-start limits book (now (a .work)) (a .spot) (now (a .cache)) outside (start .pre .first outside) stands),
-        stands-kept limits book (now (a .work)) (a .spot) (now (a .cache)) _ outside stands,
+        store .ensures .0 limits book so (stands-start limits book (now (a .work)) (a .spot) (now (a .tables)) outside (start .pre .first outside) stands),
+        stands-kept limits book (now (a .work)) (a .spot) (now (a .tables)) _ outside stands,
       )),
       store .ensures .1,
     )

@@ -1,4 +1,4 @@
--- A table that is cached stands in the cache; another is made in the part of the work space that is lent.
+-- A table that is cached stands in the tables; another is made in the part of the work space that is lent.
 use native.Mathlib.Omega.{arith}
 use denote.Ref.{now}
 use mathlib.Core.Bool.{false≢true}
@@ -49,7 +49,7 @@ returns c =
     let few = pre .cached .taken .few (a .k) (pre .below) in
     let tabled = card-tabled (pre .cached .taken .cards-read) (pre .below) (c .before .before .before .before .card .ensures) (made .ensures) in (
       (
-        made-stands (a .limits) (now (a .book)) (now (a .cache)) (now (a .work)) (a .from) (a .k) (made .result) (made .last .1 .1 .0) (pre .bounded) few (pre .room) tabled,
+        made-stands (a .limits) (now (a .book)) (now (a .tables)) (now (a .work)) (a .from) (a .k) (made .result) (made .last .1 .1 .0) (pre .bounded) few (pre .room) tabled,
         refl,
         λ _. refl,
       ),
@@ -71,7 +71,7 @@ returns-2 c =
     let a = start .args in
     let pre = start .pre in (
       (
-        cached-stands (a .limits) (now (a .book)) (now (a .cache)) (now (a .spans)) (pre .cached .at) (pre .bounded) (pre .cached .cache-is) (now (a .work)) (a .k)
+        cached-stands (a .limits) (now (a .book)) (now (a .tables)) (now (a .spans)) (pre .cached .at) (pre .bounded) (pre .cached .cache-is) (now (a .work)) (a .k)
             (omega (arith, pre .below, pre .cached .taken .cards-read .places-are .most)) (c .before .if1 .left),
         refl,
         λ e. absurd (false≢true (sym e)),

@@ -1,34 +1,47 @@
--- The part that is lent is the table, and its links are made here.
-use native.Mathlib.Omega.{arith}
-use borrow.Author.Needs.{needs}
+-- Both tables are parts of the bytes that are lent; the links of the card's are made here.
 use denote.Ref.{now}
-use mathlib.Core.List.{List}
-use mathlib.Core.Path.{_∙_, ap, refl, subst, sym}
-use Prim.Native.Nat.{ℕ}
+use mathlib.Core.Path.{refl, subst, sym}
+use borrow.Author.Needs.{needs}
 use Rattle.table_rows.proofs.Stores.{blank}
 use Rattle.row_sets.specs.Rows.{Checked}
-use Rattle.homomorphism_search.specs.Search.{rowMaps}
+use Rattle.homomorphism_search.specs.Search.{LinkedTable}
 use Rattle.book_tables.proofs.subsumers.covers_case.Statement.{statement}
 use Rattle.book_tables.proofs.subsumers.covers_case.Tie as tie
 
-table-of-requires : tie.Need-table-of-requires
-table-of-requires c κs = let pre = c .before .before .pre in (omega (arith, pre .1 .0, pre .0 .0), pre .1 .1 .0)
+table-at-requires : tie.Need-table-at-requires
+table-at-requires c κs = search needs
 
-checked : (c : tie.After-table-of) → Checked (now (c .table-of .result)) (c .before .before .before .args .m)
-checked c = subst (λ t. Checked t (c .before .before .before .args .m)) (sym (c .table-of .ensures)) (c .before .before .before .pre .1 .1 .1 .0)
+table-at-requires-2 : tie.Need-table-at-requires-2
+table-at-requires-2 c κs = search needs
+
+checked : (c : tie.After-table-at2) → Checked (now (c .table-at2 .result)) (c .before .before .before .args .m)
+checked c =
+    let start = c .before .before .before in
+    subst (λ t. Checked t (start .args .m)) (sym (c .table-at2 .ensures)) (start .pre .checked)
 
 fill-links-requires : tie.Need-fill-links-requires
 fill-links-requires c κs = (checked (c .before), blank 512 512 refl)
 
 table-covers-requires : tie.Need-table-covers-requires
 table-covers-requires c κs =
-    (c .before .before .before .before .before .before .pre .1 .1 .1 .1, record { checked = checked (c .before .before .before); linked = c .before .fill-links .ensures })
+    let cut = c .before .before .before in
+    let start = cut .before .before .before in (
+      subst (λ t. LinkedTable t (start .args .n) (now (start .args .links))) (sym (cut .before .table-at .ensures))
+          (start .pre .linked),
+      record { checked = checked cut; linked = c .before .fill-links .ensures },
+    )
 
 returns : tie.Need-returns
 returns c =
-    let a = c .before .before .before .before .before .before .before .args in
-    c .table-covers .ensures ∙ ap (λ (t : List ℕ). rowMaps (now (a .table)) t (a .limits .depth) 0 0) (c .before .before .before .before .table-of .ensures)
+    let cut = c .before .before .before .before in
+    rw (sym (cut .before .table-at .ensures), sym (cut .table-at2 .ensures)) (c .table-covers .ensures)
 
 pub covers-case-spec : {M : Type 1} → statement M
 covers-case-spec =
-    tie.close (tie.spec table-of-requires fill-links-requires table-covers-requires returns)
+    tie.close
+    (tie.spec
+    table-at-requires
+    table-at-requires-2
+    fill-links-requires
+    table-covers-requires
+    returns)

@@ -22,7 +22,7 @@ slice-aggregate-find-subsumers c = search needs
 find-subsumers-requires : tie.Need-find-subsumers-requires
 find-subsumers-requires c κs =
     let pre = c .before .before .before .before .before .pre in
-    (pre .0, (pre .1 .0, (pre .1 .1 .0, blank 64 64 refl)))
+    record { bounded = pre .0; readable = pre .1 .0; cards-read = pre .1 .1 .0; long = refl; blank = blank 64 64 refl }
 
 enum-known-covering : tie.Need-enum-known-covering
 enum-known-covering c = search needs
@@ -52,13 +52,20 @@ select-cards-requires c κs =
     let covering = c .before .before .before .before .before .covering in
     let half-size = c .before .before .before .half-size in
     let lent = length-take-le (half-size .result + half-size .result) (now (args .work)) (omega (arith, half-size .ensures, pre .1 .1 .1)) in
-    let cache = subst (λ r. CachedAfter r (args .limits) (now (args .book)) (find-subsumers .last .1 .1 .1 .1 .0) (find-subsumers .last .1 .1 .1 .1 .1 .0)) (covering .given .1) (find-subsumers .ensures .1) in (
-      pre .0,
-      (
-        record { taken = found-taken (args .limits) (now (args .case)) (now (args .book)) (args .cards) (pre .1 .1 .0) (find-subsumers .result) (find-subsumers .ensures .0) (covering .given .0 .0) (covering .given .1); at = cache .0; cache-is = cache .1 },
-        (covering-inside (args .limits) (now (args .case)) (now (args .book)) (args .cards .count) (covering .given .0 .0) (pre .1 .1 .0 .places-are .counted) (found-is (args .limits) (now (args .case)) (now (args .book)) (args .cards) (pre .1 .1 .0) (find-subsumers .result) (find-subsumers .ensures .0) (covering .given .0 .0) (covering .given .1)), lent ∙ omega (arith, half-size .ensures)),
-      ),
-    )
+    let found = find-subsumers .result in
+    let found-is-asked = find-subsumers .ensures .0 in
+    record {
+      bounded = pre .0;
+      taken = found-taken (args .limits) (now (args .case)) (now (args .book)) (args .cards) (pre .1 .1 .0)
+          found found-is-asked (covering .given .0 .0) (covering .given .1);
+      cached = subst (λ r. CachedAfter r (args .limits) (now (args .book)) (find-subsumers .last .1 .1 .1 .1 .0) (find-subsumers .last .1 .1 .1 .1 .1 .0))
+          (covering .given .1) (find-subsumers .ensures .1);
+      inside = covering-inside (args .limits) (now (args .case)) (now (args .book)) (args .cards .count) (covering .given .0 .0)
+          (pre .1 .1 .0 .places-are .counted)
+          (found-is (args .limits) (now (args .case)) (now (args .book)) (args .cards) (pre .1 .1 .0) found found-is-asked
+          (covering .given .0 .0) (covering .given .1));
+      long = lent ∙ omega (arith, half-size .ensures);
+    }
 
 enum-known-refusal : tie.Need-enum-known-refusal
 enum-known-refusal c = search needs
@@ -68,12 +75,12 @@ same-length c = search needs
 
 returns : tie.Need-returns
 returns c =
-    let args = c .before .before .before .before .before .before .before .before .before .before .before .before .before .before .before .before .before .args in
-    let pre = c .before .before .before .before .before .before .before .before .before .before .before .before .before .before .before .before .before .pre in
-    let find-subsumers = c .before .before .before .before .before .before .before .before .before .before .before .find-subsumers in
-    let covering = c .before .before .before .before .before .before .before .before .covering in
-    let half-size = c .before .before .before .before .before .before .half-size in
-    let select-cards = c .before .before .select-cards in
+    let args = c .before .before .before .before .before .before .before .before .before .before .before .before .before .before .before .before .before .before .args in
+    let pre = c .before .before .before .before .before .before .before .before .before .before .before .before .before .before .before .before .before .before .pre in
+    let find-subsumers = c .before .before .before .before .before .before .before .before .before .before .before .before .find-subsumers in
+    let covering = c .before .before .before .before .before .before .before .before .before .covering in
+    let half-size = c .before .before .before .before .before .before .before .half-size in
+    let select-cards = c .before .before .before .select-cards in
     let is = found-is (args .limits) (now (args .case)) (now (args .book)) (args .cards) (pre .1 .1 .0) (find-subsumers .result) (find-subsumers .ensures .0) (covering .given .0 .0) (covering .given .1) in
     done (args .limits) (mostSpecificCards (args .limits) (now (args .case)) (now (args .book))) (now (args .work)) (afterCards (args .limits) (now (args .case)) (now (args .book)))
     (found-all (args .limits) (now (args .case)) (now (args .book)) (args .cards) (pre .1 .1 .0) (find-subsumers .result) (find-subsumers .ensures .0) (covering .given .0 .0) (covering .given .1))
