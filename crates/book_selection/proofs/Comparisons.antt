@@ -245,41 +245,41 @@ module _ (limits : Limits) (book : List ℕ) (covering : ℕ) where
               ];
             }
 
-  pub all-compared : (count redundant : ℕ) → Preorder over (cardCount book) → count ≡ cardCount book →
-      ((k : ℕ) → has covering k ≡ true → k < count) → Compared limits book covering count redundant →
+  pub all-compared : (m redundant : ℕ) → Preorder over (cardCount book) → cardCount book ≤ m →
+      ((k : ℕ) → has covering k ≡ true → k < cardCount book) → Compared limits book covering m redundant →
       (i : ℕ) → has covering i ≡ true → has redundant i ≡ passed i
-  all-compared count redundant order counted inside so i a =
+  all-compared m redundant order past inside so i a =
       by-test (has redundant i) (λ h. h ∙ sym (so .sound i h))
       (λ h. h ∙ sym (by-test (passed i) (λ p. absurd (false≢true (sym h ∙ found p))) (λ p. p)))
     where
       -- of two cards of which one covers the other strictly one is redundant
       by-place : (j : ℕ) → has covering j ≡ true → strict over i j ≡ true → OneOf redundant i j
       by-place j b c = elim (decLt i j) [
-        | yes l ↦ turned (so .decided j i b a l (inl (inside j b)) (inr c))
+        | yes l ↦ turned (so .decided j i b a l (inl (omega (arith, inside j b, past))) (inr c))
         | no u ↦ elim (ℕ-discrete i j) [
           | yes e ↦ absurd (strict-not over i j e c)
-          | no v ↦ so .decided i j a b (omega (arith, u, v)) (inl (inside i a)) (inl c)
+          | no v ↦ so .decided i j a b (omega (arith, u, v)) (inl (omega (arith, inside i a, past))) (inl c)
         ]
       ]
 
       -- one that is passed over covers strictly one that is not
       found : passed i ≡ true → has redundant i ≡ true
       found p =
-          let (j, _, least, c) = strict-minimal over (cardCount book) (has covering) order i (omega (arith, inside i a, counted)) p in
+          let (j, _, least, c) = strict-minimal over (cardCount book) (has covering) order i (inside i a) p in
           let (b, kept) = minimal-is over (cardCount book) (has covering) j least in
           ⊎-elim {C = has redundant i ≡ true} (λ x. x) (λ x. absurd (false≢true (sym kept ∙ so .sound j x))) (by-place j b c)
 
 -- ---- the end: the covering cards without the redundant ones, and the work space cleared
 
-pub selected-bits : (limits : Limits) (book : List ℕ) (covering count redundant r : ℕ) →
-    Preorder (cardCovers limits book) (cardCount book) → count ≡ cardCount book →
-    ((k : ℕ) → has covering k ≡ true → k < count) → Compared limits book covering count redundant →
+pub selected-bits : (limits : Limits) (book : List ℕ) (covering m redundant r : ℕ) →
+    Preorder (cardCovers limits book) (cardCount book) → cardCount book ≤ m →
+    ((k : ℕ) → has covering k ≡ true → k < cardCount book) → Compared limits book covering m redundant →
     ((k : ℕ) → has r k ≡ (has covering k && not (has redundant k))) →
     (k : ℕ) → has r k ≡ (has covering k && not (passedOver (cardCovers limits book) (cardCount book) (has covering) k))
-selected-bits limits book covering count redundant r order counted inside so is k =
+selected-bits limits book covering m redundant r order past inside so is k =
     is k
     ∙ and-same (has covering k) (not (has redundant k)) (not (passedOver (cardCovers limits book) (cardCount book) (has covering) k))
-    (λ a. ap not (all-compared limits book covering count redundant order counted inside so k a))
+    (λ a. ap not (all-compared limits book covering m redundant order past inside so k a))
 
 pub cleared : (d end : List ℕ) (n size : ℕ) → n ≡ length d → length d ≡ size → end ≡ put d 0 (zeros (n - 0)) → end ≡ zeros size
 cleared d end n size e f is =

@@ -29,14 +29,12 @@ use Rattle.table.specs.Layout.{endSize, «place»}
 use Rattle.table.specs.declared.layout.Limits.{Limits}
 use Rattle.workspace.proofs.Halves.{put-upper, upper-part}
 use Rattle.workspace.specs.Prepare.{workSize}
-use Rattle.book.specs.Form.{card, mostCards}
+use Rattle.book.specs.Form.{card, cardCount, mostCards}
 use Rattle.book.specs.Selection.{cardCovers}
-use Rattle.book_form.specs.declared.form.Cards.{Cards}
 use Rattle.book_tables.proofs.Caches.{cached-few, tabled-at}
 use Rattle.book_tables.specs.Cache.{Cached, TableAt}
-use Rattle.book_tables.specs.Tables.{CardsTaken}
 use Rattle.book_selection.specs.Comparing.{Ordered}
-use Rattle.book_selection.specs.Standing.{Checkable, Inside, LowTable, Stands, areaOf, tableAt}
+use Rattle.book_selection.specs.Standing.{BookTaken, Checkable, Inside, LowTable, Stands, areaOf, tableAt}
 use Rattle.book_selection.specs.declared.compare.Order.{Order}
 use Rattle.book_selection.specs.declared.spot.Spot.{Spot}
 use Rattle.normal_writer.proofs.Tablings.{tabled-there}
@@ -162,11 +160,11 @@ module _ {limits : Limits} {book tables work : List ℕ} {low : Spot} {links : L
 
 -- ---- two of them
 
-module _ {limits : Limits} {book : List ℕ} {cards : Cards} (taken : CardsTaken limits book cards) (bounded : Bounded limits)
-    {tables work : List ℕ} {low high : Spot} (l : low .card < cards .count) (h : high .card < cards .count)
+module _ {limits : Limits} {book : List ℕ} (taken : BookTaken limits book) (bounded : Bounded limits)
+    {tables work : List ℕ} {low high : Spot} (l : low .card < cardCount book) (h : high .card < cardCount book)
     (a : Stands limits book tables work low) (b : Stands limits book tables work high) where
   covers-is : (u v : List ℕ) (i j : ℕ) → u ≡ normalFile limits (card book i) → v ≡ normalFile limits (card book j) →
-      i < cards .count → j < cards .count → rowMaps u v (limits .depth) 0 0 ≡ cardCovers limits book j i
+      i < cardCount book → j < cardCount book → rowMaps u v (limits .depth) 0 0 ≡ cardCovers limits book j i
   covers-is u v i j d e p q =
       ap (λ (x : List ℕ). rowMaps x v (limits .depth) 0 0) d
       ∙ ap (λ (x : List ℕ). rowMaps (normalFile limits (card book i)) x (limits .depth) 0 0) e

@@ -20,10 +20,8 @@ use Rattle.order.specs.Preorder.{passedOver, strict}
 use Rattle.book.specs.Form.{cardCount, mostCards}
 use Rattle.book.specs.Selection.{cardCovers}
 use Rattle.book_form.specs.Places.{WithEach}
-use Rattle.book_form.specs.declared.form.Cards.{Cards}
-use Rattle.book_tables.specs.Cache.{Cached, CardsCached, tableSize}
-use Rattle.book_tables.specs.Tables.{CardsTaken}
-use Rattle.book_selection.specs.Standing.{LowTable, Stands}
+use Rattle.book_tables.specs.Cache.{Cached, tableSize}
+use Rattle.book_selection.specs.Standing.{BookCached, BookTaken, LowTable, Stands}
 use Rattle.book_selection.specs.declared.compare.Order.{Order}
 use Rattle.book_selection.specs.declared.compare.Progress.{Progress}
 use Rattle.book_selection.specs.declared.spot.Spot.{Spot}
@@ -51,35 +49,35 @@ pub record ComparedTo (limits : Limits) (book : List ℕ) (covering m n redundan
 abbrev pub Compared : Limits → List ℕ → ℕ → ℕ → ℕ → Type 0
 Compared limits book covering m redundant = ComparedTo limits book covering m 0 redundant
 
-pub record PairRoom (limits : Limits) (book : List ℕ) (cards : Cards) (tables spans : List ℕ) (low : Spot) (links : List ℕ) (n : ℕ) (work : List ℕ) : Type 0 where
+pub record PairRoom (limits : Limits) (book tables spans : List ℕ) (low : Spot) (links : List ℕ) (n : ℕ) (work : List ℕ) : Type 0 where
   pub bounded : Bounded limits
-  pub cached : CardsCached limits book cards tables spans
+  pub cached : BookCached limits book tables spans
   pub low-table : LowTable limits book tables work low links
-  pub low-below : low .card < cards .count
-  pub below : n < cards .count
+  pub low-below : low .card < cardCount book
+  pub below : n < cardCount book
 
-pub record RowRoom (limits : Limits) (book : List ℕ) (cards : Cards) (tables spans : List ℕ) (covering : ℕ) (low : Spot) (redundant : ℕ) (work : List ℕ) : Type 0 where
+pub record RowRoom (limits : Limits) (book tables spans : List ℕ) (covering : ℕ) (low : Spot) (redundant : ℕ) (work : List ℕ) : Type 0 where
   pub bounded : Bounded limits
-  pub cached : CardsCached limits book cards tables spans
+  pub cached : BookCached limits book tables spans
   pub stands : Stands limits book tables work low
   pub first : low .cached ≡ false → low .start ≡ 0
-  pub below : low .card < cards .count
+  pub below : low .card < cardCount book
   pub covers : has covering (low .card) ≡ true
   pub compared : Compared limits book covering (low .card) redundant
   pub long : length work ≡ workSize limits
 
-pub record CardRoom (limits : Limits) (book : List ℕ) (cards : Cards) (tables spans : List ℕ) (covering m : ℕ) (progress : Progress) (work : List ℕ) : Type 0 where
+pub record CardRoom (limits : Limits) (book tables spans : List ℕ) (covering m : ℕ) (progress : Progress) (work : List ℕ) : Type 0 where
   pub bounded : Bounded limits
-  pub taken : CardsTaken limits book cards
+  pub taken : BookTaken limits book
   pub cached : Cached limits book tables spans (progress .at)
-  pub below : m < cards .count
+  pub below : m < cardCount book
   pub covers : has covering m ≡ true
   pub compared : Compared limits book covering m (progress .redundant)
   pub long : length work ≡ workSize limits
 
-pub record SelectRoom (limits : Limits) (book : List ℕ) (cards : Cards) (tables spans : List ℕ) (covering : ℕ) (work : List ℕ) : Type 0 where
+pub record SelectRoom (limits : Limits) (book tables spans : List ℕ) (covering : ℕ) (work : List ℕ) : Type 0 where
   pub bounded : Bounded limits
-  pub taken : CardsTaken limits book cards
+  pub taken : BookTaken limits book
   pub cached : Cached limits book tables spans tableSize
-  pub inside : (k : ℕ) → has covering k ≡ true → k < cards .count
+  pub inside : (k : ℕ) → has covering k ≡ true → k < cardCount book
   pub long : length work ≡ workSize limits

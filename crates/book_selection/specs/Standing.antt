@@ -4,6 +4,9 @@
 --   Stands      the table there is that of the spot's card
 --   Checkable   the table there has all that a search needs
 --   Facing      two tables, of which the first has its links
+--   BookTaken   the cards of a book have passed 2 to 14
+--   BookCached  and the tables are kept where the spans say
+--   Makeable    what making the table of card k needs
 --   Placeable   what finding the table of card k needs
 --   Keepable    what caching a table at the start of the work space needs
 --   LowTable    card m's table, with its links; in the work space it stands before the second half
@@ -16,12 +19,13 @@ use Rattle.table.specs.Bounds.{Bounded, maxRows, pictureSize}
 use Rattle.table.specs.Layout.{endSize, «place»}
 use Rattle.table.specs.Pick.{pick}
 use Rattle.table.specs.declared.layout.Limits.{Limits}
+use Rattle.picture.specs.Readable.{Readable}
+use Rattle.meaning.specs.NormalTable.{mergedCount}
 use Rattle.row_sets.specs.Rows.{Checked}
 use Rattle.homomorphism_search.specs.Search.{LinkedTable}
 use Rattle.workspace.specs.Prepare.{workSize}
-use Rattle.book.specs.Form.{card, mostCards}
-use Rattle.book_form.specs.declared.form.Cards.{Cards}
-use Rattle.book_tables.specs.Cache.{CardsCached, TableAt, tableIn}
+use Rattle.book.specs.Form.{card, cardCount, mostCards}
+use Rattle.book_tables.specs.Cache.{Cached, TableAt, tableIn}
 use Rattle.book_selection.specs.declared.spot.Spot.{Spot}
 
 abbrev pub areaOf : List ℕ → List ℕ → Spot → List ℕ
@@ -47,10 +51,25 @@ pub record Facing (tables work : List ℕ) (low : Spot) (links : List ℕ) (high
   pub linked : LinkedTable (tableAt tables work low) (low .rows) links
   pub high-table : Checkable tables work high
 
-pub record Placeable (limits : Limits) (book : List ℕ) (cards : Cards) (k : ℕ) (tables spans work : List ℕ) (from : ℕ) : Type 0 where
+pub record BookTaken (limits : Limits) (book : List ℕ) : Type 0 where
+  pub readable : (k : ℕ) → k < cardCount book → Readable limits (card book k)
+  pub few : (k : ℕ) → k < cardCount book → mergedCount limits (card book k) ≤ limits .rows
+
+pub record BookCached (limits : Limits) (book tables spans : List ℕ) : Type 0 where
+  pub taken : BookTaken limits book
+  pub at : ℕ
+  pub cache-is : Cached limits book tables spans at
+
+pub record Makeable (limits : Limits) (book : List ℕ) (k : ℕ) (out : List ℕ) : Type 0 where
   pub bounded : Bounded limits
-  pub cached : CardsCached limits book cards tables spans
-  pub below : k < cards .count
+  pub taken : BookTaken limits book
+  pub below : k < cardCount book
+  pub space : pictureSize limits ≤ length out
+
+pub record Placeable (limits : Limits) (book : List ℕ) (k : ℕ) (tables spans work : List ℕ) (from : ℕ) : Type 0 where
+  pub bounded : Bounded limits
+  pub cached : BookCached limits book tables spans
+  pub below : k < cardCount book
   pub room : from + pictureSize limits ≤ length work
 
 pub record Keepable (work : List ℕ) (spot : Spot) (at : ℕ) (tables spans : List ℕ) : Type 0 where

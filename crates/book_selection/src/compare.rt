@@ -6,7 +6,7 @@ use crate::spot::Spot;
 use crate::spot::cache_table;
 use crate::spot::find_table;
 use crate::spot::spot_table;
-use book_form::form::Cards;
+use book_form::form::MAX_CARDS;
 use book_form::word::with_card;
 use book_form::word::without;
 use book_tables::cache::SPANS;
@@ -92,7 +92,6 @@ fn compare_spots<'a>(
 // The card whose table stands low, and card n, whose table may be made in the second half of the work space.
 fn compare_pair(
     book: &[u8],
-    cards: Cards,
     limits: Limits,
     tables: &[u8],
     spans: &[usize; SPANS],
@@ -101,12 +100,12 @@ fn compare_pair(
     n: usize,
     work: &mut [u8],
 ) -> Order
-    requires { ⌜ PairRoom limits (now book) cards (now tables) (now spans) low (now links) n (now work) ⌝ }
+    requires { ⌜ PairRoom limits (now book) (now tables) (now spans) low (now links) n (now work) ⌝ }
     ensures { λ r. ⌜ (Ordered limits (now (book .entry)) (low .card) n r)
         × (LowTable limits (now (book .entry)) (now (tables .entry)) (now (work .exit)) low (now (links .entry))) ⌝ }
 {
     let half = half_size(limits);
-    let high = find_table(book, cards, n, limits, tables, spans, work, half);
+    let high = find_table(book, n, limits, tables, spans, work, half);
     compare_spots(tables, work, low, links, high, limits.depth)
 }
 
@@ -130,7 +129,6 @@ fn mark_passed(redundant: u32, m: usize, n: usize, order: Order) -> u32
 // The card whose table stands low, with the earlier ones, until it covers one of them.
 fn compare_row(
     book: &[u8],
-    cards: Cards,
     limits: Limits,
     tables: &[u8],
     spans: &[usize; SPANS],
@@ -139,7 +137,7 @@ fn compare_row(
     redundant: u32,
     work: &mut [u8],
 ) -> u32
-    requires { ⌜ RowRoom limits (now book) cards (now tables) (now spans) covering low redundant (now work) ⌝ }
+    requires { ⌜ RowRoom limits (now book) (now tables) (now spans) covering low redundant (now work) ⌝ }
     ensures { λ r. ⌜ (Compared limits (now (book .entry)) covering (low .card + 1) r)
         × (length (now (work .exit)) ≡ length (now (work .entry))) ⌝ }
 {
@@ -149,7 +147,7 @@ fn compare_row(
     let mut word = redundant;
     let mut n = next_card(without(covering, word), 0);
     while n < m {
-        let order = compare_pair(book, cards, limits, tables, spans, low, &links, n, work);
+        let order = compare_pair(book, limits, tables, spans, low, &links, n, work);
         word = mark_passed(word, m, n, order);
         if order.over {
             return word;
@@ -162,7 +160,6 @@ fn compare_row(
 // Card m, which covers the case, with the earlier ones. Its table is cached for the later ones, if there is room.
 fn compare_card(
     book: &[u8],
-    cards: Cards,
     limits: Limits,
     tables: &mut [u8],
     spans: &mut [usize; SPANS],
@@ -171,16 +168,15 @@ fn compare_card(
     progress: Progress,
     work: &mut [u8],
 ) -> Progress
-    requires { ⌜ CardRoom limits (now book) cards (now tables) (now spans) covering m progress (now work) ⌝ }
+    requires { ⌜ CardRoom limits (now book) (now tables) (now spans) covering m progress (now work) ⌝ }
     ensures { λ r. ⌜ ((Compared limits (now (book .entry)) covering (m + 1) (r .redundant))
         × (Cached limits (now (book .entry)) (now (tables .exit)) (now (spans .exit)) (r .at)))
         × ((length (now (tables .exit)) ≡ length (now (tables .entry))) × (length (now (work .exit)) ≡ length (now (work .entry)))) ⌝ }
 {
-    let low = find_table(book, cards, m, limits, tables, spans, work, 0);
+    let low = find_table(book, m, limits, tables, spans, work, 0);
     let at = cache_table(work, low, progress.at, tables, spans);
     let redundant = compare_row(
         book,
-        cards,
         limits,
         tables,
         spans,
@@ -195,26 +191,24 @@ fn compare_card(
 // Those of the covering cards that are passed over.
 fn compare_cards(
     book: &[u8],
-    cards: Cards,
     limits: Limits,
     tables: &mut [u8],
     spans: &mut [usize; SPANS],
     covering: u32,
     work: &mut [u8],
 ) -> u32
-    requires { ⌜ SelectRoom limits (now book) cards (now tables) (now spans) covering (now work) ⌝ }
-    ensures { λ r. ⌜ (Compared limits (now (book .entry)) covering (cards .count) r) × (length (now (work .exit)) ≡ length (now (work .entry))) ⌝ }
+    requires { ⌜ SelectRoom limits (now book) (now tables) (now spans) covering (now work) ⌝ }
+    ensures { λ r. ⌜ (Compared limits (now (book .entry)) covering mostCards r) × (length (now (work .exit)) ≡ length (now (work .entry))) ⌝ }
 {
     let mut progress = Progress {
         redundant: 0,
         at: TABLE,
     };
     let mut m = next_card(covering, 0);
-    while m < cards.count {
+    while m < MAX_CARDS {
         progress = compare_card(
             book,
-            cards,
-            limits,
+                limits,
             tables,
             spans,
             covering,
@@ -230,18 +224,17 @@ fn compare_cards(
 // The covering cards that are not passed over; the work space is cleared.
 pub fn select_cards(
     book: &[u8],
-    cards: Cards,
     limits: Limits,
     tables: &mut [u8],
     spans: &mut [usize; SPANS],
     covering: u32,
     work: &mut [u8],
 ) -> u32
-    requires { ⌜ SelectRoom limits (now book) cards (now tables) (now spans) covering (now work) ⌝ }
+    requires { ⌜ SelectRoom limits (now book) (now tables) (now spans) covering (now work) ⌝ }
     ensures { λ r. ⌜ ((k : ℕ) → has r k ≡ (has covering k && not (passedOver (cardCovers limits (now (book .entry))) (cardCount (now (book .entry))) (has covering) k)))
         × (now (work .exit) ≡ zeros (workSize limits)) ⌝ }
 {
-    let redundant = compare_cards(book, cards, limits, tables, spans, covering, work);
+    let redundant = compare_cards(book, limits, tables, spans, covering, work);
     clear(work, 0, work.len());
     without(covering, redundant)
 }

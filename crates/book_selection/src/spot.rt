@@ -1,8 +1,8 @@
 // Where the table of a card stands while cards are compared: in the tables, or in the work space, where it is made if
 // the tables has had no room for it.
-use book_form::form::Cards;
 use book_form::form::MAX_CARDS;
 use book_form::form::card;
+use book_form::form::find_cards;
 use book_tables::cache::SPANS;
 use book_tables::cache::store;
 use book_tables::cache::table_at;
@@ -13,8 +13,10 @@ ghost use mathlib.Core.Path.{_≡_};
 ghost use mathlib.Core.Bool.{false};
 ghost use Prim.Native.Nat.{ℕ};
 ghost use lib.ListN.{length, take};
+ghost use Rattle.book.specs.Form.{«card»};
+ghost use Rattle.normal_writer.specs.Tables.{Tabled};
 ghost use Rattle.book_tables.specs.Cache.{Cached};
-ghost use Rattle.book_selection.specs.Standing.{Inside, Keepable, Placeable, Stands, tableAt};
+ghost use Rattle.book_selection.specs.Standing.{Inside, Keepable, Makeable, Placeable, Stands, tableAt};
 
 pub struct Spot {
     pub card: usize,
@@ -34,10 +36,19 @@ pub fn spot_table<'a>(tables: &'a [u8], work: &'a [u8], spot: Spot) -> &'a [u8]
     table_at(work, spot.start, spot.rows)
 }
 
+// Makes the table of card k at the start of a lent part, and gives its rows. The card is looked for anew: no place of a
+// card is kept for the few tables that are not cached.
+fn make_table(book: &[u8], k: usize, limits: Limits, out: &mut [u8]) -> usize
+    requires { ⌜ Makeable limits (now book) k (now out) ⌝ }
+    ensures { λ r. ⌜ Tabled limits («card» (now (book .entry)) k) (now (out .entry)) r (now (out .exit)) ⌝ }
+{
+    let cards = find_cards(book);
+    normal_table(card(book, cards, k), limits, out)
+}
+
 // Where card k's table stands; if it is not cached it is made in the work space, from a byte on.
 pub fn find_table(
     book: &[u8],
-    cards: Cards,
     k: usize,
     limits: Limits,
     tables: &[u8],
@@ -45,13 +56,13 @@ pub fn find_table(
     work: &mut [u8],
     from: usize,
 ) -> Spot
-    requires { ⌜ Placeable limits (now book) cards k (now tables) (now spans) (now work) from ⌝ }
+    requires { ⌜ Placeable limits (now book) k (now tables) (now spans) (now work) from ⌝ }
     ensures { λ r. ⌜ ((Stands limits (now (book .entry)) (now (tables .entry)) (now (work .exit)) r) × (r .card ≡ k) × (r .cached ≡ false → r .start ≡ from))
         × ((take from (now (work .exit)) ≡ take from (now (work .entry))) × (length (now (work .exit)) ≡ length (now (work .entry)))) ⌝ }
 {
     let rows = spans[MAX_CARDS + k];
     if rows == 0 {
-        let made = normal_table(card(book, cards, k), limits, &mut work[from..]);
+        let made = make_table(book, k, limits, &mut work[from..]);
         return Spot {
             card: k,
             cached: false,

@@ -38,7 +38,8 @@ use Rattle.book.specs.Call.{bookAsked, cardMerged, cardRead, mostSpecificAnswer
 use Rattle.book.specs.Form.{bookForm, card, cardCount}
 use Rattle.order.specs.Preorder.{minimal, passedOver, strict}
 use Rattle.book.specs.Selection.{cardCovers, cardWord, caseCovered, mostSpecific, mostSpecificCards}
-use Rattle.book_tables.specs.Tables.{CardsRead, CardsTaken, selectedOn}
+use Rattle.book_selection.specs.Standing.{BookTaken}
+use Rattle.book_tables.specs.Tables.{CardsRead, selectedOn}
 use Rattle.most_specific.specs.Asking.{afterCards, afterCase}
 use Rattle.book_form.specs.Places.{Placed}
 use Rattle.book_form.specs.declared.form.Cards.{Cards}
@@ -149,13 +150,15 @@ module _ (limits : Limits) (case book : List ℕ) (cards : Cards) (so : CardsRea
       pub found-all : afterCards limits case book ≡ Yes
       found-all = merged-is ∙ parts .0
 
-      pub found-taken : CardsTaken limits book cards
+      pub found-taken : BookTaken limits book
       found-taken =
+          let cards-merged = and-yes (mergedAsked limits First case) (askedFrom (cardMerged limits book) (cards .count) 0) .0 (parts .0) .1 in
+          let counted = so .places-are .counted in
           record {
-            cards-read = so;
+            readable = λ k l. so .readable k (omega (arith, l, counted));
             few = λ k l.
-                let cards-merged = and-yes (mergedAsked limits First case) (askedFrom (cardMerged limits book) (cards .count) 0) .0 (parts .0) .1 in
-                merged-decides limits (Card k) (card book k) .yes .0 (yes-to (cardMerged limits book) (cards .count) cards-merged k l);
+                merged-decides limits (Card k) (card book k) .yes .0
+                (yes-to (cardMerged limits book) (cards .count) cards-merged k (omega (arith, l, counted)));
           }
 
 -- ---- 24, and 2 to 13 of the cards

@@ -65,7 +65,6 @@ fn select(case: &[u8], book: &[u8], cards: Cards, limits: Limits, work: &mut [u8
             let size = half + half;
             Selected::Cards(select_cards(
                 book,
-                cards,
                 limits,
                 &mut tables,
                 &mut spans,

@@ -4,6 +4,7 @@ use native.Mathlib.Omega.{arith}
 use denote.Ref.{now}
 use mathlib.Core.Path.{_∙_, ap, subst, sym}
 use Rattle.table.specs.NameSet.{has}
+use Rattle.book.proofs.Forms.{count-most}
 use Rattle.book_tables.specs.Cache.{Cached}
 use Rattle.book_selection.specs.Comparing.{Compared}
 use Rattle.book_selection.specs.Standing.{Stands}
@@ -36,8 +37,8 @@ cache-table-requires c κs =
     record {
       few = stands .inside .few;
       first = find .ensures .0 .2;
-      whole = λ outside. stands-whole (a .limits) (now (a .book)) (find .last .1 .1 .1 .1 .1 .1 .0) (find .result) (now (a .tables)) outside stands;
-      below = omega (arith, find .ensures .0 .1, pre .below, pre .taken .cards-read .places-are .most);
+      whole = λ outside. stands-whole (a .limits) (now (a .book)) (find .last .1 .1 .1 .1 .1 .0) (find .result) (now (a .tables)) outside stands;
+      below = omega (arith, find .ensures .0 .1, pre .below, count-most (now (a .book)));
       inside = pre .cached .long;
       spanned = pre .cached .spanned;
     }
@@ -48,7 +49,7 @@ kept : (c : tie.After-cache-table) →
     let a = entry found .args in
     let tables = c .cache-table .last .1 .1 .1 .0 in
     (Cached (a .limits) (now (a .book)) tables (c .cache-table .last .1 .1 .1 .1 .0) (c .cache-table .result))
-    × (Stands (a .limits) (now (a .book)) tables (found .find-table .last .1 .1 .1 .1 .1 .1 .0) (found .find-table .result))
+    × (Stands (a .limits) (now (a .book)) tables (found .find-table .last .1 .1 .1 .1 .1 .0) (found .find-table .result))
 kept c =
     let found = c .before .before .before .before .before .before in
     let a = entry found .args in

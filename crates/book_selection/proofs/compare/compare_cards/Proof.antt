@@ -16,19 +16,16 @@ use Rattle.book_selection.proofs.compare.compare_cards.Statement.{state
 use Rattle.book_selection.proofs.compare.compare_cards.Tie as tie
 
 abbrev Inv-loop : tie.InvT-loop
-Inv-loop book cards limits cache₀ spans₀ covering work₀ progress₀ m₀ tables spans work progress m =
-    ((m < cards .count → has covering m ≡ true)
+Inv-loop book limits cache₀ spans₀ covering work₀ progress₀ m₀ tables spans work progress m =
+    ((m < mostCards → has covering m ≡ true)
     × (Compared limits book covering m (progress .redundant) × Cached limits book tables spans (progress .at)))
     × ((length tables ≡ length cache₀) × (length work ≡ workSize limits))
 
 abbrev μ-loop : tie.MeasureT-loop
-μ-loop book cards limits cache₀ spans₀ covering work₀ progress₀ m₀ tables spans work progress m = cards .count - m
+μ-loop book limits cache₀ spans₀ covering work₀ progress₀ m₀ tables spans work progress m = mostCards - m
 
 next-card-requires : tie.Need-next-card-requires Inv-loop μ-loop
 next-card-requires c κs = omega arith
-
-most : (c : tie.Start Inv-loop μ-loop) → c .args .cards .count ≤ mostCards
-most c = c .pre .taken .cards-read .places-are .most
 
 loop-holds : tie.Need-loop-holds Inv-loop μ-loop
 loop-holds c =
@@ -36,7 +33,7 @@ loop-holds c =
     let a = start .args in
     let next = c .next-card in (
       (
-        λ l. next .ensures .there (omega (arith, l, most start)),
+        next .ensures .there,
         (
           rows-left (a .limits) (now (a .book)) (a .covering) 0 (next .result) 0 (next .ensures .none) (none-compared (a .limits) (now (a .book)) (a .covering)),
           start .pre .cached,
@@ -47,14 +44,14 @@ loop-holds c =
 
 compare-card-requires : tie.Need-compare-card-requires Inv-loop μ-loop
 compare-card-requires c κs =
-    let pre = c .before .before .before .before .before .before .before .before .before .before .pre in
-    let inv = c .before .before .before .before .before .loop .inv in
-    let less = c .before .before .before .if1 .taken in
+    let pre = c .before .before .before .before .before .before .before .before .before .pre in
+    let inv = c .before .before .before .before .loop .inv in
+    let less = c .before .before .before .loop-test .taken in
     record {
       bounded = pre .bounded;
       taken = pre .taken;
       cached = inv .0 .1 .1;
-      below = less;
+      below = pre .inside (c .before .before .before .before .loop .m) (inv .0 .0 less);
       covers = inv .0 .0 less;
       compared = inv .0 .1 .0;
       long = inv .1 .1;
@@ -62,19 +59,19 @@ compare-card-requires c κs =
 
 -- the ways back from the card that was compared
 abbrev entry : (c : tie.After-compare-card Inv-loop μ-loop) → tie.Start Inv-loop μ-loop
-entry c = c .before .before .before .before .before .before .before .before .before .before .before
+entry c = c .before .before .before .before .before .before .before .before .before .before
 
 abbrev head : (c : tie.After-compare-card Inv-loop μ-loop) → tie.At-loop Inv-loop μ-loop
-head c = c .before .before .before .before .before .before
+head c = c .before .before .before .before .before
 
-less : (c : tie.After-compare-card Inv-loop μ-loop) → head c .loop .m < entry c .args .cards .count
-less c = c .before .before .before .before .if1 .taken
+less : (c : tie.After-compare-card Inv-loop μ-loop) → head c .loop .m < mostCards
+less c = c .before .before .before .before .loop-test .taken
 
 add-next-card : tie.Need-add-next-card Inv-loop μ-loop
-add-next-card c = let card = c .before .before .before .before in omega (arith, less card, most (entry card))
+add-next-card c = let card = c .before .before .before .before in omega (arith, less card)
 
 next-card-requires-2 : tie.Need-next-card-requires-2 Inv-loop μ-loop
-next-card-requires-2 c κs = let card = c .before .before .before .before in omega (arith, less card, most (entry card))
+next-card-requires-2 c κs = let card = c .before .before .before .before in omega (arith, less card)
 
 loop-less : tie.Need-loop-less Inv-loop μ-loop
 loop-less c = omega (arith, c .next-card2 .ensures .later, less (c .before .before .before .before .before))
@@ -87,7 +84,7 @@ loop-again c =
     let done = card .compare-card .ensures in
     let next = c .next-card2 in (
       (
-        λ l. next .ensures .there (omega (arith, l, most (entry card))),
+        next .ensures .there,
         (
           rows-left (a .limits) (now (a .book)) (a .covering) (head card .loop .m + 1) (next .result) (card .compare-card .result .redundant)
               (next .ensures .none) (done .0 .0),
@@ -98,18 +95,18 @@ loop-again c =
     )
 
 same-length : tie.Need-same-length Inv-loop μ-loop
-same-length c = c .before .before .loop .inv .1 .0
+same-length c = c .before .loop .inv .1 .0
 
 same-length-2 : tie.Need-same-length-2 Inv-loop μ-loop
-same-length-2 c = c .before .before .loop .inv .1 .1 ∙ sym (c .before .before .before .before .before .before .before .pre .long)
+same-length-2 c = c .before .loop .inv .1 .1 ∙ sym (c .before .before .before .before .before .before .pre .long)
 
 returns : tie.Need-returns Inv-loop μ-loop
 returns c =
-    let start = c .before .before .before .before .before .before .before in
+    let start = c .before .before .before .before .before .before in
     let a = start .args in
-    let l = c .before .before .loop in (
-      rows-left (a .limits) (now (a .book)) (a .covering) (l .m) (a .cards .count) (l .progress .redundant)
-          (λ k p q. absurd (omega (arith, p, q, c .if1 .left))) (l .inv .0 .1 .0),
+    let l = c .before .loop in (
+      rows-left (a .limits) (now (a .book)) (a .covering) (l .m) mostCards (l .progress .redundant)
+          (λ k p q. absurd (omega (arith, p, q, c .loop-test .left))) (l .inv .0 .1 .0),
       l .inv .1 .1 ∙ sym (start .pre .long),
     )
 

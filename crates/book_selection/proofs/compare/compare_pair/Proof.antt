@@ -27,11 +27,11 @@ abbrev entry : (c : tie.After-find-table) → tie.Start
 entry c = c .before .before .before .before .before .before
 
 kept : (c : tie.After-find-table) → let a = entry c .args in
-    LowTable (a .limits) (now (a .book)) (now (a .tables)) (c .find-table .last .1 .1 .1 .1 .1 .1 .0) (a .low) (now (a .links))
+    LowTable (a .limits) (now (a .book)) (now (a .tables)) (c .find-table .last .1 .1 .1 .1 .1 .0) (a .low) (now (a .links))
 kept c =
     let find = c .find-table in
     let half = c .before .before .half-size in
-    low-kept (entry c .pre .low-table) (find .last .1 .1 .1 .1 .1 .1 .0) (half .result) (half .ensures) (find .ensures .1 .0) (find .ensures .1 .1)
+    low-kept (entry c .pre .low-table) (find .last .1 .1 .1 .1 .1 .0) (half .result) (half .ensures) (find .ensures .1 .0) (find .ensures .1 .1)
 
 compare-spots-requires : tie.Need-compare-spots-requires
 compare-spots-requires c κs =

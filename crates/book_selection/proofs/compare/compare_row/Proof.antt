@@ -8,8 +8,9 @@ use mathlib.Core.Bool.{false, true}
 use mathlib.Core.Path.{_∙_, _≡_, refl, sym}
 use Rattle.table.specs.NameSet.{has}
 use Rattle.table_rows.proofs.Stores.{blank}
+use Rattle.book.proofs.Forms.{count-most}
 use Rattle.book.proofs.Selections.{cards-preorder}
-use Rattle.book.specs.Form.{cardCount, mostCards}
+use Rattle.book.specs.Form.{mostCards}
 use Rattle.book_selection.specs.Comparing.{ComparedTo, Paired}
 use Rattle.book_selection.specs.Standing.{LowTable}
 use Rattle.book_selection.proofs.Comparisons.{pair-compared, paired, row-ended, row-next, row-stopped}
@@ -18,12 +19,12 @@ use Rattle.book_selection.proofs.compare.compare_row.Statement.{stateme
 use Rattle.book_selection.proofs.compare.compare_row.Tie as tie
 
 abbrev Inv-loop : tie.InvT-loop
-Inv-loop book cards limits tables spans covering low redundant work₀ m links word₀ n₀ work word n =
+Inv-loop book limits tables spans covering low redundant work₀ m links word₀ n₀ work word n =
     ((n < low .card → (has covering n ≡ true) × (has word n ≡ false)) × ComparedTo limits book covering (low .card) n word)
     × LowTable limits book tables work low links
 
 abbrev μ-loop : tie.MeasureT-loop
-μ-loop book cards limits tables spans covering low redundant work₀ m links word₀ n₀ work word n = low .card - n
+μ-loop book limits tables spans covering low redundant work₀ m links word₀ n₀ work word n = low .card - n
 
 link-table-requires : tie.Need-link-table-requires Inv-loop μ-loop
 link-table-requires c κs =
@@ -38,7 +39,7 @@ next-card-requires c κs = omega arith
 
 -- a card of the book is one of 32
 small : (c : tie.Start Inv-loop μ-loop) → c .args .low .card < mostCards
-small c = omega (arith, c .pre .below, c .pre .cached .taken .cards-read .places-are .most)
+small c = omega (arith, c .pre .below, count-most (now (c .args .book)))
 
 loop-holds : tie.Need-loop-holds Inv-loop μ-loop
 loop-holds c =
@@ -92,9 +93,6 @@ marked c =
     paired (a .limits) (now (a .book)) (a .low .card) (l .n) (l .word) (c .mark-passed .result) (pair .compare-pair .result) (pair .compare-pair .ensures .0)
     (c .mark-passed .ensures)
 
-inside : (c : tie.Start Inv-loop μ-loop) → c .args .low .card < cardCount (now (c .args .book))
-inside c = omega (arith, c .pre .below, c .pre .cached .taken .cards-read .places-are .counted)
-
 same-length : tie.Need-same-length Inv-loop μ-loop
 same-length c =
     let pair = c .before .before .before .before in pair .compare-pair .ensures .1 .long ∙ sym (entry pair .pre .long)
@@ -105,11 +103,10 @@ returns c =
     let start = entry pair in
     let a = start .args in
     let l = head pair .loop in
-    let here = l .inv .0 .0 (less pair) in
-    let counted = start .pre .cached .taken .cards-read .places-are .counted in (
+    let here = l .inv .0 .0 (less pair) in (
       row-stopped (a .limits) (now (a .book)) (a .covering) (a .low .card) (l .word) (l .n) (c .before .mark-passed .result) (l .inv .0 .1) (less pair)
-          (inside start) (start .pre .covers) (here .0) (marked (c .before))
-          (cards-preorder (a .limits) (now (a .book)) (λ k m. start .pre .cached .taken .cards-read .readable k (omega (arith, m, counted))))
+          (start .pre .below) (start .pre .covers) (here .0) (marked (c .before))
+          (cards-preorder (a .limits) (now (a .book)) (start .pre .cached .taken .readable))
           (sym (pair .compare-pair .ensures .0 .0) ∙ c .if1 .taken) (here .1),
       pair .compare-pair .ensures .1 .long ∙ sym (start .pre .long),
     )
@@ -136,7 +133,7 @@ loop-again c =
     let here = l .inv .0 .0 (less pair) in (
       row-next (a .limits) (now (a .book)) (a .covering) (a .low .card) word (c .before .without2 .result) (l .n + 1) (c .next-card2 .result)
           (c .before .without2 .ensures) (c .next-card2 .ensures) (small start)
-          (pair-compared (a .limits) (now (a .book)) (a .covering) (a .low .card) (l .word) (l .n) word (l .inv .0 .1) (less pair) (inside start)
+          (pair-compared (a .limits) (now (a .book)) (a .covering) (a .low .card) (l .word) (l .n) word (l .inv .0 .1) (less pair) (start .pre .below)
           (start .pre .covers) (here .0) (marked (c .before .before .before))),
       pair .compare-pair .ensures .1,
     )

@@ -1,9 +1,10 @@
 -- What is left of the covering cards are the most specific; the work space is cleared from its first byte to its last.
-use native.Mathlib.Omega.{arith}
 use denote.Ref.{now}
 use mathlib.Core.Path.{_∙_, refl}
 use Rattle.workspace.specs.Prepare.{workSize}
+use Rattle.book.proofs.Forms.{count-most}
 use Rattle.book.proofs.Selections.{cards-preorder}
+use Rattle.book.specs.Form.{mostCards}
 use Rattle.book_selection.proofs.Comparisons.{cleared, selected-bits}
 use borrow.Author.Needs.{needs}
 use Rattle.book_selection.proofs.compare.select_cards.Statement.{statement}
@@ -30,11 +31,9 @@ returns c =
     let start = compared .before .before .before .before .before .before .before in
     let a = start .args in
     let pre = start .pre in
-    let counted = pre .taken .cards-read .places-are .counted in
     let clear = c .before .before .before .clear in (
-      selected-bits (a .limits) (now (a .book)) (a .covering) (a .cards .count) (compared .compare-cards .result) (c .without .result)
-          (cards-preorder (a .limits) (now (a .book)) (λ k l. pre .taken .cards-read .readable k (omega (arith, l, counted))))
-          counted (pre .inside) (compared .compare-cards .ensures .0) (c .without .ensures),
+      selected-bits (a .limits) (now (a .book)) (a .covering) mostCards (compared .compare-cards .result) (c .without .result)
+          (cards-preorder (a .limits) (now (a .book)) (pre .taken .readable)) (count-most (now (a .book))) (pre .inside) (compared .compare-cards .ensures .0) (c .without .ensures),
       cleared _ (clear .last .0) _ (workSize (a .limits)) refl (compared .compare-cards .ensures .1 ∙ pre .long) (clear .ensures),
     )
 

@@ -1,69 +1,76 @@
 -- A table that is cached stands in the tables; another is made in the part of the work space that is lent.
+use Prim.Native.Nat.{_<_}
 use native.Mathlib.Omega.{arith}
 use denote.Ref.{now}
 use mathlib.Core.Bool.{false≢true}
 use mathlib.Core.Path.{_∙_, refl, sym}
-use Rattle.book_tables.proofs.CardTables.{card-room, card-tabled}
+use Rattle.book.proofs.Forms.{count-most}
+use Rattle.book.specs.Form.{mostCards}
 use Rattle.book_selection.proofs.Standings.{cached-stands, made-before, made-long, made-stands, part-long}
 use borrow.Author.Needs.{needs}
 use Rattle.book_selection.proofs.spot.find_table.Statement.{statement}
 use Rattle.book_selection.proofs.spot.find_table.Tie as tie
 
+-- a card of the book is one of 32
+small : (c : tie.Start) → c .args .k < mostCards
+small c = omega (arith, c .pre .below, count-most (now (c .args .book)))
+
 add-rows : tie.Need-add-rows
-add-rows c = search needs
+add-rows c = omega (arith, small (c .before .before .before))
 
 mul-rows : tie.Need-mul-rows
-mul-rows c = search needs
+mul-rows c = omega (arith, small (c .before .before .before))
 
 element-copy-out-rows : tie.Need-element-copy-out-rows
-element-copy-out-rows c = search needs
+element-copy-out-rows c = omega (arith, small (c .before .before .before), c .before .before .before .pre .cached .cache-is .spanned)
 
-card-requires : tie.Need-card-requires
-card-requires c κs = search needs
+sub-make-table : tie.Need-sub-make-table
+sub-make-table c = search needs
 
-sub-normal-table : tie.Need-sub-normal-table
-sub-normal-table c = search needs
+part-make-table-start : tie.Need-part-make-table-start
+part-make-table-start c = search needs
 
-part-normal-table-start : tie.Need-part-normal-table-start
-part-normal-table-start c = search needs
+part-make-table-end : tie.Need-part-make-table-end
+part-make-table-end c = search needs
 
-part-normal-table-end : tie.Need-part-normal-table-end
-part-normal-table-end c = search needs
-
-normal-table-requires : tie.Need-normal-table-requires
-normal-table-requires c κs =
-    let start = c .before .before .before .before .before .before .before in
+make-table-requires : tie.Need-make-table-requires
+make-table-requires c κs =
+    let start = c .before .before .before .before .before .before in
     let pre = start .pre in
-    card-room (pre .cached .taken .cards-read) (pre .below) (pre .bounded) (c .before .card .ensures)
-    (omega (arith, part-long (now (start .args .work)) (start .args .from), pre .room))
+    record {
+      bounded = pre .bounded;
+      taken = pre .cached .taken;
+      below = pre .below;
+      space = omega (arith, part-long (now (start .args .work)) (start .args .from), pre .room);
+    }
 
 same-length : tie.Need-same-length
 same-length c = search needs
 
 returns : tie.Need-returns
 returns c =
-    let start = c .before .before .before .before .before .before .before .before .before .before in
+    let start = c .before .before .before .before .before .before .before .before .before in
     let a = start .args in
     let pre = start .pre in
-    let made = c .before .before .normal-table in
+    let made = c .before .before .make-table in
     let few = pre .cached .taken .few (a .k) (pre .below) in
-    let tabled = card-tabled (pre .cached .taken .cards-read) (pre .below) (c .before .before .before .before .card .ensures) (made .ensures) in (
+    let end = made .last .1 .1 .1 .0 in (
       (
-        made-stands (a .limits) (now (a .book)) (now (a .tables)) (now (a .work)) (a .from) (a .k) (made .result) (made .last .1 .1 .0) (pre .bounded) few (pre .room) tabled,
+        made-stands (a .limits) (now (a .book)) (now (a .tables)) (now (a .work)) (a .from) (a .k) (made .result) end (pre .bounded) few (pre .room) (made .ensures),
         refl,
         λ _. refl,
       ),
       (
-        made-before (now (a .work)) (a .from) (made .last .1 .1 .0) (omega (arith, pre .room)),
-        made-long (now (a .work)) (a .from) (made .last .1 .1 .0) (omega (arith, pre .room)) (tabled .same ∙ part-long (now (a .work)) (a .from)),
+        made-before (now (a .work)) (a .from) end (omega (arith, pre .room)),
+        made-long (now (a .work)) (a .from) end (omega (arith, pre .room)) (made .ensures .same ∙ part-long (now (a .work)) (a .from)),
       ),
     )
 
 mul-start : tie.Need-mul-start
-mul-start c = search needs
+mul-start c = omega (arith, small (c .before .before .before .before .before))
 
 element-copy-out-start : tie.Need-element-copy-out-start
-element-copy-out-start c = search needs
+element-copy-out-start c = omega (arith, small (c .before .before .before .before .before), c .before .before .before .before .before .pre .cached .cache-is .spanned)
 
 returns-2 : tie.Need-returns-2
 returns-2 c =
@@ -72,7 +79,7 @@ returns-2 c =
     let pre = start .pre in (
       (
         cached-stands (a .limits) (now (a .book)) (now (a .tables)) (now (a .spans)) (pre .cached .at) (pre .bounded) (pre .cached .cache-is) (now (a .work)) (a .k)
-            (omega (arith, pre .below, pre .cached .taken .cards-read .places-are .most)) (c .before .if1 .left),
+            (small start) (c .before .if1 .left),
         refl,
         λ e. absurd (false≢true (sym e)),
       ),
@@ -86,11 +93,10 @@ find-table-spec =
     add-rows
     mul-rows
     element-copy-out-rows
-    card-requires
-    sub-normal-table
-    part-normal-table-start
-    part-normal-table-end
-    normal-table-requires
+    sub-make-table
+    part-make-table-start
+    part-make-table-end
+    make-table-requires
     same-length
     returns
     mul-start

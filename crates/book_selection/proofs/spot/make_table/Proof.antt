@@ -1,0 +1,41 @@
+-- The card is the part of the book that is looked up.
+use native.Mathlib.Omega.{arith}
+use denote.Ref.{now}
+use mathlib.Core.Path.{subst, sym}
+use Rattle.picture.specs.Readable.{Readable}
+use Rattle.book.specs.Form.{card}
+use Rattle.normal_writer.specs.Tables.{Tabled}
+use borrow.Author.Needs.{needs}
+use Rattle.book_selection.proofs.spot.make_table.Statement.{statement}
+use Rattle.book_selection.proofs.spot.make_table.Tie as tie
+
+find-cards-requires : tie.Need-find-cards-requires
+find-cards-requires c κs = search needs
+
+card-requires : tie.Need-card-requires
+card-requires c κs =
+    let placed = c .find-cards .ensures in (placed, omega (arith, placed .counted, c .before .before .before .pre .below))
+
+normal-table-requires : tie.Need-normal-table-requires
+normal-table-requires c κs =
+    let start = c .before .before .before .before .before in
+    let a = start .args in
+    let pre = start .pre in
+    record {
+      bounded = pre .bounded;
+      readable = subst (λ s. Readable (a .limits) s) (sym (c .before .card .ensures)) (pre .taken .readable (a .k) (pre .below));
+      space = pre .space;
+    }
+
+same-length : tie.Need-same-length
+same-length c = search needs
+
+returns : tie.Need-returns
+returns c =
+    let a = c .before .before .before .before .before .before .before .before .args in
+    let made = c .before .before .normal-table in
+    subst (λ s. Tabled (a .limits) s (now (a .out)) (made .result) (made .last .1 .1 .0)) (c .before .before .before .before .card .ensures) (made .ensures)
+
+pub make-table-spec : {M : Type 1} → statement M
+make-table-spec =
+    tie.close (tie.spec find-cards-requires card-requires normal-table-requires same-length returns)
