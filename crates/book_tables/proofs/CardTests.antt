@@ -5,7 +5,8 @@
 --   test-long                  the bytes are as many as before
 --   testable, addable          it can be tested, and added to the subsumers
 --   test-next                  what was tested with it
---   case-many                  once the case's table is made there: 14 of the case is answered no
+--   case-room                  there is room for the case's table at the end. Once it is made there:
+--   case-many                  14 of the case is answered no
 --   case-long, case-checked    it has all that testing the cards needs
 --   case-tested                it is the case's, so what was found of it is the answer
 use Prim.Native.Nat.{_*_, _+_, _-_, _<_, _^_, _≤_, ℕ}
@@ -209,6 +210,11 @@ by-cards limits case book count bounded few Yes e =
     (merged-decides limits (Card k) (card book k) .yes .0 (yes-to (cardMerged limits book) count e k l))))
 by-cards limits case book count bounded few (No r) e = refl
 
+pub case-room : (limits : Limits) (tables : List ℕ) → length tables ≡ tablesSize → Bounded limits →
+    pictureSize limits ≤ length (midOf casePlace (length tables - casePlace) tables)
+case-room limits tables long bounded =
+    omega (arith, mid-len casePlace (length tables) tables (omega arith), bounded .0)
+
 module _ {limits : Limits} {case : List ℕ} (tables : List ℕ) (long : length tables ≡ tablesSize)
     (bounded : Bounded limits) {n : ℕ} {made : List ℕ}
     (tabled : Tabled limits case (midOf casePlace (length tables - casePlace) tables) n made) where
@@ -232,16 +238,16 @@ module _ {limits : Limits} {case : List ℕ} (tables : List ℕ) (long : length 
     case-begins : casePlace ≤ length tables
     case-begins = omega arith
 
-    case-room : pictureSize limits ≤ length case-part
-    case-room = omega (arith, mid-len casePlace (length tables) tables (omega arith), bounded .0)
+    abbrev room : pictureSize limits ≤ length case-part
+    room = case-room limits tables long bounded
 
     pub case-checked : Checked (tableIn case-new casePlace n) n
     case-checked =
-        part-checked limits case tables casePlace (length tables) n made bounded tabled case-few case-begins case-room
+        part-checked limits case tables casePlace (length tables) n made bounded tabled case-few case-begins room
 
     case-table : TableAt limits case (drop casePlace case-new) n
     case-table =
-        part-tabled limits case tables casePlace (length tables) n made bounded tabled case-few case-begins case-room
+        part-tabled limits case tables casePlace (length tables) n made bounded tabled case-few case-begins room
 
     pub case-tested : (book : List ℕ) (count : ℕ) {r : Selected} →
         r ≡ Answer limits (tableIn case-new casePlace n) book count → r ≡ Both limits case book count

@@ -5,12 +5,12 @@ use borrow.Author.Needs.{needs}
 use borrow.Rule.Slice.PartMut.{putMid}
 use denote.Ref.{now}
 use lib.ListN.{length}
-use mathlib.Core.Path.{_≡_, refl, subst, sym}
+use mathlib.Core.Path.{_∙_, _≡_, refl, subst, sym}
 use Rattle.table_rows.proofs.Stores.{blank}
 use Rattle.row_sets.specs.Rows.{Checked}
 use Rattle.homomorphism_search.specs.Search.{LinkedTable}
 use Rattle.book_tables.specs.Cache.{casePlace, tableIn, tablesSize}
-use Rattle.book_tables.proofs.CardTests.{case-checked, case-long, case-many, case-tested}
+use Rattle.book_tables.proofs.CardTests.{case-checked, case-long, case-many, case-room, case-tested}
 use Rattle.book_tables.proofs.subsumers.find_subsumers.Statement.{statement}
 use Rattle.book_tables.proofs.subsumers.find_subsumers.Tie as tie
 
@@ -24,17 +24,31 @@ part-normal-table-end : tie.Need-part-normal-table-end
 part-normal-table-end c = search needs
 
 normal-table-requires : tie.Need-normal-table-requires
-normal-table-requires c κs = search needs
+normal-table-requires c κs =
+    let start = c .before .before .before .before in
+    let pre = start .pre in
+    record {
+      bounded = pre .bounded;
+      readable = pre .readable;
+      space = case-room (start .args .limits) (now (start .args .tables)) (pre .long) (pre .bounded);
+    }
 
 too-many-requires : tie.Need-too-many-requires
 too-many-requires c κs = search needs
 
-same-length : tie.Need-same-length
-same-length c = search needs
-
 -- the way back from the table that was made to the entry
 abbrev entry : (c : tie.After-normal-table) → tie.Start
 entry c = c .before .before .before .before .before
+
+-- the bytes are as many as before
+long : (c : tie.After-normal-table) → let t = now (entry c .args .tables) in
+    length (putMid casePlace (length t - casePlace) t (c .normal-table .last .1 .1 .0)) ≡ tablesSize
+long c =
+    let pre = entry c .pre in
+    case-long (now (entry c .args .tables)) (pre .long) (pre .bounded) (c .normal-table .ensures)
+
+same-length : tie.Need-same-length
+same-length c = let made = c .before .before .before .before in long made ∙ sym (entry made .pre .long)
 
 returns : tie.Need-returns
 returns c =
@@ -48,12 +62,6 @@ returns c =
     )
 
 -- where a row was given, 14 is answered yes, and the table has all that a search needs
-long : (c : tie.After-normal-table) → let t = now (entry c .args .tables) in
-    length (putMid casePlace (length t - casePlace) t (c .normal-table .last .1 .1 .0)) ≡ tablesSize
-long c =
-    let pre = entry c .pre in
-    case-long (now (entry c .args .tables)) (pre .long) (pre .bounded) (c .normal-table .ensures)
-
 checked : (c : tie.Else1) → let made = c .before .before .before in let t = now (entry made .args .tables) in
     let n = made .normal-table .result in
     Checked (tableIn (putMid casePlace (length t - casePlace) t (made .normal-table .last .1 .1 .0)) casePlace n) n
