@@ -2,6 +2,7 @@
 --   tabled-at                   a table at the start of a part
 --   table-same                  one at the start of a part with the same bytes
 --   part-tabled, part-checked   one that was made in a part is at the part's start, and has all that a search needs
+--   rest-room, rest-tabled      one that is made from a place to the end
 --   none-cached                 none is kept
 --   cached-same                 those that end before a place stay when only bytes from there on change
 --   cached-within               they end before any later place
@@ -13,7 +14,7 @@ use Prim.Native.Nat.{_+_, _-_, _<_, _≤_, ℕ}
 use borrow.Author.Tests.{le-leb}
 use borrow.Rule.Slice.PartMut.{midOf, putMid, take-put as front-put}
 use lib.ListN.{drop, getD, length, length-set, set, take}
-use lib.Seq.{getD-set-other, getD-set-same, length-take-le, take-all}
+use lib.Seq.{drop-at, getD-set-other, getD-set-same, length-take-le, take-all}
 use mathlib.Core.Bool.{Bool}
 use mathlib.Core.List.{List}
 use mathlib.Core.Path.{_∙_, _≡_, ap, refl, subst, sym}
@@ -24,7 +25,7 @@ use Rattle.meaning.specs.NormalTable.{mergedCount, normalFile}
 use Rattle.row_sets.specs.Rows.{Checked}
 use Rattle.normal_writer.proofs.Prefixes.{take-put}
 use Rattle.normal_writer.proofs.Tablings.{tabled-checked, tabled-fits}
-use Rattle.normal_writer.specs.Tables.{Tabled, tableRows}
+use Rattle.normal_writer.specs.Tables.{TableRoom, Tabled, tableRows}
 use Rattle.table.proofs.Puts.{length-put}
 use Rattle.table.specs.Bounds.{Bounded, pictureSize}
 use Rattle.table.specs.Layout.{endSize, «place»}
@@ -32,6 +33,7 @@ use Rattle.table_rows.specs.Links.{Zeros}
 use Rattle.table.specs.Pick.{pick}
 use Rattle.table.specs.Put.{put}
 use Rattle.table.specs.declared.layout.Limits.{Limits}
+use Rattle.workspace.proofs.Halves.{put-upper, upper-part}
 use Rattle.book.specs.Form.{card, mostCards}
 use Rattle.book_tables.specs.Cache.{Cached, CachedAt, TableAt, tableIn, withSpan}
 use Rattle.book_tables.proofs.Parts.{front-same, part-there, put-part}
@@ -76,6 +78,20 @@ module _ (limits : Limits) (s tables : List ℕ) (a e r : ℕ) (end : List ℕ) 
   part-checked =
       subst (λ t. Checked t r) (sym there)
       (tabled-checked limits s (midOf a (e - a) tables) r end bounded tabled few (place r endSize) refl)
+
+-- one that was made in the part from a place to the end
+module _ {limits : Limits} {s : List ℕ} (tables : List ℕ) (a : ℕ) where
+  pub rest-room : TableRoom limits s (drop a tables) → TableRoom limits s (midOf a (length tables - a) tables)
+  rest-room = subst (λ t. TableRoom limits s t) (sym (upper-part a tables))
+
+  pub rest-tabled : a ≤ length tables → {r : ℕ} {end : List ℕ} →
+      Tabled limits s (midOf a (length tables - a) tables) r end →
+      Tabled limits s (drop a tables) r (drop a (putMid a (length tables - a) tables end))
+  rest-tabled begins {r} {end} tabled =
+      let is : drop a (putMid a (length tables - a) tables end) ≡ end =
+      ap (drop a) (put-upper a tables end) ∙ drop-at (take a tables) end a (length-take-le a tables begins) in
+      subst (λ t. Tabled limits s (drop a tables) r t) (sym is)
+      (subst (λ t. Tabled limits s t r end) (upper-part a tables) tabled)
 
 -- ---- those that are kept
 
