@@ -19,7 +19,7 @@ use mathlib.Core.Path.{_∙_, _≡_, ap, refl, subst, sym}
 use native.Mathlib.Omega.{arith}
 use Rattle.homomorphism_search.proofs.NormalMaps.{normal-maps}
 use Rattle.homomorphism_search.specs.Search.{LinkedTable, rowMaps}
-use Rattle.meaning.proofs.Normals.{normal-length, normal-reads, normal-size}
+use Rattle.meaning.proofs.Normals.{normal-reads}
 use Rattle.meaning.specs.NormalTable.{mergedCount, normalFile}
 use Rattle.row_sets.proofs.Checks.{readable-checked}
 use Rattle.row_sets.specs.Rows.{Checked}
@@ -31,7 +31,7 @@ use Rattle.workspace.proofs.Halves.{put-upper, upper-part}
 use Rattle.workspace.specs.Prepare.{workSize}
 use Rattle.book.specs.Form.{card, cardCount, mostCards}
 use Rattle.book.specs.Selection.{cardCovers}
-use Rattle.book_tables.proofs.Caches.{cached-few, tabled-at}
+use Rattle.book_tables.proofs.Caches.{table-few, tabled-at}
 use Rattle.book_tables.specs.Cache.{Cached, TableAt}
 use Rattle.book_selection.specs.Comparing.{Ordered}
 use Rattle.book_selection.specs.Standing.{BookTaken, Checkable, Inside, LowTable, Stands, areaOf, tableAt}
@@ -46,10 +46,8 @@ pub cached-stands : (limits : Limits) (book tables spans : List ℕ) (at : ℕ) 
     (work : List ℕ) (k : ℕ) → k < mostCards → (getD spans (mostCards + k) 0 ≡ 0 → ⊥) →
     Stands limits book tables work (record { card = k; cached = true; start = getD spans k 0; rows = getD spans (mostCards + k) 0 })
 cached-stands limits book tables spans at bounded so work k l some =
-    let start = getD spans k 0 in
-    let rows = getD spans (mostCards + k) 0 in
     let there = so .tables k l some in
-    let fits = cached-few limits (card book k) tables start rows at there in
+    let fits = table-few (there .table) in
     record {
       inside = record { few = omega (arith, fits, bounded .0); ends = omega (arith, there .ends, so .long) };
       table = there .table;
@@ -130,11 +128,6 @@ module _ {limits : Limits} {book tables work : List ℕ} {spot : Spot} (bounded 
 module _ {limits : Limits} {book tables work : List ℕ} {low : Spot} {links : List ℕ}
     (so : LowTable limits book tables work low links) (work₂ : List ℕ) (half : ℕ) (is : half ≡ pictureSize limits)
     (same : take half work₂ ≡ take half work) (long : length work₂ ≡ length work) where
-  few : place (low .rows) endSize ≤ pictureSize limits
-  few =
-      let s = card book (low .card) in
-      omega (arith, so .stands .table .rows-are, normal-length limits s, normal-size limits s (so .stands .table .few))
-
   low-part : (n : ℕ) → n ≤ half →
       take n (drop (low .start) (areaOf tables work₂ low)) ≡ take n (drop (low .start) (areaOf tables work low))
   low-part n l =
@@ -146,7 +139,7 @@ module _ {limits : Limits} {book tables work : List ℕ} {low : Spot} {links : L
 
   pub low-kept : LowTable limits book tables work₂ low links
   low-kept =
-      let part = low-part (place (low .rows) endSize) (omega (arith, few, is)) in
+      let part = low-part (place (low .rows) endSize) (omega (arith, table-few (so .stands .table), is)) in
       let table = so .stands .table in
       record {
         stands = record {

@@ -206,16 +206,7 @@ fn compare_cards(
     };
     let mut m = next_card(covering, 0);
     while m < MAX_CARDS {
-        progress = compare_card(
-            book,
-                limits,
-            tables,
-            spans,
-            covering,
-            m,
-            progress,
-            work,
-        );
+        progress = compare_card(book, limits, tables, spans, covering, m, progress, work);
         m = next_card(covering, m + 1);
     }
     progress.redundant

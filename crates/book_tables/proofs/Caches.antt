@@ -2,18 +2,18 @@
 --   tabled-at                   a table at the start of a part
 --   table-same                  one at the start of a part with the same bytes
 --   part-tabled, part-checked   one that was made in a part is at the part's start, and has all that a search needs
+--   rest-room, rest-tabled      one that is made from a place to the end
 --   none-cached                 none is kept
 --   cached-same                 those that end before a place stay when only bytes from there on change
 --   cached-within               they end before any later place
 --   cached-more                 one table more, after those that are there
 --   cached-stored               one that was put there
---   cached-few                  a table that is kept has as many rows as it may
---   cached-tabled               one that is copied is as one that is made
+--   table-few                   a table has as many rows as it may
 use Prim.Native.Nat.{_+_, _-_, _<_, _≤_, ℕ}
 use borrow.Author.Tests.{le-leb}
 use borrow.Rule.Slice.PartMut.{midOf, putMid, take-put as front-put}
 use lib.ListN.{drop, getD, length, length-set, set, take}
-use lib.Seq.{getD-set-other, getD-set-same, length-take-le, take-all}
+use lib.Seq.{drop-at, getD-set-other, getD-set-same, length-take-le, take-all}
 use mathlib.Core.Bool.{Bool}
 use mathlib.Core.List.{List}
 use mathlib.Core.Path.{_∙_, _≡_, ap, refl, subst, sym}
@@ -24,7 +24,7 @@ use Rattle.meaning.specs.NormalTable.{mergedCount, normalFile}
 use Rattle.row_sets.specs.Rows.{Checked}
 use Rattle.normal_writer.proofs.Prefixes.{take-put}
 use Rattle.normal_writer.proofs.Tablings.{tabled-checked, tabled-fits}
-use Rattle.normal_writer.specs.Tables.{Tabled, tableRows}
+use Rattle.normal_writer.specs.Tables.{TableRoom, Tabled, tableRows}
 use Rattle.table.proofs.Puts.{length-put}
 use Rattle.table.specs.Bounds.{Bounded, pictureSize}
 use Rattle.table.specs.Layout.{endSize, «place»}
@@ -32,6 +32,7 @@ use Rattle.table_rows.specs.Links.{Zeros}
 use Rattle.table.specs.Pick.{pick}
 use Rattle.table.specs.Put.{put}
 use Rattle.table.specs.declared.layout.Limits.{Limits}
+use Rattle.workspace.proofs.Halves.{put-upper, upper-part}
 use Rattle.book.specs.Form.{card, mostCards}
 use Rattle.book_tables.specs.Cache.{Cached, CachedAt, TableAt, tableIn, withSpan}
 use Rattle.book_tables.proofs.Parts.{front-same, part-there, put-part}
@@ -76,6 +77,20 @@ module _ (limits : Limits) (s tables : List ℕ) (a e r : ℕ) (end : List ℕ) 
   part-checked =
       subst (λ t. Checked t r) (sym there)
       (tabled-checked limits s (midOf a (e - a) tables) r end bounded tabled few (place r endSize) refl)
+
+-- one that was made in the part from a place to the end
+module _ {limits : Limits} {s : List ℕ} (tables : List ℕ) (a : ℕ) where
+  pub rest-room : TableRoom limits s (drop a tables) → TableRoom limits s (midOf a (length tables - a) tables)
+  rest-room = subst (λ t. TableRoom limits s t) (sym (upper-part a tables))
+
+  pub rest-tabled : a ≤ length tables → {r : ℕ} {end : List ℕ} →
+      Tabled limits s (midOf a (length tables - a) tables) r end →
+      Tabled limits s (drop a tables) r (drop a (putMid a (length tables - a) tables end))
+  rest-tabled begins {r} {end} tabled =
+      let is : drop a (putMid a (length tables - a) tables end) ≡ end =
+      ap (drop a) (put-upper a tables end) ∙ drop-at (take a tables) end a (length-take-le a tables begins) in
+      subst (λ t. Tabled limits s (drop a tables) r t) (sym is)
+      (subst (λ t. Tabled limits s t r end) (upper-part a tables) tabled)
 
 -- ---- those that are kept
 
@@ -193,19 +208,6 @@ module _ (limits : Limits) (book cache spans : List ℕ) (at : ℕ) (so : Cached
       subst (λ i. Cached limits book cache₂ (withSpan spans k at m) (at + i)) (sym e)
       (cached-more limits book cache₂ spans at m k kept l stored (omega (arith, e, as-long, room)))
 
-module _ (limits : Limits) (s cache : List ℕ) (start rows at : ℕ) (so : CachedAt limits s cache start rows at) where
-  pub cached-few : place rows endSize ≤ pictureSize limits
-  cached-few = omega (arith, so .table .rows-are, normal-length limits s, normal-size limits s (so .table .few))
-
-  pub cached-tabled : (out end : List ℕ) (n : ℕ) → n ≡ place rows endSize → at ≤ length cache → pictureSize limits ≤ length out →
-      end ≡ put out 0 (take (start + n - start) (drop start cache)) → Tabled limits s out rows end
-  cached-tabled out end n e inside room written =
-      let size : start + n - start ≡ place rows endSize = omega (arith, e) in
-      let part : take (start + n - start) (drop start cache) ≡ normalFile limits s = ap (λ (i : ℕ). take i (drop start cache)) size ∙ so .table .is in
-      let long : length (normalFile limits s) ≡ place rows endSize = normal-length limits s ∙ ap (λ (i : ℕ). place i endSize) (sym (so .table .rows-are)) in
-      let is : end ≡ put out 0 (normalFile limits s) = written ∙ ap (put out 0) part in
-      record {
-        same = ap length is ∙ length-put out 0 (normalFile limits s) (omega (arith, long, cached-few, room));
-        rows-are = so .table .rows-are ∙ sym (ap (λ (b : Bool). pick b (tableRows limits s) 0) (le-leb (mergedCount limits s) (limits .rows) (so .table .few)));
-        file = λ _. ap (take (place rows endSize)) is ∙ take-put out 0 (normalFile limits s) (place rows endSize) (omega arith) (omega (arith, long));
-      }
+pub table-few : {limits : Limits} {s part : List ℕ} {rows : ℕ} → TableAt limits s part rows →
+    place rows endSize ≤ pictureSize limits
+table-few {limits} {s} so = omega (arith, so .rows-are, normal-length limits s, normal-size limits s (so .few))

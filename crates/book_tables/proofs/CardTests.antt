@@ -5,14 +5,13 @@
 --   test-long                  the bytes are as many as before
 --   testable, addable          it can be tested, and added to the subsumers
 --   test-next                  what was tested with it
---   case-many                  once the case's table is made there: 14 of the case is answered no
---   case-long, case-checked    it has all that testing the cards needs
---   case-tested                it is the case's, so what was found of it is the answer
+--   case-many, case-tested     14 of the case is answered no; else the table is the case's
 use Prim.Native.Nat.{_*_, _+_, _-_, _<_, _^_, _≤_, ℕ}
 use borrow.Rule.Slice.PartMut.{mid-len, midOf, putMid, same-len-mid, take-put}
+use lib.Dec.{leb}
 use lib.ListN.{drop, length, take}
 use lib.Pow.{pow-add, pow-mono}
-use mathlib.Core.Bool.{Bool}
+use mathlib.Core.Bool.{Bool, false}
 use mathlib.Core.List.{List}
 use mathlib.Core.Path.{_∙_, _≡_, ap, refl, subst, sym}
 use native.Mathlib.Omega.{arith}
@@ -21,7 +20,6 @@ use Rattle.homomorphism_search.specs.Search.{LinkedTable, rowMaps}
 use Rattle.meaning.specs.NormalTable.{mergedCount, normalFile}
 use Rattle.picture.specs.Refusal.{tooMany}
 use Rattle.picture.specs.declared.answer.Input.the-variants.{Card, First}
-use Rattle.row_sets.specs.Rows.{Checked}
 use Rattle.table.specs.Bounds.{Bounded, pictureSize}
 use Rattle.table.specs.Layout.{endSize, «place»}
 use Rattle.table_rows.specs.Links.{Zeros}
@@ -198,58 +196,30 @@ Both limits case book count =
     selectedOn (andThen (mergedAsked limits First case) (askedFrom (cardMerged limits book) count 0))
     (cardWord (caseCovered limits case book) count)
 
-by-cards : (limits : Limits) (case book : List ℕ) (count : ℕ) → Bounded limits →
-    mergedCount limits case ≤ limits .rows → (a : Asked) → askedFrom (cardMerged limits book) count 0 ≡ a →
-    selectedOn a (cardWord (coversTable limits (normalFile limits case) book) count)
-    ≡ selectedOn a (cardWord (caseCovered limits case book) count)
-by-cards limits case book count bounded few Yes e =
-    ap Cards
-    (cardWord-same (coversTable limits (normalFile limits case) book) (caseCovered limits case book) count
-    (λ k l. normal-maps limits case (card book k) bounded few
-    (merged-decides limits (Card k) (card book k) .yes .0 (yes-to (cardMerged limits book) count e k l))))
-by-cards limits case book count bounded few (No r) e = refl
-
-module _ {limits : Limits} {case : List ℕ} (tables : List ℕ) (long : length tables ≡ tablesSize)
-    (bounded : Bounded limits) {n : ℕ} {made : List ℕ}
-    (tabled : Tabled limits case (midOf casePlace (length tables - casePlace) tables) n made) where
-  abbrev case-part : List ℕ
-  case-part = midOf casePlace (length tables - casePlace) tables
-
-  abbrev case-new : List ℕ
-  case-new = putMid casePlace (length tables - casePlace) tables made
-
-  pub case-many : (book : List ℕ) (count : ℕ) → n ≡ 0 → Refused (tooMany First) ≡ Both limits case book count
+module _ (limits : Limits) (case book : List ℕ) (count : ℕ) where
+  pub case-many : leb (mergedCount limits case) (limits .rows) ≡ false →
+      Refused (tooMany First) ≡ Both limits case book count
   unfolding mergedAsked
-  case-many book count none = sym (rw (none-many limits case case-part n made bounded tabled none))
+  case-many many = sym (rw many)
 
-  pub case-long : length case-new ≡ tablesSize
-  case-long = same-len-mid casePlace (length tables - casePlace) tables made (tabled .same) ∙ long
+  by-cards : Bounded limits → mergedCount limits case ≤ limits .rows → (a : Asked) →
+      askedFrom (cardMerged limits book) count 0 ≡ a →
+      selectedOn a (cardWord (coversTable limits (normalFile limits case) book) count)
+      ≡ selectedOn a (cardWord (caseCovered limits case book) count)
+  by-cards bounded few Yes e =
+      ap Cards
+      (cardWord-same (coversTable limits (normalFile limits case) book) (caseCovered limits case book) count
+      (λ k l. normal-maps limits case (card book k) bounded few
+      (merged-decides limits (Card k) (card book k) .yes .0 (yes-to (cardMerged limits book) count e k l))))
+  by-cards bounded few (No r) e = refl
 
-  module _ (some : n ≡ 0 → ⊥) where
-    case-few : mergedCount limits case ≤ limits .rows
-    case-few = some-few limits case case-part n made bounded tabled some
-
-    case-begins : casePlace ≤ length tables
-    case-begins = omega arith
-
-    case-room : pictureSize limits ≤ length case-part
-    case-room = omega (arith, mid-len casePlace (length tables) tables (omega arith), bounded .0)
-
-    pub case-checked : Checked (tableIn case-new casePlace n) n
-    case-checked =
-        part-checked limits case tables casePlace (length tables) n made bounded tabled case-few case-begins case-room
-
-    case-table : TableAt limits case (drop casePlace case-new) n
-    case-table =
-        part-tabled limits case tables casePlace (length tables) n made bounded tabled case-few case-begins case-room
-
-    pub case-tested : (book : List ℕ) (count : ℕ) {r : Selected} →
-        r ≡ Answer limits (tableIn case-new casePlace n) book count → r ≡ Both limits case book count
-    case-tested book count is =
-        let cards = askedFrom (cardMerged limits book) count 0 in
-        is
-        ∙ ap (λ (u : List ℕ). Answer limits u book count) (case-table .is)
-        ∙ by-cards limits case book count bounded case-few cards refl
-        ∙ sym
-        (ap (λ a. selectedOn (andThen a cards) (cardWord (caseCovered limits case book) count))
-        (merged-decides limits First case .yes .1 case-few))
+  pub case-tested : Bounded limits → mergedCount limits case ≤ limits .rows → {t : List ℕ} →
+      t ≡ normalFile limits case → {r : Selected} → r ≡ Answer limits t book count → r ≡ Both limits case book count
+  case-tested bounded few table is =
+      let cards = askedFrom (cardMerged limits book) count 0 in
+      is
+      ∙ ap (λ (u : List ℕ). Answer limits u book count) table
+      ∙ by-cards bounded few cards refl
+      ∙ sym
+      (ap (λ a. selectedOn (andThen a cards) (cardWord (caseCovered limits case book) count))
+      (merged-decides limits First case .yes .1 few))

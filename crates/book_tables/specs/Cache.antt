@@ -8,8 +8,8 @@
 --   TableAt          the normal table of a picture, of so many rows, at the start of a part
 --   CachedAt         one that is kept, from a byte on, before another
 --   Cached           each card with rows of its own in the spans has its table there, before where all end
---   CardsCached      the cards have passed 2 to 14, and the tables are kept where the spans say
 --   withSpan         the spans with that of card k
+--   Storable         what storing the table of card k needs
 --   Findable         what finding the subsumers needs
 --   CardsTestable    what testing all cards needs
 --   Testable         what testing one card needs: its table, and the case's with its links
@@ -37,7 +37,7 @@ use Rattle.book.specs.Call.{cardMerged}
 use Rattle.book.specs.Form.{card, mostCards}
 use Rattle.book.specs.Selection.{cardWord}
 use Rattle.book_form.specs.declared.form.Cards.{Cards}
-use Rattle.book_tables.specs.Tables.{CardsRead, CardsTaken, coversTable}
+use Rattle.book_tables.specs.Tables.{CardsRead, coversTable}
 use Rattle.picture.specs.declared.answer.Asked.the-variants.{Yes}
 use Rattle.book.specs.declared.answer.Selected.{Selected}
 use Rattle.book.specs.declared.answer.Selected.the-variants as selected
@@ -69,13 +69,15 @@ pub record Cached (limits : Limits) (book cache spans : List ℕ) (at : ℕ) : T
   pub spanned : length spans ≡ mostCards + mostCards
   pub tables : (j : ℕ) → j < mostCards → (getD spans (mostCards + j) 0 ≡ 0 → ⊥) → CachedAt limits (card book j) cache (getD spans j 0) (getD spans (mostCards + j) 0) at
 
-pub record CardsCached (limits : Limits) (book : List ℕ) (cards : Cards) (cache spans : List ℕ) : Type 0 where
-  pub taken : CardsTaken limits book cards
-  pub at : ℕ
-  pub cache-is : Cached limits book cache spans at
-
 abbrev pub withSpan : List ℕ → ℕ → ℕ → ℕ → List ℕ
 withSpan spans k start rows = set (set spans k start) (mostCards + k) rows
+
+pub record Storable (scratch : List ℕ) (m k at : ℕ) (tables spans : List ℕ) : Type 0 where
+  pub few : m ≤ maxRows
+  pub whole : place m endSize ≤ length scratch
+  pub below : k < mostCards
+  pub inside : at ≤ length tables
+  pub spanned : length spans ≡ mostCards + mostCards
 
 pub record Findable (limits : Limits) (case book : List ℕ) (cards : Cards) (tables spans : List ℕ) : Type 0 where
   pub bounded : Bounded limits

@@ -1,5 +1,5 @@
 -- What the parts of the call do. Nobody has to believe these.
---   CardsRead, CardsTaken   the cards have passed 2 to 13; and 14
+--   CardsRead               the cards have passed 2 to 13
 --   selectedOn              a word of cards where all is answered yes, else the refusal
 --   coversTable             card k covers what a normal table is of
 use Prim.Native.Nat.{_<_, _≤_, ℕ}
@@ -20,10 +20,6 @@ use Rattle.book_form.specs.declared.form.Cards.{Cards}
 pub record CardsRead (limits : Limits) (book : List ℕ) (cards : Cards) : Type 0 where
   pub places-are : Placed book cards
   pub readable : (k : ℕ) → k < cards .count → Readable limits (card book k)
-
-pub record CardsTaken (limits : Limits) (book : List ℕ) (cards : Cards) : Type 0 where
-  pub cards-read : CardsRead limits book cards
-  pub few : (k : ℕ) → k < cards .count → mergedCount limits (card book k) ≤ limits .rows
 
 abbrev pub selectedOn : Asked → ℕ → Selected
 selectedOn a word = onAsked selected.Refused a (selected.Cards word)

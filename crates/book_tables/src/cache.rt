@@ -1,24 +1,19 @@
 // The tables of the cards and of the case, in one array of the call's own. Those of covering cards are kept one after
 // the other from its first byte on, so that they need not be made again; what lies after them is free.
-use book_form::form::Cards;
 use book_form::form::MAX_CARDS;
-use book_form::form::card;
 use normal_writer::write::TABLE;
-use normal_writer::write::normal_table;
 use table::layout::END_SIZE;
-use table::layout::Limits;
 use table::layout::place;
 use table::number::copy_in;
 ghost use mathlib.Core.List.{List};
 ghost use mathlib.Core.Path.{_≡_};
 ghost use Prim.Native.Nat.{ℕ, _+_, _≤_, _<_};
 ghost use lib.ListN.{length};
-ghost use Rattle.table.specs.Bounds.{Bounded, maxRows, pictureSize};
+ghost use Rattle.table.specs.Bounds.{maxRows};
 ghost use Rattle.table.specs.Layout.{endSize, «place»};
 ghost use Rattle.table.specs.declared.layout.Limits.{Limits};
-ghost use Rattle.normal_writer.specs.Tables.{Tabled};
 ghost use Rattle.book.specs.Form.{«card», mostCards};
-ghost use Rattle.book_tables.specs.Cache.{Cached, TableAt, CardsCached, tableIn, withSpan};
+ghost use Rattle.book_tables.specs.Cache.{Cached, Storable, TableAt, tableIn, withSpan};
 
 // The tables that are kept end within the first third, so that of the card that is tested within the second; the case's
 // is the third.
@@ -50,39 +45,19 @@ pub fn store(
     m: usize,
     k: usize,
     at: usize,
-    cache: &mut [u8],
+    tables: &mut [u8],
     spans: &mut [usize; SPANS],
 ) -> usize
-    requires { ⌜ (m ≤ maxRows) × ((«place» m endSize ≤ length (now scratch)) × ((k < mostCards) × ((at ≤ length (now cache)) × (length (now spans) ≡ mostCards + mostCards)))) ⌝ }
-    ensures { λ r. ⌜ ((limits : Limits) (book : List ℕ) → Cached limits book (now (cache .entry)) (now (spans .entry)) at → TableAt limits («card» book k) (now (scratch .entry)) m → Cached limits book (now (cache .exit)) (now (spans .exit)) r) × (length (now (cache .exit)) ≡ length (now (cache .entry))) ⌝ }
+    requires { ⌜ Storable (now scratch) m k at (now tables) (now spans) ⌝ }
+    ensures { λ r. ⌜ ((limits : Limits) (book : List ℕ) → Cached limits book (now (tables .entry)) (now (spans .entry)) at →
+        TableAt limits («card» book k) (now (scratch .entry)) m → Cached limits book (now (tables .exit)) (now (spans .exit)) r)
+        × (length (now (tables .exit)) ≡ length (now (tables .entry))) ⌝ }
 {
     let size = place(m, END_SIZE);
-    if cache.len() - at < size {
+    if tables.len() - at < size {
         return at;
     }
-    copy_in(cache, at, &scratch[..size]);
+    copy_in(tables, at, &scratch[..size]);
     keep_span(k, at, m, spans);
     at + size
-}
-
-// The table of card k, copied if it is cached and else made, at the start of a lent part; its rows.
-pub fn load(
-    book: &[u8],
-    cards: Cards,
-    k: usize,
-    limits: Limits,
-    cache: &[u8],
-    spans: &[usize; SPANS],
-    out: &mut [u8],
-) -> usize
-    requires { ⌜ (Bounded limits) × ((CardsCached limits (now book) cards (now cache) (now spans)) × ((k < cards .count) × (pictureSize limits ≤ length (now out)))) ⌝ }
-    ensures { λ r. ⌜ Tabled limits («card» (now (book .entry)) k) (now (out .entry)) r (now (out .exit)) ⌝ }
-{
-    let m = spans[MAX_CARDS + k];
-    if m == 0 {
-        return normal_table(card(book, cards, k), limits, out);
-    }
-    let start = spans[k];
-    copy_in(out, 0, &cache[start..start + place(m, END_SIZE)]);
-    m
 }

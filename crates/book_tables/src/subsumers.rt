@@ -19,9 +19,11 @@ use table::layout::END_SIZE;
 use table::layout::Limits;
 use table::layout::place;
 ghost use mathlib.Core.Path.{_≡_};
+ghost use lib.ListN.{drop};
 ghost use Rattle.homomorphism_search.specs.Search.{rowMaps};
 ghost use Rattle.picture.specs.Asked.{andThen, askedFrom};
 ghost use Rattle.normal.specs.Call.{mergedAsked};
+ghost use Rattle.normal_writer.specs.Tables.{TableRoom, Tabled};
 ghost use Rattle.book.specs.Call.{cardMerged};
 ghost use Rattle.book.specs.Selection.{cardWord, caseCovered};
 ghost use Rattle.book_tables.specs.Tables.{coversTable, selectedOn};
@@ -110,6 +112,14 @@ fn test_cards(
     Selected::Cards(subsumers.word)
 }
 
+// Makes the case's table behind all others, and gives its rows; 0 if 14 is answered no.
+fn table_case(case: &[u8], limits: Limits, tables: &mut [u8]) -> usize
+    requires { ⌜ TableRoom limits (now case) (drop casePlace (now tables)) ⌝ }
+    ensures { λ r. ⌜ Tabled limits (now (case .entry)) (drop casePlace (now (tables .entry))) r (drop casePlace (now (tables .exit))) ⌝ }
+{
+    normal_table(case, limits, &mut tables[CASE..])
+}
+
 // 14 of the case, then of each card; the cards that cover the case, and their tables, as many as fit.
 pub fn find_subsumers(
     case: &[u8],
@@ -122,7 +132,7 @@ pub fn find_subsumers(
     requires { ⌜ Findable limits (now case) (now book) cards (now tables) (now spans) ⌝ }
     ensures { λ r. ⌜ (r ≡ selectedOn (andThen (mergedAsked limits Input.First (now (case .entry))) (askedFrom (cardMerged limits (now (book .entry))) (cards .count) 0)) (cardWord (caseCovered limits (now (case .entry)) (now (book .entry))) (cards .count))) × (CachedAfter r limits (now (book .entry)) (now (tables .exit)) (now (spans .exit))) ⌝ }
 {
-    let n = normal_table(case, limits, &mut tables[CASE..]);
+    let n = table_case(case, limits, tables);
     if n == 0 {
         return Selected::Refused(too_many(Input::First));
     }

@@ -83,8 +83,10 @@ module _ (limits : Limits) (case book : List ℕ) (count covering : ℕ) (counte
   covering-has : (k : ℕ) → has covering k ≡ (ltb k count && caseCovered limits case book k)
   covering-has k = ap (λ (w : ℕ). has w k) is ∙ has-cardWord (caseCovered limits case book) count k
 
-  pub covering-inside : (k : ℕ) → has covering k ≡ true → k < count
-  covering-inside k h = ltb-true k count (both (ltb k count) (caseCovered limits case book k) (sym (covering-has k) ∙ h) .0)
+  pub covering-inside : (k : ℕ) → has covering k ≡ true → k < cardCount book
+  covering-inside k h =
+      let l = ltb-true k count (both (ltb k count) (caseCovered limits case book k) (sym (covering-has k) ∙ h) .0) in
+      omega (arith, l, counted)
 
   abbrev passed : (ℕ → Bool) → ℕ → Bool
   passed = passedOver (cardCovers limits book) (cardCount book)

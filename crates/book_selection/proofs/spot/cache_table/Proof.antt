@@ -12,7 +12,7 @@ store-requires : tie.Need-store-requires
 store-requires c κs =
     let pre = c .before .before .before .before .before .pre in
     let outside = c .before .before .if1 .left in
-    (pre .few, (pre .whole outside, (pre .below, (pre .inside, pre .spanned))))
+    record { few = pre .few; whole = pre .whole outside; below = pre .below; inside = pre .inside; spanned = pre .spanned }
 
 same-length : tie.Need-same-length
 same-length c = search needs

@@ -28,7 +28,7 @@ part-long : (c : tie.After-copy-in-arg2) → let size = c .before .before .befor
 part-long c =
     let start = c .before .before .before .before .before .before in
     let size = c .before .before .before .place in
-    length-take-le (size .result) (now (start .args .scratch)) (omega (arith, size .ensures, start .pre .1 .0))
+    length-take-le (size .result) (now (start .args .scratch)) (omega (arith, size .ensures, start .pre .whole))
 
 slice-aggregate-copy-in : tie.Need-slice-aggregate-copy-in
 slice-aggregate-copy-in c = sym (part-long c)
@@ -36,7 +36,7 @@ slice-aggregate-copy-in c = sym (part-long c)
 copy-in-requires : tie.Need-copy-in-requires
 copy-in-requires c κs =
     let pre = c .before .before .before .before .before .before .pre in
-    omega (arith, part-long c, c .before .before .if1 .left, pre .1 .1 .1 .0)
+    omega (arith, part-long c, c .before .before .if1 .left, pre .inside)
 
 keep-span-requires : tie.Need-keep-span-requires
 keep-span-requires c κs = search needs
@@ -59,12 +59,12 @@ returns-2 c =
       (λ limits book so table.
           subst (λ (s : List ℕ). Cached limits book (copied .copy-in .last .0) s (a .at + size .result))
           (sym (c .keep-span .ensures))
-          (cached-stored limits book (now (a .cache)) (now (a .spans)) (a .at) so (now (a .scratch)) (a .m) (a .k)
-          (size .result) (copied .copy-in .last .0) (pre .1 .1 .0) table (size .ensures)
-          (omega (arith, size .ensures, pre .1 .0)) (omega (arith, room, pre .1 .1 .1 .0)) put-there)),
+          (cached-stored limits book (now (a .tables)) (now (a .spans)) (a .at) so (now (a .scratch)) (a .m) (a .k)
+          (size .result) (copied .copy-in .last .0) (pre .below) table (size .ensures)
+          (omega (arith, size .ensures, pre .whole)) (omega (arith, room, pre .inside)) put-there)),
       ap length put-there
-          ∙ length-put (now (a .cache)) (a .at) (take (size .result) (now (a .scratch)))
-          (omega (arith, part-long (copied .before), room, pre .1 .1 .1 .0)),
+          ∙ length-put (now (a .tables)) (a .at) (take (size .result) (now (a .scratch)))
+          (omega (arith, part-long (copied .before), room, pre .inside)),
     )
 
 pub store-spec : {M : Type 1} → statement M
