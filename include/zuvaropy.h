@@ -34,13 +34,17 @@ extern "C" {
  * header has to be compiled again or changed, the minor one when something is
  * added.
  *
+ * 3.0: zuvaropy_most_specific finds cards that have the same instances together,
+ * where they used to hide each other. A program that takes those found to differ
+ * in their instances has to be changed; no other has to be.
+ *
  * 2.0: bits 31..0 of a refusal by question 2 to 13, which were 0, hold a row and a
  * byte. Programs have to be compiled again; one that compares whole words of
  * refusals has to compare their parts. New: zuvaropy_has_place, zuvaropy_row,
  * zuvaropy_byte, zuvaropy_question_text, zuvaropy_input_text.
  */
 
-#define ZUVAROPY_VERSION_MAJOR  2
+#define ZUVAROPY_VERSION_MAJOR  3
 #define ZUVAROPY_VERSION_MINOR  0
 #define ZUVAROPY_VERSION_PATCH  0
 
