@@ -34,13 +34,17 @@ extern "C" {
  * header has to be compiled again or changed, the minor one when something is
  * added.
  *
+ * 3.0: zuvaropy_most_specific finds cards that have the same instances together,
+ * where they used to hide each other. A program that takes those found to differ
+ * in their instances has to be changed; no other has to be.
+ *
  * 2.0: bits 31..0 of a refusal by question 2 to 13, which were 0, hold a row and a
  * byte. Programs have to be compiled again; one that compares whole words of
  * refusals has to compare their parts. New: zuvaropy_has_place, zuvaropy_row,
  * zuvaropy_byte, zuvaropy_question_text, zuvaropy_input_text.
  */
 
-#define ZUVAROPY_VERSION_MAJOR  2
+#define ZUVAROPY_VERSION_MAJOR  3
 #define ZUVAROPY_VERSION_MINOR  0
 #define ZUVAROPY_VERSION_PATCH  0
 
@@ -664,18 +668,24 @@ uint64_t zuvaropy_verify(const uint8_t *first, size_t first_len, const uint8_t *
 /*
  * Find the most specific cards of a book that subsume a picture, the case.
  *
- * A card is among them if it subsumes the case, and subsumes no other card of
- * the book that subsumes the case. Two cards that have the same instances
- * subsume each other, so that neither is among them; so also two cards that are
- * the same bytes.
+ * A card that subsumes the case is passed over exactly when it subsumes another
+ * card that subsumes the case and that does not subsume it in return. A card is
+ * found if it subsumes the case and is not passed over.
+ *
+ * So some card is found exactly when some card subsumes the case, and each card
+ * that subsumes the case subsumes one that is found. Cards that have the same
+ * instances subsume each other, also where their bytes differ, and are found
+ * together or not at all: several of the cards that are found may say the same.
+ * Of two that are found, one subsumes the other only if they say the same, so that
+ * zuvaropy_subsumes need be asked one way only.
  *
  * Reads:   case_picture, at most case_picture_len bytes; book, at most book_len
  *          bytes.
  * Writes:  work, its first ZUVAROPY_WORK_BYTES bytes: zeros. Bytes after them
  *          keep their contents. A refusal writes nothing.
- * Returns: ZUVAROPY_OUTCOME_YES, value: the set of these cards, card n as the
- *          bit of weight 2^n. It is 0 if there are none, as of a book without
- *          cards; or
+ * Returns: ZUVAROPY_OUTCOME_YES, value: the set of the cards that are found,
+ *          card n as the bit of weight 2^n. It is 0 exactly when no card
+ *          subsumes the case, as of a book without cards; or
  *          ZUVAROPY_OUTCOME_REFUSAL, in this order:
  *          question 1, input ZUVAROPY_INPUT_BUFFER, if work_len is below
  *          ZUVAROPY_WORK_BYTES;

@@ -12,4 +12,5 @@ explain() {
 explain family.pic cards.book
 explain both.pic cards.book
 explain family.pic twins.book
+explain family.pic reworded.book
 explain family.pic deep.book

@@ -88,6 +88,17 @@ walker() {
     row 1 $some $pet 0 $dog 0
 }
 
+# A woman whose children are doctors who do not smoke, in one row for her children and in two.
+doctors() {
+    woman
+    row 0 $all $child 0 $doctor $smoker
+}
+doctors_again() {
+    woman
+    row 0 $all $child 0 0 $smoker
+    row 0 $all $child 0 $doctor 0
+}
+
 # A doctor, two children and their dogs, but row 3 comes before its parent, which is row 4.
 early() {
     doctor
@@ -169,7 +180,10 @@ cards() {
 }
 
 { cards doctor; end; } >"$folder/cards.book"
-{ card woman; card woman; end; } >"$folder/twins.book"              # they subsume each other
+{ card woman; card woman; end; } >"$folder/twins.book"              # they subsume each other, and both are found
 { card top; card chain 13; card woman; end; } >"$folder/deep.book"  # card 1 has one edge more than allowed
 { cards early; end; } >"$folder/early.book"                         # row 3 of card 4 comes before its parent
 cards doctor >"$folder/open.book"                                   # without its end field
+
+# Cards 0 and 2 subsume each other too; cards 1 and 3 say less.
+{ card doctors; card healthy; card doctors_again; card top; end; } >"$folder/reworded.book"

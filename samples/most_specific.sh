@@ -14,6 +14,9 @@ look friend.pic cards.book
 look both.pic cards.book
 look none.pic cards.book
 look family.pic twins.book
+look family.pic reworded.book
+look friend.pic reworded.book
+look both.pic twins.book
 look cut.pic cards.book
 look family.pic open.book
 look family.pic deep.book

@@ -58,6 +58,15 @@ size_t book_field_at(const struct book *b, unsigned int card)
     return at;
 }
 
+void book_take(const struct book *b, unsigned int card, struct picture *taken)
+{
+    const uint8_t *field = b->bytes + book_field_at(b, card);
+
+    taken->length = field_bytes(field) - ZUVAROPY_HEAD_BYTES;
+    assert(taken->length <= sizeof taken->bytes);
+    memcpy(taken->bytes, field + ZUVAROPY_HEAD_BYTES, taken->length);
+}
+
 void book_replace(struct book *b, unsigned int card, const struct picture *by)
 {
     static struct book rest;

@@ -37,6 +37,9 @@ void book_copies(struct book *b, const struct picture *card, unsigned int count)
  * cards as there are, where the end field begins. */
 size_t book_field_at(const struct book *b, unsigned int card);
 
+/* The picture of a card that is there. */
+void book_take(const struct book *b, unsigned int card, struct picture *taken);
+
 /* Puts a card in the place of one that is there. */
 void book_replace(struct book *b, unsigned int card, const struct picture *by);
 

@@ -3,8 +3,6 @@
 #include "normal_reference.h"
 #include "reference.h"
 
-#include <stdbool.h>
-
 struct part {
     const uint8_t *bytes;
     size_t length;
@@ -13,7 +11,7 @@ struct part {
 static struct part sought;                    /* the case */
 static struct part cards[ZUVAROPY_MAX_CARDS]; /* those of the book */
 static unsigned int card_count;
-static unsigned int subsuming_count;
+static uint32_t subsuming; /* those that subsume the case */
 
 /* The questions. */
 
@@ -126,29 +124,26 @@ static uint32_t find_subsuming(void)
     uint32_t found = 0;
     unsigned int n;
 
-    subsuming_count = 0;
     for (n = 0; n < card_count; n++)
-        if (subsumes(&cards[n], &sought)) {
+        if (subsumes(&cards[n], &sought))
             found |= bit(n);
-            subsuming_count++;
-        }
     return found;
 }
 
-/* Does card n subsume another one of a set? */
-static bool subsumes_another(unsigned int n, uint32_t set)
+/* Does card n subsume another card that subsumes the case and that does not subsume it in return? */
+static bool is_passed_over(unsigned int n)
 {
     unsigned int m;
 
     for (m = 0; m < card_count; m++)
-        if (m != n && (set & bit(m)) != 0 && subsumes(&cards[n], &cards[m]))
+        if (m != n && (subsuming & bit(m)) != 0 && subsumes(&cards[n], &cards[m]) && !subsumes(&cards[m], &cards[n]))
             return true;
     return false;
 }
 
 uint64_t reference_most_specific(const struct lookup *l)
 {
-    uint32_t subsuming, found = 0;
+    uint32_t found = 0;
     uint64_t word;
     unsigned int n;
 
@@ -159,12 +154,17 @@ uint64_t reference_most_specific(const struct lookup *l)
         return word;
     subsuming = find_subsuming();
     for (n = 0; n < card_count; n++)
-        if ((subsuming & bit(n)) != 0 && !subsumes_another(n, subsuming))
+        if ((subsuming & bit(n)) != 0 && !is_passed_over(n))
             found |= bit(n);
     return (uint64_t)ZUVAROPY_OUTCOME_YES << ZUVAROPY_OUTCOME_SHIFT | found;
 }
 
-unsigned int reference_most_specific_subsuming(void)
+uint32_t reference_most_specific_subsuming(void)
 {
-    return subsuming_count;
+    return subsuming;
+}
+
+bool reference_most_specific_subsumes(unsigned int n, unsigned int m)
+{
+    return subsumes(&cards[n], &cards[m]);
 }

@@ -154,6 +154,24 @@ void random_change(struct picture *p, const struct shape *s)
     }
 }
 
+void random_reword(struct picture *p)
+{
+    const unsigned int row = random_below(picture_rows(p));
+
+    if (picture_rows(p) >= ZUVAROPY_MAX_ROWS)
+        return;
+    p->length -= ZUVAROPY_HEAD_BYTES;
+    if (row == 0) {
+        picture_row(p, 0, ZUVAROPY_KIND_FORALL, random_below(ZUVAROPY_ROLES));
+    } else {
+        memcpy(p->bytes + p->length, picture_field(p, row), ZUVAROPY_ROW_BYTES);
+        p->length += ZUVAROPY_ROW_BYTES;
+        if (picture_value(p, row)[ZUVAROPY_KIND_AT] == ZUVAROPY_KIND_FORALL)
+            memset(picture_value(p, row) + ZUVAROPY_EXCLUDED_AT, 0, ZUVAROPY_NAME_SET_BYTES);
+    }
+    picture_end(p);
+}
+
 void random_pair(struct picture *first, struct picture *second, const struct shape *s)
 {
     unsigned int changes;

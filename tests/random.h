@@ -37,4 +37,9 @@ void random_pair(struct picture *first, struct picture *second, const struct sha
  * away at times. */
 void random_change(struct picture *p, const struct shape *s);
 
+/* The same in other words, if a row more is allowed: a value restriction that says
+ * nothing; or a row again, without what is below it, so that of a value
+ * restriction the excluded names are in that row only. */
+void random_reword(struct picture *p);
+
 #endif

@@ -149,6 +149,11 @@ readme_python() {
         [ "$(LD_LIBRARY_PATH=$out/shared python3 "$out/readme.py")" = 'cards [2, 3, 4]' ]
 }
 
+# The lines about single cards in the README are among those of examples/explain.c.
+explained() {
+    grep '^card ' README.md >"$out/explained.log" && ! grep -vxFf samples/explain.stdout "$out/explained.log"
+}
+
 # The README shows twelve lines of what make demo prints: two answers, a common picture and the cards of a case.
 demo() {
     awk '/^Twelve lines of what `make demo`/ { at = 1; next } at && /^```$/ { if (at++ == 2) exit; next } at == 2' \
@@ -193,6 +198,7 @@ checked: taken' samples/each.pic samples/both.pic
 one 'readme, refused' readme 1 "$(grep '^refused 6,' README.md)" samples/top.pic samples/cut.pic
 one 'readme, card refused' grep -qxF "family.pic early.book: $(grep '^refused 11,' README.md)" \
     samples/most_specific.stdout
+one 'readme, explained' explained
 one 'readme, demo' demo
 
 count verdict sh tests/verdict.sh "$verdict"

@@ -20,12 +20,13 @@ static struct lookup lookup;
 #define TOP {ROWS(ROOT(0, 0))}
 #define A {ROWS(ROOT(NAME(1), 0))}
 #define B {ROWS(ROOT(NAME(2), 0))}
+#define C {ROWS(ROOT(NAME(3), 0))}
 #define A_B {ROWS(ROOT(NAME(1) | NAME(2), 0))}
 #define A_B_C {ROWS(ROOT(NAME(1) | NAME(2) | NAME(3), 0))}
 #define NONE {ROWS(ROOT_NONE)}
 
 static const struct {
-    struct row_list looked_up, cards[6];
+    struct row_list looked_up, cards[6]; /* an empty one after the last */
     uint32_t found;
 } cases[] = {
     /* 0 to 4: no card; one that is the case, one that everything is an instance of, one that does not subsume it. */
@@ -34,7 +35,7 @@ static const struct {
     {A_B, {TOP}, CARD(0)},
     {A, {B}, 0},
     {A, {A_B}, 0},
-    /* 5 to 8: the last of a chain hides the others, wherever it is. */
+    /* 5 to 8: the last of a chain is found alone, wherever it is. */
     {A_B_C, {TOP, A, A_B}, CARD(2)},
     {A_B_C, {A_B, A, TOP}, CARD(0)},
     {A_B_C, {A, A_B, TOP}, CARD(1)},
@@ -44,39 +45,78 @@ static const struct {
     {A_B, {TOP, A, B}, CARD(1) | CARD(2)},
     {A_B, {TOP, A, B, A_B}, CARD(3)},
     {A_B_C, {A_B, B, A, TOP}, CARD(0)},
-    /* 13 to 15: a card that does not subsume the case hides none. */
+    /* 13 to 16: for a card that does not subsume the case none is passed over. */
     {A, {A, A_B}, CARD(0)},
     {A_B, {TOP, A, A_B_C, B}, CARD(1) | CARD(3)},
     {A, {TOP, B, A_B}, CARD(0)},
-    /* 16 to 20: two that are the same hide each other, and all that they are instances of. */
-    {A, {A, A}, 0},
-    {A_B, {A, A, B}, CARD(2)},
-    {A_B, {TOP, A, A}, 0},
+    {A, {A, A_B, A, A_B}, CARD(0) | CARD(2)},
+    /* 17 to 22: cards that are the same subsume each other and are found together; so are those beside them. */
+    {A, {A, A}, CARD(0) | CARD(1)},
+    {A, {A, A, A}, CARD(0) | CARD(1) | CARD(2)},
+    {A, {A, A, A, A}, CARD(0) | CARD(1) | CARD(2) | CARD(3)},
+    {A_B, {A, A, B}, CARD(0) | CARD(1) | CARD(2)},
+    {A_B, {A, B, A, B}, CARD(0) | CARD(1) | CARD(2) | CARD(3)},
+    {A_B, {B, A, A, TOP, B}, CARD(0) | CARD(1) | CARD(2) | CARD(4)},
+    /* 23 to 27: for them a more general card is passed over, before, between and after them; and one that is there
+     * more than once. */
+    {A_B, {TOP, A, A}, CARD(1) | CARD(2)},
+    {A_B, {A, TOP, A}, CARD(0) | CARD(2)},
+    {A_B, {A, A, TOP}, CARD(0) | CARD(1)},
+    {A_B, {TOP, A, TOP, A, TOP}, CARD(1) | CARD(3)},
+    {A_B_C, {A, A_B, A, A_B, TOP}, CARD(1) | CARD(3)},
+    /* 28 to 31: and they for a more specific one, after, between and before them; those beside it are not. */
     {A_B_C, {A, A, A_B}, CARD(2)},
-    {A, {A, A, A, A}, 0},
-    /* 21 to 24: so do two of other bytes that have the same instances. */
+    {A_B_C, {A, A_B, A}, CARD(1)},
+    {A_B_C, {A_B, A, A}, CARD(0)},
+    {A_B_C, {A, C, A, A_B, C}, CARD(1) | CARD(3) | CARD(4)},
+    /* 32 to 35: diamonds that have two cards at one of their corners. */
+    {A_B_C, {TOP, A, B, A_B, A_B}, CARD(3) | CARD(4)},
+    {A_B_C, {A_B, B, TOP, A, A_B}, CARD(0) | CARD(4)},
+    {A_B_C, {TOP, A, A, B, A_B}, CARD(4)},
+    {A_B, {A, TOP, B, TOP, A}, CARD(0) | CARD(2) | CARD(4)},
+    /* 36 to 41: so it is with cards of other bytes that have the same instances: a value restriction in two, one that
+     * says nothing, existential restrictions turned round and one that follows, a value restriction passed on. */
     {{ROWS(ROOT(0, 0), ALL(0, R, NAME(3) | NAME(5) | NAME(6), 0))},
      {{ROWS(ROOT(0, 0), ALL(0, R, NAME(3), 0), ALL(0, R, NAME(5), 0))},
       {ROWS(ROOT(0, 0), ALL(0, R, NAME(3) | NAME(5), 0))}},
-     0},
-    {A_B, {A, {ROWS(ROOT(NAME(1), 0), ALL(0, R, 0, 0))}, B}, CARD(2)},
+     CARD(0) | CARD(1)},
+    {A_B, {A, {ROWS(ROOT(NAME(1), 0), ALL(0, R, 0, 0))}, B}, CARD(0) | CARD(1) | CARD(2)},
     {{ROWS(ROOT(0, 0), SOME(0, R, NAME(3) | NAME(5), 0))},
      {{ROWS(ROOT(0, 0), SOME(0, R, NAME(3), 0), SOME(0, R, NAME(5), 0))},
       {ROWS(ROOT(0, 0), SOME(0, R, NAME(5), 0), SOME(0, R, NAME(3), 0), SOME(0, R, 0, 0))},
       TOP},
-     0},
+     CARD(0) | CARD(1)},
     {{ROWS(ROOT(0, 0), ALL(0, R, NAME(3), 0), SOME(0, R, NAME(5), 0))},
      {{ROWS(ROOT(0, 0), ALL(0, R, NAME(3), 0), SOME(0, R, NAME(5), 0))},
       {ROWS(ROOT(0, 0), ALL(0, R, NAME(3), 0), SOME(0, R, NAME(3) | NAME(5), 0))}},
-     0},
-    /* 25 to 30: an impossible case is an instance of every card; an impossible card subsumes no other case. */
+     CARD(0) | CARD(1)},
+    {{ROWS(ROOT(0, 0), ALL(0, R, NAME(3), 0), SOME(0, R, NAME(5), 0))},
+     {{ROWS(ROOT(0, 0), ALL(0, R, NAME(3), 0), SOME(0, R, NAME(5), 0))},
+      {ROWS(ROOT(0, 0), SOME(0, R, NAME(3) | NAME(5), 0))},
+      {ROWS(ROOT(0, 0), SOME(0, R, NAME(3) | NAME(5), 0), ALL(0, R, NAME(3), 0))}},
+     CARD(0) | CARD(2)},
+    {{ROWS(ROOT(0, 0), SOME(0, R, NAME(3) | NAME(5), 0))},
+     {{ROWS(ROOT(0, 0), SOME(0, R, NAME(3), 0), SOME(0, R, NAME(5), 0))},
+      {ROWS(ROOT(0, 0), SOME(0, R, NAME(3) | NAME(5), 0))},
+      {ROWS(ROOT(0, 0), SOME(0, R, NAME(5), 0), SOME(0, R, NAME(3), 0))}},
+     CARD(1)},
+    /* 42 to 49: an impossible case is an instance of every card; an impossible card subsumes no other case. A card may
+     * be impossible in many ways, and in two at once. */
     {NONE, {A, B, TOP}, CARD(0) | CARD(1)},
     {NONE, {A, B, TOP, NONE}, CARD(3)},
-    {NONE, {NONE, {ROWS(ROOT(NAME(3), NAME(3)))}, A}, 0},
+    {NONE, {NONE, {ROWS(ROOT(NAME(3), NAME(3)))}, A}, CARD(0) | CARD(1)},
+    {NONE,
+     {{ROWS({0, ZUVAROPY_KIND_ROOT, 0, 1, NAME(3), NAME(3)})},
+      {ROWS(ROOT(0, 0), SOME_NONE(0, R))},
+      B,
+      {ROWS(ROOT_NONE, SOME_NONE(0, R))},
+      {ROWS(ROOT(0, 0), SOME(0, R, NAME(3), 0), ALL(0, R, 0, NAME(3)))}},
+     CARD(0) | CARD(1) | CARD(3) | CARD(4)},
     {{ROWS(ROOT(0, 0), ALL_NONE(0, R), SOME(0, R, 0, 0))}, {A, NONE}, CARD(1)},
     {A, {NONE, A}, CARD(1)},
     {A, {NONE, NONE}, 0},
-    /* 31 to 33: one with both names is one with either; an impossible value restriction is subsumed by any other. */
+    {A, {NONE, A, NONE, A}, CARD(1) | CARD(3)},
+    /* 50 to 53: one with both names is one with either; an impossible value restriction is subsumed by any other. */
     {{ROWS(ROOT(0, 0), SOME(0, R, NAME(3) | NAME(5), 0))},
      {{ROWS(ROOT(0, 0), SOME(0, R, NAME(3), 0), SOME(0, R, NAME(5), 0))},
       {ROWS(ROOT(0, 0), SOME(0, R, NAME(3), 0))},
@@ -90,7 +130,12 @@ static const struct {
       {ROWS(ROOT(0, 0), ALL(0, R, 0, NAME(5)))},
       {ROWS(ROOT(0, 0), ALL_NONE(0, R))}},
      CARD(2)},
-    /* 34, 35: the normal tables are compared, and not the pictures. */
+    {{ROWS(ROOT(0, 0), ALL_NONE(0, R))},
+     {{ROWS(ROOT(0, 0), ALL(0, R, NAME(5), 0), ALL(0, R, 0, NAME(5)))},
+      {ROWS(ROOT(0, 0), ALL(0, R, NAME(5), 0))},
+      {ROWS(ROOT(0, 0), ALL_NONE(0, R))}},
+     CARD(0) | CARD(2)},
+    /* 54, 55: the normal tables are compared, and not the pictures. */
     {{ROWS(ROOT(0, 0), ALL(0, R, NAME(3), 0), SOME(0, R, NAME(5), 0))},
      {{ROWS(ROOT(0, 0), SOME(0, R, NAME(3) | NAME(5), 0))},
       {ROWS(ROOT(0, 0), SOME(0, R, NAME(3), 0))},
@@ -101,7 +146,7 @@ static const struct {
       {ROWS(ROOT(0, 0), ALL(0, R, 0, 0), SOME(1, S, NAME(1), 0))},
       {ROWS(ROOT(0, 0), SOME(0, R, 0, 0), SOME(1, S, 0, 0))}},
      CARD(0) | CARD(1)},
-    /* 36, 37: excluded names; another role and another kind. */
+    /* 56, 57: excluded names; another role and another kind. */
     {{ROWS(ROOT(NAME(1), NAME(2) | NAME(63)))},
      {{ROWS(ROOT(0, NAME(2)))}, {ROWS(ROOT(0, NAME(1)))}, {ROWS(ROOT(NAME(1), NAME(63)))}, {ROWS(ROOT(NAME(63), 0))}},
      CARD(0) | CARD(2)},
@@ -161,48 +206,100 @@ static void test_counts(void)
     most_specific_check(&lookup, word_book(), count);
 }
 
-/* A chain of 32, in many orders: the one with all names is at every place. */
-static void test_chains(void)
-{
-    unsigned int turn, step, n, names;
-
-    for (step = 1; step < CARDS; step += 2)
-        for (turn = 0; turn < CARDS; turn++) {
-            begin(ALL_CARDS);
-            for (n = 0; n < CARDS; n++) {
-                names = (n * step + turn) % CARDS;
-                put_card(ROWS(ROOT(ALL_CARDS >> names, 0)));
-            }
-            book_end(&lookup.book);
-            for (n = 0; (n * step + turn) % CARDS != 0; n++)
-                ;
-            most_specific_room(&lookup, ZUVAROPY_WORK_BYTES, 0xA5, word_cards(CARD(n)), turn);
-        }
-}
-
-/* Cards that do not subsume each other, but that the one at this place has the names of the other too, or is it. */
-static void check_places(unsigned int place, unsigned int other, int same, uint32_t found)
+/* A full book of cards with these names, and the cards of it that are found. */
+static void check_names(const uint64_t *names, uint32_t found, unsigned long at)
 {
     unsigned int n;
 
     begin(ALL_CARDS);
     for (n = 0; n < CARDS; n++)
-        put_card(ROWS(ROOT(n != place ? NAME(n) : same ? NAME(other) : NAME(n) | NAME(other), 0)));
+        put_card(ROWS(ROOT(names[n], 0)));
     book_end(&lookup.book);
-    most_specific_room(&lookup, ZUVAROPY_WORK_BYTES, 0xA5, word_cards(found), CARDS * place + other);
+    most_specific_room(&lookup, ZUVAROPY_WORK_BYTES, 0xA5, word_cards(found), at);
 }
 
-/* Every card hides every other, alone; and every two cards each other. */
+/* Cards that lack no name, one, two and so on, each number in turn as often: those that lack none are found. */
+static void check_chain(unsigned int step, unsigned int turn, unsigned int often)
+{
+    uint64_t names[CARDS];
+    uint32_t found = 0;
+    unsigned int n, lacking;
+
+    for (n = 0; n < CARDS; n++) {
+        lacking = (n * step + turn) % CARDS / often;
+        names[n] = ALL_CARDS >> lacking;
+        if (lacking == 0)
+            found |= CARD(n);
+    }
+    check_names(names, found, CARDS * step + turn);
+}
+
+/* Chains of 32 cards, of 16 that are there twice and so on down to one that is there 32 times: upwards, downwards and
+ * in many other orders. The most specific ones are at every place. */
+static void test_chains(void)
+{
+    unsigned int turn, step, often;
+
+    for (often = 1; often <= CARDS; often *= 2)
+        for (step = 1; step < CARDS; step += 2)
+            for (turn = 0; turn < CARDS; turn++)
+                check_chain(step, turn, often);
+}
+
+/* Two cards among others of which none subsumes another: one more specific than the other; both the same; so and more
+ * specific than the rest; so and more general. */
+static void check_places(unsigned int place, unsigned int other)
+{
+    const unsigned long at = CARDS * place + other;
+    uint64_t names[CARDS];
+    unsigned int n;
+
+    for (n = 0; n < CARDS; n++)
+        names[n] = NAME(n);
+    names[place] = NAME(place) | NAME(other);
+    check_names(names, ALL_CARDS & ~CARD(other), at);
+    names[place] = NAME(other);
+    check_names(names, ALL_CARDS, at);
+    names[place] = names[other] = ALL_CARDS;
+    check_names(names, CARD(place) | CARD(other), at);
+    names[place] = names[other] = 0;
+    check_names(names, ALL_CARDS & ~CARD(place) & ~CARD(other), at);
+}
+
+/* Every two places. */
 static void test_places(void)
 {
     unsigned int place, other;
 
     for (place = 0; place < CARDS; place++)
         for (other = 0; other < CARDS; other++)
-            if (place != other) {
-                check_places(place, other, 0, ALL_CARDS & ~CARD(other));
-                check_places(place, other, 1, ALL_CARDS & ~CARD(other) & ~CARD(place));
-            }
+            if (place != other)
+                check_places(place, other);
+}
+
+/* So many cards in turn, again and again; card 0 of them may be more general than the rest. */
+static void check_turns(unsigned int turns, uint64_t general)
+{
+    uint64_t names[CARDS];
+    uint32_t found = 0;
+    unsigned int n;
+
+    for (n = 0; n < CARDS; n++) {
+        names[n] = n % turns != 0 ? NAME(n % turns) : general;
+        if (turns == 1 || names[n] != 0)
+            found |= CARD(n);
+    }
+    check_names(names, found, turns);
+}
+
+static void test_turns(void)
+{
+    unsigned int turns;
+
+    for (turns = 1; turns <= CARDS; turns++) {
+        check_turns(turns, NAME(0));
+        check_turns(turns, 0);
+    }
 }
 
 /* One card of 32 subsumes the case, and one alone does not: at every place. */
@@ -258,6 +355,7 @@ int main(void)
     test_counts();
     test_chains();
     test_places();
+    test_turns();
     test_single();
     test_bytes();
     return check_summary("most specific");

@@ -65,7 +65,7 @@ static void test_zeros(void)
     for (count = 0; count <= ZUVAROPY_MAX_CARDS; count += 1 + count) {
         lookup.case_picture = large;
         book_copies(&lookup.book, &large, count);
-        most_specific_check(&lookup, word_cards(count == 1), count);
+        most_specific_check(&lookup, word_cards((UINT32_C(1) << count) - 1), count);
         rows_picture(&lookup.case_picture, ROWS(ROOT(0, 0)));
         most_specific_check(&lookup, word_cards(0), count);
     }

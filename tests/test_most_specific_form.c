@@ -151,15 +151,16 @@ static void test_after(void)
     most_specific_check(&lookup, word_book(), 1);
 }
 
-/* What a length other than that of the card makes of a book of three: it takes in the next cards, heads and all, so
- * that the card, which has one row, goes on after its end field; else what follows is no head, or is cut. */
+/* A book of three cards that are the case; and what a length other than theirs makes of it: it takes in the next cards,
+ * heads and all, so that the card, which has one row, goes on after its end field; else what follows is no head, or is
+ * cut. */
 static uint64_t wanted_for(unsigned int n, unsigned int length)
 {
     const unsigned int field = ZUVAROPY_CARD_BYTES((unsigned int)card.length);
     const unsigned int taken = ZUVAROPY_CARD_BYTES(length);
 
     if (taken == field)
-        return word_cards(0);
+        return word_cards(1 << 0 | 1 << 1 | 1 << 2);
     return taken % field == 0 && taken <= (3 - n) * field ? word_card(n, ZUVAROPY_QUESTION_STOP, 1) : word_book();
 }
 

@@ -74,8 +74,18 @@ static uint64_t none(unsigned int n)
     return 0;
 }
 
+static uint64_t one_for_two(unsigned int n)
+{
+    return NAME(n / 2);
+}
+
+static uint64_t rising_by_two(unsigned int n)
+{
+    return rising(n / 2);
+}
+
 /* No card subsumes another; each subsumes all before or after it; and where only the last row tells, which has all that
- * the others ask for, each subsumes each. */
+ * the others ask for, each subsumes each. Then the first two with pairs of cards that subsume each other. */
 static void test_late(void)
 {
     unsigned int depth;
@@ -88,7 +98,11 @@ static void test_late(void)
         make_book(depth, falling);
         CHECK_WORD(most_specific_any(&lookup, depth), word_cards(1), depth);
         make_book(depth, none);
-        CHECK_WORD(most_specific_any(&lookup, depth), word_cards(0), depth);
+        CHECK_WORD(most_specific_any(&lookup, depth), word_cards(0xFFFFFFFF), depth);
+        make_book(depth, one_for_two);
+        CHECK_WORD(most_specific_any(&lookup, depth), word_cards(0xFFFFFFFF), depth);
+        make_book(depth, rising_by_two);
+        CHECK_WORD(most_specific_any(&lookup, depth), word_cards(UINT32_C(3) << 30), depth);
     }
 }
 

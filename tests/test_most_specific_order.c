@@ -40,7 +40,7 @@ static uint64_t wanted_of(unsigned int one, int broken, unsigned int card, unsig
         return word_refused(one);
     if (card != 0)
         return word_card_refused(0, card);
-    return next != 0 ? word_card_refused(1, next) : word_cards(0);
+    return next != 0 ? word_card_refused(1, next) : word_cards(1 << 0 | 1 << 1);
 }
 
 /* A book of two cards, its last byte cut off if it is to be broken. */
@@ -59,8 +59,8 @@ static void make(unsigned int one, int broken, unsigned int card, unsigned int n
         lookup.book.length--;
 }
 
-/* Each question of the case with each of both cards, and with the book's. The same good picture three times: two cards
- * that hide each other. */
+/* Each question of the case with each of both cards, and with the book's. The same good picture three times: both cards
+ * are found. */
 static void test_all(void)
 {
     unsigned int one, card, next;

@@ -69,7 +69,7 @@ static void test_long_bounds(void)
     book_copies(&lookup.book, &large, 1);
     check_bounds(WORK, word_cards(1));
     book_copies(&lookup.book, &large, ZUVAROPY_MAX_CARDS);
-    check_bounds(WORK, word_cards(0));
+    check_bounds(WORK, word_cards(0xFFFFFFFF));
     book_copies(&lookup.book, &large, ZUVAROPY_MAX_CARDS + 1);
     check_bounds(WORK, word_book());
 }

@@ -55,7 +55,7 @@ int LLVMFuzzerTestOneInput(const uint8_t *data, size_t size)
         CHECK(lent_is_kept(&work, 0));
     } else {
         fuzz_met(FEATURE_FIRST,
-                 bits_of(zuvaropy_value(word)) * ZUVAROPY_MAX_CARDS + reference_most_specific_subsuming());
+                 bits_of(zuvaropy_value(word)) * ZUVAROPY_MAX_CARDS + bits_of(reference_most_specific_subsuming()));
         CHECK(area_is_filled(work.bytes, ZUVAROPY_WORK_BYTES, 0));
         CHECK(lent_is_kept(&work, ZUVAROPY_WORK_BYTES));
     }
