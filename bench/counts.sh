@@ -1,5 +1,6 @@
 #!/bin/sh
-# Prints the library's instructions for one call, on typical inputs and on the slowest: sh bench/counts.sh BENCH
+# Prints the library's instructions for one call, on typical inputs, on full books of which every card subsumes the case
+# and on the slowest: sh bench/counts.sh BENCH
 #
 # They are the same on every run and under any load. memset and memcpy are kept from the instructions that repeat, which
 # callgrind counts once for each byte. By where the stack begins they take a few more or fewer, and that is said by the

@@ -9,7 +9,7 @@ use super::rng::Rng;
 use super::trees::{encode, root, Tree};
 use super::{book, lcs_inputs, most_specific_inputs, picture_inputs, subsumes_inputs, verify_inputs};
 
-use Sort::{Other, Typical, Worst};
+use Sort::{Full, Other, Typical, Worst};
 
 /// The outcome of a refusal.
 const REFUSED: u64 = 0;
@@ -17,6 +17,8 @@ const REFUSED: u64 = 0;
 #[derive(PartialEq)]
 pub enum Sort {
     Typical,
+    /// Full books of which every card subsumes the case.
+    Full,
     /// The slowest that is known.
     Worst,
     Other,
@@ -26,11 +28,23 @@ impl Sort {
     pub fn name(&self) -> &'static str {
         match self {
             Typical => "typical",
+            Full => "full",
             Worst => "worst",
             Other => "other",
         }
     }
+
+    /// How many times as long as another side the library may take.
+    pub fn goal(&self) -> f64 {
+        match self {
+            Full => FULL_GOAL,
+            _ => GOAL,
+        }
+    }
 }
+
+pub const GOAL: f64 = 1.3;
+pub const FULL_GOAL: f64 = 1.5;
 
 /// Sort, name, outcome and how an input is made. Typical inputs are drawn until they have the outcome.
 pub type Line = (Sort, &'static str, u64, fn(&mut Rng) -> Input);
@@ -170,15 +184,25 @@ pub static LINES: [(Call, &[Line]); 6] = [
         &[
             (Typical, "5 subsume the case", YES, |rng| case(most_specific_inputs::typical(rng))),
             (Typical, "none subsumes the case", YES, |rng| case(most_specific_inputs::apart(rng))),
+            (Full, "all subsume the case", YES, |rng| case(most_specific_inputs::covering(rng))),
+            (Full, "none subsumes another", YES, |rng| case(most_specific_inputs::antichain(16, MAX_CARDS, rng))),
+            (Full, "chain, specific first", YES, |rng| case(most_specific_inputs::chain(16, rng))),
+            (Full, "chain, specific last", YES, |rng| case(most_specific_inputs::chain_reversed(16, rng))),
+            (Full, "chain, any order", YES, |rng| case(most_specific_inputs::chain_shuffled(16, rng))),
+            (Full, "all the same", YES, |rng| case(most_specific_inputs::copies(16, rng))),
+            (Full, "all equivalent", YES, |rng| case(most_specific_inputs::equivalent(16, rng))),
+            (Full, "16 equivalent pairs", YES, |rng| case(most_specific_inputs::equivalent_pairs(16, rng))),
+            (Full, "24 rows, all compared", YES, |rng| case(most_specific_inputs::antichain(24, MAX_CARDS, rng))),
+            (Full, "24 rows, chain", YES, |rng| case(most_specific_inputs::chain_reversed(24, rng))),
+            (Full, "24 rows, equivalent", YES, |rng| case(most_specific_inputs::equivalent(24, rng))),
+            (Full, "40 rows, all compared", YES, |rng| case(most_specific_inputs::antichain(40, MAX_CARDS, rng))),
+            (Full, "40 rows, chain", YES, |rng| case(most_specific_inputs::chain_reversed(40, rng))),
+            (Full, "40 rows, equivalent", YES, |rng| case(most_specific_inputs::equivalent(40, rng))),
             (Worst, "120 times 211 alls", YES, |rng| case(most_specific_inputs::worst(rng))),
             (Other, "127 x 2, all compared", YES, |rng| case(most_specific_inputs::some_some(rng))),
             (Other, "256 rows, all compared", YES, |rng| case(most_specific_inputs::fans(rng))),
             (Other, "256 rows, chain", YES, |rng| case(most_specific_inputs::fans_chain(rng))),
-            (Other, "all subsume the case", YES, |rng| case(most_specific_inputs::covering(rng))),
-            (Other, "none subsumes another", YES, |rng| case(most_specific_inputs::antichain(MAX_CARDS, rng))),
-            (Other, "chain, specific first", YES, |rng| case(most_specific_inputs::chain(rng))),
-            (Other, "chain, specific last", YES, |rng| case(most_specific_inputs::chain_reversed(rng))),
-            (Other, "all the same", YES, |rng| case(most_specific_inputs::copies(rng))),
+            (Other, "256 rows, equivalent", YES, |rng| case(most_specific_inputs::fans_equivalent(rng))),
             (Other, "256 rows when merged", YES, |rng| case(most_specific_inputs::merged(rng))),
             (Other, "no cards", YES, |rng| case(most_specific_inputs::empty(rng))),
         ],
@@ -199,6 +223,6 @@ pub static GROWTH: [Growth; 10] = [
     (LCS, "fan and fan of 15", "pairs", [15, 30, 60, 120, 255], |pairs, _| two(lcs_inputs::fans(15, pairs / 15))),
     (LCS, "all roles", "pairs", ROWS, |rows, _| two(lcs_inputs::roles_large(rows))),
     (MOST_SPECIFIC, "none subsumes another", "cards", [2, 4, 8, 16, MAX_CARDS], |cards, rng| {
-        case(most_specific_inputs::antichain(cards, rng))
+        case(most_specific_inputs::antichain(16, cards, rng))
     }),
 ];

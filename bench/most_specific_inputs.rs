@@ -5,11 +5,11 @@ use super::reference::most_specific::MAX_CARDS;
 use super::reference::table::MAX_ROWS;
 use super::rng::Rng;
 use super::trees::{root, some, spread, Tree};
+use super::weaken::reword;
 
 pub type Book = (Tree, Vec<Tree>);
 
 const ROWS: usize = 20;
-const LETTERED_ROWS: usize = MAX_CARDS / 2;
 const DEPTH: usize = 3;
 
 /// A card of 10 to 20 rows.
@@ -54,46 +54,60 @@ pub fn covering(rng: &mut Rng) -> Book {
     (case, cards)
 }
 
-/// A case of 16 rows with two names at each that no other row has: as many as there may be cards.
-fn lettered(rng: &mut Rng) -> Tree {
-    let mut case = card(LETTERED_ROWS, DEPTH, rng);
-    for (number, node) in case.iter_mut().enumerate() {
-        node.wanted |= 1 << (32 + number) | 1 << (32 + LETTERED_ROWS + number);
+/// The names that decide between cards, as many as there may be cards.
+fn letter(number: usize) -> u64 {
+    1 << (32 + number)
+}
+
+/// A case of so many rows, with each of these names at one of them.
+fn lettered(rows: usize, rng: &mut Rng) -> Tree {
+    let mut case = card(rows, DEPTH, rng);
+    for node in &mut case {
         node.excluded = 0;
+    }
+    for number in 0..MAX_CARDS {
+        case[number % rows].wanted |= letter(number);
     }
     case
 }
 
 /// Takes away one of these names.
-fn unletter(tree: &mut Tree, name: usize) {
-    tree[name % LETTERED_ROWS].wanted &= !(1 << (32 + name));
+fn unletter(tree: &mut Tree, number: usize) {
+    let rows = tree.len();
+    tree[number % rows].wanted &= !letter(number);
 }
 
 /// Each card lacks one name more than the one before it, and subsumes that. The most specific one is the first, or the
-/// last.
-pub fn chain(rng: &mut Rng) -> Book {
-    let case = lettered(rng);
+/// last, or anywhere.
+pub fn chain(rows: usize, rng: &mut Rng) -> Book {
+    let case = lettered(rows, rng);
     let mut tree = case.clone();
-    let lacking = |name| {
-        unletter(&mut tree, name);
+    let lacking = |number| {
+        unletter(&mut tree, number);
         tree.clone()
     };
     let cards = (0..MAX_CARDS).map(lacking).collect();
     (case, cards)
 }
 
-pub fn chain_reversed(rng: &mut Rng) -> Book {
-    let (case, mut cards) = chain(rng);
+pub fn chain_reversed(rows: usize, rng: &mut Rng) -> Book {
+    let (case, mut cards) = chain(rows, rng);
     cards.reverse();
     (case, cards)
 }
 
+pub fn chain_shuffled(rows: usize, rng: &mut Rng) -> Book {
+    let (case, mut cards) = chain(rows, rng);
+    rng.shuffle(&mut cards);
+    (case, cards)
+}
+
 /// Each card lacks one name of the case, and has all that others lack. The most specific cards are all of them.
-pub fn antichain(count: usize, rng: &mut Rng) -> Book {
-    let case = lettered(rng);
-    let lacking = |name| {
+pub fn antichain(rows: usize, count: usize, rng: &mut Rng) -> Book {
+    let case = lettered(rows, rng);
+    let lacking = |number| {
         let mut tree = case.clone();
-        unletter(&mut tree, name);
+        unletter(&mut tree, number);
         tree
     };
     let cards = (0..count).map(lacking).collect();
@@ -101,9 +115,23 @@ pub fn antichain(count: usize, rng: &mut Rng) -> Book {
 }
 
 /// The same card at every place.
-pub fn copies(rng: &mut Rng) -> Book {
-    let case = lettered(rng);
+pub fn copies(rows: usize, rng: &mut Rng) -> Book {
+    let case = lettered(rows, rng);
     (case.clone(), vec![case; MAX_CARDS])
+}
+
+/// Each card says the same in other words: rows in another order, some of them twice.
+pub fn equivalent(rows: usize, rng: &mut Rng) -> Book {
+    let case = lettered(rows, rng);
+    let cards = (0..MAX_CARDS).map(|_| reword(&case, rng)).collect();
+    (case, cards)
+}
+
+/// The same with 16 cards, two of each, of which none subsumes another.
+pub fn equivalent_pairs(rows: usize, rng: &mut Rng) -> Book {
+    let (case, cards) = antichain(rows, MAX_CARDS / 2, rng);
+    let cards = cards.iter().flat_map(|card| [reword(card, rng), reword(card, rng)]).collect();
+    (case, cards)
 }
 
 pub fn empty(rng: &mut Rng) -> Book {
@@ -152,6 +180,11 @@ pub fn fans(_: &mut Rng) -> Book {
 
 pub fn fans_chain(_: &mut Rng) -> Book {
     late(fan, |card| (2 << card) - 1)
+}
+
+/// All say the same.
+pub fn fans_equivalent(_: &mut Rng) -> Book {
+    late(fan, |_| 1)
 }
 
 pub fn some_some(_: &mut Rng) -> Book {

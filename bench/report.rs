@@ -3,12 +3,10 @@
 use std::iter;
 
 use super::calls::{Call, Input};
-use super::lines::{Line, Sort, GROWTH, LINES};
+use super::lines::{Line, Sort, FULL_GOAL, GOAL, GROWTH, LINES};
 use super::race::Race;
 use super::reference::table::{HEAD_BYTES, ROW_BYTES, TAG_ROW};
 use super::reference::{INDIVIDUAL_BYTES, TAG_INDIVIDUAL};
-
-const GOAL: f64 = 1.3;
 
 pub struct Timed {
     pub call: &'static Call,
@@ -63,8 +61,8 @@ fn or_dash<T>(value: Option<T>, show: impl Fn(T) -> String) -> String {
 }
 
 /// A ratio above the goal is marked.
-fn ratio(ratio: Option<f64>) -> String {
-    let mark = if ratio > Some(GOAL) { '*' } else { ' ' };
+fn ratio(ratio: Option<f64>, goal: f64) -> String {
+    let mark = if ratio > Some(goal) { '*' } else { ' ' };
     format!("{}{mark}", or_dash(ratio, |ratio| format!("{ratio:.2}")))
 }
 
@@ -85,12 +83,12 @@ pub fn table(table: &[Timed]) {
             number(size.individuals),
             race.best[0],
             best[RUST],
-            ratio(timed.ratio(RUST)),
+            ratio(timed.ratio(RUST), sort.goal()),
             or_dash(best.get(PLAIN), |time| format!("{time:.0}")),
-            ratio(timed.ratio(PLAIN)),
+            ratio(timed.ratio(PLAIN), sort.goal()),
         );
     }
-    println!("* the library takes more than {GOAL} times as long");
+    println!("* the library takes more than {GOAL} times as long, on full books more than {FULL_GOAL} times");
 }
 
 /// The geometric mean; none of nothing.
@@ -106,7 +104,10 @@ pub fn means(table: &[Timed]) {
         mean(&lines.filter_map(|timed| timed.ratio(side)).collect::<Vec<f64>>())
     };
     let all = |side: usize| mean(&LINES.iter().filter_map(|(call, _)| typical(call, side)).collect::<Vec<f64>>());
-    let show = |name: &str, to: [Option<f64>; 2]| println!("{name:<13} {:>6} {:>6}", ratio(to[0]), ratio(to[1]));
+    let show = |name: &str, to: [Option<f64>; 2]| {
+        let [rust, plain] = to.map(|mean| ratio(mean, Sort::Typical.goal()));
+        println!("{name:<13} {rust:>6} {plain:>6}");
+    };
     println!("\ntypical inputs: geometric mean of the ratios");
     println!("{:<13} {:>6} {:>6}", "call", "Rust ", "C ");
     for (call, _) in &LINES {

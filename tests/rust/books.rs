@@ -1,4 +1,5 @@
-//! Cases and books at random. Most cards are made from the case, so that many subsume it and each other.
+//! Cases and books at random. Most cards are made from the case, so that many subsume it and each other, and often some
+//! mean the same: by the same bytes, or by others.
 
 use super::draw::{draw, draw_large, Draw};
 use super::pairs::change;
@@ -14,6 +15,8 @@ pub enum Shape {
     Lattice,
     Antichain,
     Twins,
+    Groups,
+    Same,
     Near,
     Apart,
     Marked,
@@ -23,12 +26,14 @@ pub enum Shape {
 }
 
 /// Each with how often it is taken.
-const SHAPES: [(Shape, usize); 11] = [
+const SHAPES: [(Shape, usize); 13] = [
     (Shape::Weaker, 8),
     (Shape::Chain, 6),
     (Shape::Lattice, 12),
     (Shape::Antichain, 6),
-    (Shape::Twins, 6),
+    (Shape::Twins, 12),
+    (Shape::Groups, 8),
+    (Shape::Same, 4),
     (Shape::Near, 8),
     (Shape::Apart, 4),
     (Shape::Marked, 4),
@@ -110,16 +115,26 @@ impl Maker {
             Shape::Weaker | Shape::Large => weaken(&weaken(&self.case, rng), rng),
             Shape::Chain => weaken(self.cards.last().unwrap_or(&self.case), rng),
             Shape::Lattice => self.lacking(rng.next()),
-            Shape::Antichain => self.lacking(1 << rng.below(self.removals.len())),
-            Shape::Twins if rng.chance(1, 4) => self.earlier(rng),
-            Shape::Twins if rng.chance(1, 2) => reword(&self.earlier(rng), rng),
+            Shape::Antichain => self.lacking(1 << (self.cards.len() % self.removals.len())),
+            Shape::Twins if rng.chance(1, 2) => again(self.earlier(rng), rng),
             Shape::Twins => weaken(&self.earlier(rng), rng),
+            Shape::Groups => again(self.lacking(1 << rng.below(3)), rng),
+            Shape::Same => again(self.lacking(1), rng),
             Shape::Near => self.near(rng),
             Shape::Apart => self.draw.tree(rng),
             Shape::Marked => self.marked(rng),
             Shape::Merging => spread(rng.below(17), rng.below(16), 8),
             Shape::Mixed => self.card(pick(rng), rng),
         }
+    }
+}
+
+/// A card of the same meaning, often by other bytes.
+fn again(card: Tree, rng: &mut Rng) -> Tree {
+    if rng.chance(1, 3) {
+        card
+    } else {
+        reword(&card, rng)
     }
 }
 
@@ -156,15 +171,18 @@ pub fn book(rng: &mut Rng) -> Book {
     let mut maker = Maker::new(shape, rng);
     for _ in 0..count(rng) {
         let card = maker.card(shape, rng);
-        // Too many of a kind would hide each other.
-        if !maker.cards.contains(&card) || rng.chance(1, 8) {
-            maker.cards.push(card);
-        }
+        maker.cards.push(card);
     }
     let mut cards: Vec<Vec<u8>> = maker.cards.iter().map(|card| encode(card)).collect();
-    // Else what is more specific often comes first.
-    for last in (1..cards.len()).rev() {
-        cards.swap(last, rng.below(last + 1));
-    }
+    arrange(&mut cards, rng);
     Book { shape, case: encode(&maker.case), cards }
+}
+
+/// In any order. As they are made, what is more specific often comes first.
+fn arrange(cards: &mut [Vec<u8>], rng: &mut Rng) {
+    match rng.below(8) {
+        0 => (),
+        1 => cards.reverse(),
+        _ => rng.shuffle(cards),
+    }
 }

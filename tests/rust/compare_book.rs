@@ -3,11 +3,12 @@
 use super::book_tally::BookTally;
 use super::both::{Both, Words};
 use super::calls::MOST_SPECIFIC;
+use super::card_order::CardOrder;
 use super::reference::table::KIND_EXISTS;
-use super::reference::{answer, outcome, MAX_EVIDENCE_BYTES, WORK_BYTES, YES};
+use super::reference::{outcome, value, WORK_BYTES, YES};
 use super::rng::Rng;
 use super::trees::{chain, encode, root, some, spread};
-use super::{book, books, damage, library, reference};
+use super::{book, books, damage, reference};
 
 #[derive(Default)]
 pub struct BookComparison {
@@ -34,22 +35,24 @@ impl BookComparison {
         let zeros = both.work.actual[..WORK_BYTES].iter().all(|&byte| byte == 0);
         both.check(zeros, "most specific, zeros", words, &files);
         // A damaged book may be one of other cards.
-        if !damaged && rng.chance(1, 8) {
-            let words = Words { expected: answer(YES, self.by_verdicts(&made) as usize), ..words };
-            both.check(words.expected == words.actual, "most specific, by verdicts", words, &files);
+        if !damaged {
+            self.compared(both, &made, words, &files, rng);
         }
     }
 
-    /// The set as it is defined, from the library's verdicts.
-    fn by_verdicts(&mut self, made: &books::Book) -> u32 {
-        let books::Book { case, cards, .. } = made;
-        let numbers = 0..cards.len();
-        let subsuming: Vec<usize> = numbers.filter(|&card| subsumes(&cards[card], case)).collect();
-        let hidden =
-            |card: usize| subsuming.iter().any(|&other| other != card && subsumes(&cards[card], &cards[other]));
-        let found: Vec<usize> = subsuming.iter().copied().filter(|&card| !hidden(card)).collect();
-        self.tally.hidden(subsuming.len() - found.len(), found.len());
-        found.iter().map(|&card| 1 << card).sum()
+    /// The set is that of the rule as it is stated, and has what follows from it.
+    fn compared(&mut self, both: &mut Both, made: &books::Book, words: Words, files: &[&[u8]], rng: &mut Rng) {
+        let order = CardOrder::by_tables(&made.case, &made.cards);
+        self.tally.compared(&order);
+        let set = value(words.actual) as u32;
+        both.check(order.most_specific() == value(words.expected) as u32, "most specific, by the rule", words, files);
+        both.check(order.some_is_found(set), "most specific, some is found", words, files);
+        both.check(order.each_subsumes_found(set), "most specific, each subsumes one found", words, files);
+        both.check(order.equivalent_are_together(set), "most specific, equivalent together", words, files);
+        if rng.chance(1, 8) {
+            let order = CardOrder::by_verdicts(&made.case, &made.cards);
+            both.check(order.most_specific() == set, "most specific, by verdicts", words, files);
+        }
     }
 
     /// Every answer occurs; says how often.
@@ -57,12 +60,6 @@ impl BookComparison {
         self.tally.print();
         both.checks.check_met(self.tally.answers());
     }
-}
-
-/// Does the general picture subsume the specific one, by the library's verdict?
-fn subsumes(general: &[u8], specific: &[u8]) -> bool {
-    let (mut work, mut result) = (vec![0; WORK_BYTES], vec![0; MAX_EVIDENCE_BYTES]);
-    outcome(library::subsumes(specific, general, &mut work, &mut result)) == YES
 }
 
 /// Seldom, the case or a card is one that 2 to 13 or 14 refuses; at times several are.

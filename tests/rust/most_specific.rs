@@ -4,7 +4,7 @@
 //! the case is kept, so that no table is made twice. A card that cannot be read is refused before a merged table that
 //! is too large, of whichever picture: such a refusal waits until all have been read.
 
-use std::array;
+use std::{array, iter};
 
 use super::homomorphism::Search;
 use super::normal::{self, TooLarge};
@@ -75,15 +75,43 @@ impl Kept {
         Ok(())
     }
 
+    /// The set of those that are not passed over. A card is passed over if it is above another one: if it subsumes that
+    /// one, which does not subsume it in return.
     fn most_specific(&self) -> u32 {
-        let found = (0..self.count).filter(|&at| !self.subsumes_another(at));
-        found.map(|at| 1 << self.cards[at]).sum()
+        let found = (0..self.count).fold(0, |found, at| self.with(found, at));
+        places(found).map(|at| 1 << self.cards[at]).sum()
     }
 
-    /// Does the card kept there subsume another one that is kept?
-    fn subsumes_another(&self, at: usize) -> bool {
-        let kept = self.tables[..self.count].iter().flatten().enumerate();
-        let general = self.tables[at].as_ref().expect("a card that is kept has a table");
-        kept.filter(|&(other, _)| other != at).any(|(_, specific)| Search::new(specific, general).run())
+    /// The places of the earlier cards that are not passed over so far, with this one's if it is not.
+    ///
+    /// A card that is passed over is left out from then on: what is above it is above one that is not, too. Once this
+    /// card subsumes one, the rest is left out: it is above that one and passed over, or equivalent and is not; and
+    /// what is above it is above that one too, and was passed over before.
+    fn with(&self, found: u32, at: usize) -> u32 {
+        match places(found).find(|&other| self.subsumes(at, other)) {
+            Some(other) if self.subsumes(other, at) => found | 1 << at,
+            Some(_) => found,
+            None => {
+                let left = places(found).filter(|&other| !self.subsumes(other, at));
+                left.fold(1 << at, |found, other| found | 1 << other)
+            }
+        }
     }
+
+    fn subsumes(&self, general: usize, specific: usize) -> bool {
+        Search::new(self.table(specific), self.table(general)).run()
+    }
+
+    fn table(&self, at: usize) -> &Table {
+        self.tables[at].as_ref().expect("a card that is kept has a table")
+    }
+}
+
+/// The places in a set of them.
+fn places(mut set: u32) -> impl Iterator<Item = usize> {
+    iter::from_fn(move || {
+        let place = (set != 0).then_some(set.trailing_zeros() as usize);
+        set &= set.wrapping_sub(1);
+        place
+    })
 }

@@ -14,6 +14,7 @@ mod book_tally;
 mod books;
 mod both;
 mod calls;
+mod card_order;
 mod checks;
 mod compare;
 mod compare_book;

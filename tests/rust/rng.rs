@@ -29,6 +29,12 @@ impl Rng {
         from[self.below(from.len())]
     }
 
+    pub fn shuffle<T>(&mut self, all: &mut [T]) {
+        for last in (1..all.len()).rev() {
+            all.swap(last, self.below(last + 1));
+        }
+    }
+
     pub fn byte(&mut self) -> u8 {
         self.next() as u8
     }
