@@ -15,8 +15,8 @@ ghost use Rattle.table.specs.declared.layout.Limits.{Limits};
 ghost use Rattle.book.specs.Form.{«card», mostCards};
 ghost use Rattle.book_tables.specs.Cache.{Cached, Storable, TableAt, tableIn, withSpan};
 
-// The tables that are kept end within the first third, so that of the card that is tested within the second; the case's
-// is the third.
+// As many bytes as three of the longest tables take: those that are kept end within the first third, the one of the
+// card that is tested ends within the second, and the case's is the last.
 pub const TABLES: usize = 3 * TABLE;
 
 // For each card where its table begins, and then for each card its rows; 0 if it is not cached.
