@@ -20,7 +20,7 @@ use Rattle.order.specs.Preorder.{passedOver, strict}
 use Rattle.book.specs.Form.{cardCount, mostCards}
 use Rattle.book.specs.Selection.{cardCovers}
 use Rattle.book_form.specs.Places.{WithEach}
-use Rattle.book_tables.specs.Cache.{Cached, tableSize}
+use Rattle.book_tables.specs.Cache.{Cached, keptSize}
 use Rattle.book_selection.specs.Standing.{BookCached, BookTaken, LowTable, Stands}
 use Rattle.book_selection.specs.declared.compare.Order.{Order}
 use Rattle.book_selection.specs.declared.compare.Progress.{Progress}
@@ -78,6 +78,6 @@ pub record CardRoom (limits : Limits) (book tables spans : List ℕ) (covering m
 pub record SelectRoom (limits : Limits) (book tables spans : List ℕ) (covering : ℕ) (work : List ℕ) : Type 0 where
   pub bounded : Bounded limits
   pub taken : BookTaken limits book
-  pub cached : Cached limits book tables spans tableSize
+  pub cached : Cached limits book tables spans keptSize
   pub inside : (k : ℕ) → has covering k ≡ true → k < cardCount book
   pub long : length work ≡ workSize limits

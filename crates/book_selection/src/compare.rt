@@ -9,9 +9,9 @@ use crate::spot::spot_table;
 use book_form::form::MAX_CARDS;
 use book_form::word::with_card;
 use book_form::word::without;
+use book_tables::cache::KEPT;
 use book_tables::cache::SPANS;
 use book_tables::covering::table_covers;
-use normal_writer::write::TABLE;
 use prepare_pair::prepare::half_size;
 use row_sets::rows::LINKS;
 use row_sets::rows::fill_links;
@@ -202,7 +202,7 @@ fn compare_cards(
 {
     let mut progress = Progress {
         redundant: 0,
-        at: TABLE,
+        at: KEPT,
     };
     let mut m = next_card(covering, 0);
     while m < MAX_CARDS {

@@ -2,7 +2,6 @@
 --   tabled-at                   a table at the start of a part
 --   table-same                  one at the start of a part with the same bytes
 --   part-tabled, part-checked   one that was made in a part is at the part's start, and has all that a search needs
---   rest-room, rest-tabled      one that is made from a place to the end
 --   none-cached                 none is kept
 --   cached-same                 those that end before a place stay when only bytes from there on change
 --   cached-within               they end before any later place
@@ -77,20 +76,6 @@ module _ (limits : Limits) (s tables : List ℕ) (a e r : ℕ) (end : List ℕ) 
   part-checked =
       subst (λ t. Checked t r) (sym there)
       (tabled-checked limits s (midOf a (e - a) tables) r end bounded tabled few (place r endSize) refl)
-
--- one that was made in the part from a place to the end
-module _ {limits : Limits} {s : List ℕ} (tables : List ℕ) (a : ℕ) where
-  pub rest-room : TableRoom limits s (drop a tables) → TableRoom limits s (midOf a (length tables - a) tables)
-  rest-room = subst (λ t. TableRoom limits s t) (sym (upper-part a tables))
-
-  pub rest-tabled : a ≤ length tables → {r : ℕ} {end : List ℕ} →
-      Tabled limits s (midOf a (length tables - a) tables) r end →
-      Tabled limits s (drop a tables) r (drop a (putMid a (length tables - a) tables end))
-  rest-tabled begins {r} {end} tabled =
-      let is : drop a (putMid a (length tables - a) tables end) ≡ end =
-      ap (drop a) (put-upper a tables end) ∙ drop-at (take a tables) end a (length-take-le a tables begins) in
-      subst (λ t. Tabled limits s (drop a tables) r t) (sym is)
-      (subst (λ t. Tabled limits s t r end) (upper-part a tables) tabled)
 
 -- ---- those that are kept
 

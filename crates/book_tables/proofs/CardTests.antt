@@ -20,7 +20,7 @@ use Rattle.homomorphism_search.specs.Search.{LinkedTable, rowMaps}
 use Rattle.meaning.specs.NormalTable.{mergedCount, normalFile}
 use Rattle.picture.specs.Refusal.{tooMany}
 use Rattle.picture.specs.declared.answer.Input.the-variants.{Card, First}
-use Rattle.table.specs.Bounds.{Bounded, pictureSize}
+use Rattle.table.specs.Bounds.{Bounded, maxRows, pictureSize}
 use Rattle.table.specs.Layout.{endSize, «place»}
 use Rattle.table_rows.specs.Links.{Zeros}
 use Rattle.table.specs.Pick.{pick}
@@ -35,7 +35,7 @@ use Rattle.book.specs.Call.{cardMerged}
 use Rattle.book.specs.Form.{card, mostCards}
 use Rattle.book.specs.Selection.{cardWord, caseCovered}
 use Rattle.book_tables.specs.Cache.{Addable, Added, Cached, SubsumersBelow, TableAt, Testable}
-use Rattle.book_tables.specs.Cache.{casePlace, tableIn, tableSize, tablesSize}
+use Rattle.book_tables.specs.Cache.{keptSize, tableIn, tableSize, tablesSize}
 use Rattle.book_tables.specs.Tables.{coversTable, selectedOn}
 use Rattle.picture.specs.declared.answer.Asked.{Asked}
 use Rattle.picture.specs.declared.answer.Asked.the-variants.{No, Yes}
@@ -44,7 +44,7 @@ use Rattle.book.specs.declared.answer.Selected.the-variants.{Cards, Refused}
 use Rattle.book_tables.specs.declared.subsumers.Subsumers.{Subsumers}
 use Rattle.book.proofs.CardWords.{cardWord-below, cardWord-same, cardWord-suc, cardWord-zero}
 use Rattle.book_tables.proofs.Caches.{cached-same, cached-within, none-cached, part-checked, part-tabled}
-use Rattle.book_tables.proofs.Parts.{part-after}
+use Rattle.book_tables.proofs.Parts.{front-same}
 
 -- ---- the cards in turn
 
@@ -53,18 +53,21 @@ Answer limits t book count =
     selectedOn (askedFrom (cardMerged limits book) count 0) (cardWord (coversTable limits t book) count)
 
 module _ {limits : Limits} {t book : List ℕ} {count n : ℕ} where
-  pub test-start : {tables spans : List ℕ} → length tables ≡ tablesSize → tableIn tables casePlace n ≡ t →
-      Zeros (mostCards + mostCards) spans →
-      SubsumersBelow limits t book count n tables spans (record { word = 0; at = 0 }) 0
-  test-start {tables} {spans} long case blank =
+  pub test-start : {tables spans : List ℕ} → length tables ≡ tablesSize → tableIn tables 0 n ≡ t → n ≤ maxRows →
+      Zeros (mostCards + mostCards) spans → (at : ℕ) → at ≡ place n endSize →
+      SubsumersBelow limits t book count n tables spans (record { word = 0; at = at }) 0
+  test-start {tables} {spans} long case most blank at is =
       record {
         long = long;
         case-is = case;
         most = omega arith;
         few = λ j l. absurd (omega arith);
         word-is = sym (cardWord-zero (coversTable limits t book));
-        early = omega arith;
-        cache-is = none-cached limits book tables spans blank;
+        behind = omega (arith, is);
+        early = omega (arith, is, most);
+        cache-is =
+            cached-within limits book tables spans 0 (none-cached limits book tables spans blank) at (omega arith)
+            (omega (arith, is, most, long));
       }
 
   module _ {tables spans : List ℕ} {subsumers : Subsumers} {k : ℕ}
@@ -107,15 +110,14 @@ module _ {limits : Limits} {t book : List ℕ} {count n : ℕ} where
         fits : place m endSize ≤ pictureSize limits
         fits = tabled-fits limits (card book k) part m made bounded tabled few
 
-        case-same : tableIn new casePlace n ≡ t
-        case-same =
-            ap (take (place n endSize))
-            (part-after tables at end made casePlace (omega arith) inside (tabled .same ∙ part-long)
-            (omega (arith, so .early)))
-            ∙ so .case-is
-
         begins : at ≤ length tables
         begins = omega (arith, inside)
+
+        case-same : tableIn new 0 n ≡ t
+        case-same =
+            front-same tables new at 0 (place n endSize) begins (omega (arith, test-long, so .early))
+            (take-put at (end - at) tables made begins) (omega (arith, so .behind))
+            ∙ so .case-is
 
         table : TableAt limits (card book k) (drop at new) m
         table =
@@ -148,7 +150,7 @@ module _ {limits : Limits} {t book : List ℕ} {count n : ℕ} where
             }
 
         module _ {says : Bool}
-            (is : says ≡ rowMaps (tableIn new casePlace n) (tableIn new at m) (limits .depth) 0 0) where
+            (is : says ≡ rowMaps (tableIn new 0 n) (tableIn new at m) (limits .depth) 0 0) where
           answer : says ≡ coversTable limits t book k
           answer =
               is
@@ -173,6 +175,7 @@ module _ {limits : Limits} {t book : List ℕ} {count n : ℕ} where
                     ∙ ap (λ (b : Bool). subsumers .word + pick b (2 ^ k) 0) answer
                     ∙ ap (λ (i : ℕ). i + pick (coversTable limits t book k) (2 ^ k) 0) (so .word-is)
                     ∙ sym (cardWord-suc (coversTable limits t book) k);
+                behind = omega (arith, so .behind, added .later);
                 early = added .early;
                 cache-is =
                     added .cached limits book new (omega (arith, test-long, fits, bounded .0, so .early)) kept table;
@@ -180,12 +183,12 @@ module _ {limits : Limits} {t book : List ℕ} {count n : ℕ} where
 
   pub test-all : {tables spans : List ℕ} {subsumers : Subsumers} {k : ℕ} →
       SubsumersBelow limits t book count n tables spans subsumers k → count ≤ k →
-      (Cards (subsumers .word) ≡ Answer limits t book count) × Cached limits book tables spans tableSize
+      (Cards (subsumers .word) ≡ Answer limits t book count) × Cached limits book tables spans keptSize
   test-all {tables} {spans} {subsumers} {k} so done =
       let end : k ≡ count = omega (arith, so .most) in
       let all = to-yes (cardMerged limits book) count k done (so .few) in (
         ap Cards (so .word-is ∙ ap (cardWord (coversTable limits t book)) end) ∙ sym (rw all),
-        cached-within limits book tables spans (subsumers .at) (so .cache-is) tableSize (so .early)
+        cached-within limits book tables spans (subsumers .at) (so .cache-is) keptSize (so .early)
             (omega (arith, so .long)),
       )
 

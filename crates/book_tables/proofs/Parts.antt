@@ -1,10 +1,9 @@
 -- Laws of bytes that are put in the place of others, `putMid`, over any start and length.
 --   put-part       bytes put from a place on are in the place of as many
 --   part-there     the bytes that were put
---   part-after     what lies behind them is as it was
 --   front-same     runs that are the same up to a place have the same parts before it
 use Prim.Native.Nat.{_+_, _-_, _≤_, ℕ}
-use borrow.Rule.Slice.PartMut.{drop-put, putMid}
+use borrow.Rule.Slice.PartMut.{putMid}
 use lib.ListN.{drop, length, length-drop, take, take-append-drop}
 use lib.Seq.{drop-append-le, drop-at, drop-drop, length-take-le, take-append-le}
 use mathlib.Core.List.{List, _++_, append-assoc}
@@ -23,16 +22,6 @@ pub part-there : (d : List ℕ) (a k : ℕ) (s : List ℕ) (n : ℕ) → a ≤ l
 part-there d a k s n inside l =
     ap (take n) (drop-at (take a d) (s ++ drop k (drop a d)) a (length-take-le a d inside))
     ∙ take-append-le n s (drop k (drop a d)) l
-
-pub part-after : (d : List ℕ) (a e : ℕ) (s : List ℕ) (c : ℕ) → a ≤ e → e ≤ length d → length s ≡ e - a → e ≤ c →
-    drop c (putMid a (e - a) d s) ≡ drop c d
-part-after d a e s c ordered inside long behind =
-    let at : e + (c - e) ≡ c = omega arith in
-    ap (λ (i : ℕ). drop i (putMid a (e - a) d s)) (sym at)
-    ∙ sym (drop-drop (c - e) e (putMid a (e - a) d s))
-    ∙ ap (drop (c - e)) (drop-put a e d s ordered inside long)
-    ∙ drop-drop (c - e) e d
-    ∙ ap (λ (i : ℕ). drop i d) at
 
 -- a part before a place is a part of what lies before it
 in-front : (d : List ℕ) (at start n : ℕ) → at ≤ length d → start + n ≤ at →

@@ -1,8 +1,8 @@
--- The test of the cards, and the tables that it makes in one run of bytes: those of covering cards that are kept, from
--- the first byte on and within the size of one; behind them that of the card that is tested; and the case's, the last.
+-- The test of the cards, and the tables that it makes in one run of bytes: the case's; those of covering cards that are
+-- kept, within the size of two; and behind them that of the card that is tested.
 -- Nobody has to believe these.
 --   tableSize        as many bytes as the longest table takes
---   casePlace        where the case's table begins
+--   keptSize         before this byte end those that are kept
 --   tablesSize       as many bytes as all of them take
 --   tableIn          the table of so many rows from a byte on
 --   TableAt          the normal table of a picture, of so many rows, at the start of a part
@@ -46,11 +46,11 @@ use Rattle.book_tables.specs.declared.subsumers.Subsumers.{Subsumers}
 abbrev pub tableSize : ℕ
 tableSize = place maxRows endSize
 
-abbrev pub casePlace : ℕ
-casePlace = tableSize + tableSize
+abbrev pub keptSize : ℕ
+keptSize = tableSize + tableSize
 
 abbrev pub tablesSize : ℕ
-tablesSize = casePlace + tableSize
+tablesSize = keptSize + tableSize
 
 abbrev pub tableIn : List ℕ → ℕ → ℕ → List ℕ
 tableIn tables start rows = take (place rows endSize) (drop start tables)
@@ -91,26 +91,27 @@ pub record CardsTestable (limits : Limits) (book : List ℕ) (cards : Cards) (n 
   pub bounded : Bounded limits
   pub cards-read : CardsRead limits book cards
   pub long : length tables ≡ tablesSize
-  pub linked : LinkedTable (tableIn tables casePlace n) n links
+  pub linked : LinkedTable (tableIn tables 0 n) n links
   pub blank : Zeros (mostCards + mostCards) spans
 
 pub record Testable (tables : List ℕ) (n : ℕ) (links : List ℕ) (at m : ℕ) : Type 0 where
   pub long : length tables ≡ tablesSize
-  pub early : at ≤ tableSize
-  pub linked : LinkedTable (tableIn tables casePlace n) n links
+  pub early : at ≤ keptSize
+  pub linked : LinkedTable (tableIn tables 0 n) n links
   pub checked : Checked (tableIn tables at m) m
 
 pub record Addable (m k : ℕ) (subsumers : Subsumers) (spans : List ℕ) : Type 0 where
   pub few : m ≤ maxRows
   pub below : k < mostCards
   pub room : subsumers .word + 2 ^ k < 2 ^ mostCards
-  pub early : subsumers .at ≤ tableSize
+  pub early : subsumers .at ≤ keptSize
   pub spanned : length spans ≡ mostCards + mostCards
 
 pub record Added (covers : Bool) (m k : ℕ) (subsumers : Subsumers) (spans : List ℕ) (r : Subsumers) (end : List ℕ) :
     Type 0 where
   pub word-is : r .word ≡ subsumers .word + pick covers (2 ^ k) 0
-  pub early : r .at ≤ tableSize
+  pub later : subsumers .at ≤ r .at
+  pub early : r .at ≤ keptSize
   pub cached : (limits : Limits) (book tables : List ℕ) → subsumers .at + place m endSize ≤ length tables →
       Cached limits book tables spans (subsumers .at) → TableAt limits (card book k) (drop (subsumers .at) tables) m →
       Cached limits book tables end (r .at)
@@ -118,13 +119,14 @@ pub record Added (covers : Bool) (m k : ℕ) (subsumers : Subsumers) (spans : Li
 pub record SubsumersBelow (limits : Limits) (t book : List ℕ) (count n : ℕ) (tables spans : List ℕ)
     (subsumers : Subsumers) (k : ℕ) : Type 0 where
   pub long : length tables ≡ tablesSize
-  pub case-is : tableIn tables casePlace n ≡ t
+  pub case-is : tableIn tables 0 n ≡ t
   pub most : k ≤ count
   pub few : (j : ℕ) → j < k → cardMerged limits book j ≡ Yes
   pub word-is : subsumers .word ≡ cardWord (coversTable limits t book) k
-  pub early : subsumers .at ≤ tableSize
+  pub behind : place n endSize ≤ subsumers .at
+  pub early : subsumers .at ≤ keptSize
   pub cache-is : Cached limits book tables spans (subsumers .at)
 
 abbrev pub CachedAfter : Selected → Limits → List ℕ → List ℕ → List ℕ → Type 0
-CachedAfter (selected.Cards word) limits book tables spans = Cached limits book tables spans tableSize
+CachedAfter (selected.Cards word) limits book tables spans = Cached limits book tables spans keptSize
 CachedAfter (selected.Refused r) limits book tables spans = Unit

@@ -1,5 +1,5 @@
-// The tables of the cards and of the case, in one array of the call's own. Those of covering cards are kept one after
-// the other from its first byte on, so that they need not be made again; what lies after them is free.
+// The tables of the case and of the cards, in one array of the call's own: the case's, and behind it those of covering
+// cards, one after the other, so that they need not be made again.
 use book_form::form::MAX_CARDS;
 use normal_writer::write::TABLE;
 use table::layout::END_SIZE;
@@ -15,9 +15,10 @@ ghost use Rattle.table.specs.declared.layout.Limits.{Limits};
 ghost use Rattle.book.specs.Form.{«card», mostCards};
 ghost use Rattle.book_tables.specs.Cache.{Cached, Storable, TableAt, tableIn, withSpan};
 
-// As many bytes as three of the longest tables take: those that are kept end within the first third, the one of the
-// card that is tested ends within the second, and the case's is the last.
-pub const TABLES: usize = 3 * TABLE;
+// While cards are tested, the tables that are kept end before this byte; behind them there is room for one more.
+pub const KEPT: usize = 2 * TABLE;
+
+pub const TABLES: usize = KEPT + TABLE;
 
 // For each card where its table begins, and then for each card its rows; 0 if it is not cached.
 pub const SPANS: usize = 2 * MAX_CARDS;

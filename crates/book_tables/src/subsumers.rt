@@ -1,6 +1,7 @@
 // Which cards cover the case. 14 is asked of the case and of each card in turn; nothing that the call was lent is
-// written before all are answered yes, so the tables stand in an array of its own: the case's at its end, each card's
-// behind those that are kept. That of a covering card is kept if it ends early enough.
+// written before all are answered yes, so the tables stand in an array of its own: the case's first, each card's behind
+// those that are kept. That of a covering card is kept if it ends early enough.
+use crate::cache::KEPT;
 use crate::cache::SPANS;
 use crate::cache::keep_span;
 use crate::cache::table_at;
@@ -28,10 +29,7 @@ ghost use Rattle.book.specs.Call.{cardMerged};
 ghost use Rattle.book.specs.Selection.{cardWord, caseCovered};
 ghost use Rattle.book_tables.specs.Tables.{coversTable, selectedOn};
 ghost use Rattle.book_tables.specs.Cache.{Addable, Added, CachedAfter, CardsTestable, Findable, Testable};
-ghost use Rattle.book_tables.specs.Cache.{casePlace, tableIn};
-
-// Where the case's table begins: behind every card's.
-const CASE: usize = 2 * TABLE;
+ghost use Rattle.book_tables.specs.Cache.{tableIn};
 
 // Of the cards tested so far those that subsume the case, and where the tables kept of them end.
 pub struct Subsumers {
@@ -49,9 +47,9 @@ fn covers_case(
     limits: Limits,
 ) -> bool
     requires { ⌜ Testable (now tables) n (now links) at m ⌝ }
-    ensures { λ r. ⌜ r ≡ rowMaps (tableIn (now (tables .entry)) casePlace n) (tableIn (now (tables .entry)) at m) (limits .depth) 0 0 ⌝ }
+    ensures { λ r. ⌜ r ≡ rowMaps (tableIn (now (tables .entry)) 0 n) (tableIn (now (tables .entry)) at m) (limits .depth) 0 0 ⌝ }
 {
-    let table = table_at(tables, CASE, n);
+    let table = table_at(tables, 0, n);
     let other = table_at(tables, at, m);
     let mut others = [0u8; LINKS];
     fill_links(other, m, &mut others);
@@ -76,7 +74,7 @@ fn add_card(
     let at = subsumers.at;
     let word = subsumers.word + bit(k);
     let end = at + place(m, END_SIZE);
-    if TABLE < end {
+    if KEPT < end {
         return Subsumers { word, at };
     }
     keep_span(k, at, m, spans);
@@ -94,9 +92,12 @@ fn test_cards(
     spans: &mut [usize; SPANS],
 ) -> Selected
     requires { ⌜ CardsTestable limits (now book) cards n (now links) (now tables) (now spans) ⌝ }
-    ensures { λ r. ⌜ (r ≡ selectedOn (askedFrom (cardMerged limits (now (book .entry))) (cards .count) 0) (cardWord (coversTable limits (tableIn (now (tables .entry)) casePlace n) (now (book .entry))) (cards .count))) × (CachedAfter r limits (now (book .entry)) (now (tables .exit)) (now (spans .exit))) ⌝ }
+    ensures { λ r. ⌜ (r ≡ selectedOn (askedFrom (cardMerged limits (now (book .entry))) (cards .count) 0) (cardWord (coversTable limits (tableIn (now (tables .entry)) 0 n) (now (book .entry))) (cards .count))) × (CachedAfter r limits (now (book .entry)) (now (tables .exit)) (now (spans .exit))) ⌝ }
 {
-    let mut subsumers = Subsumers { word: 0, at: 0 };
+    let mut subsumers = Subsumers {
+        word: 0,
+        at: place(n, END_SIZE),
+    };
     let mut k = 0;
     while k < cards.count {
         let at = subsumers.at;
@@ -112,14 +113,6 @@ fn test_cards(
     Selected::Cards(subsumers.word)
 }
 
-// Makes the case's table behind all others, and gives its rows; 0 if 14 is answered no.
-fn table_case(case: &[u8], limits: Limits, tables: &mut [u8]) -> usize
-    requires { ⌜ TableRoom limits (now case) (drop casePlace (now tables)) ⌝ }
-    ensures { λ r. ⌜ Tabled limits (now (case .entry)) (drop casePlace (now (tables .entry))) r (drop casePlace (now (tables .exit))) ⌝ }
-{
-    normal_table(case, limits, &mut tables[CASE..])
-}
-
 // 14 of the case, then of each card; the cards that cover the case, and their tables, as many as fit.
 pub fn find_subsumers(
     case: &[u8],
@@ -132,11 +125,11 @@ pub fn find_subsumers(
     requires { ⌜ Findable limits (now case) (now book) cards (now tables) (now spans) ⌝ }
     ensures { λ r. ⌜ (r ≡ selectedOn (andThen (mergedAsked limits Input.First (now (case .entry))) (askedFrom (cardMerged limits (now (book .entry))) (cards .count) 0)) (cardWord (caseCovered limits (now (case .entry)) (now (book .entry))) (cards .count))) × (CachedAfter r limits (now (book .entry)) (now (tables .exit)) (now (spans .exit))) ⌝ }
 {
-    let n = table_case(case, limits, tables);
+    let n = normal_table(case, limits, tables);
     if n == 0 {
         return Selected::Refused(too_many(Input::First));
     }
     let mut links = [0u8; LINKS];
-    fill_links(table_at(tables, CASE, n), n, &mut links);
+    fill_links(table_at(tables, 0, n), n, &mut links);
     test_cards(book, cards, limits, n, &links, tables, spans)
 }

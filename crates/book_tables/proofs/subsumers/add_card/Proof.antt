@@ -17,7 +17,7 @@ returns : tie.Need-returns
 returns c =
     let a = c .before .args in
     let none = ap (λ (b : Bool). pick b (2 ^ (a .k)) 0) (not-true (a .covers) (c .if1 .taken)) in
-    record { word-is = omega (arith, none); early = c .before .pre .early; cached = λ _ _ _ _ so _. so }
+    record { word-is = omega (arith, none); later = omega arith; early = c .before .pre .early; cached = λ _ _ _ _ so _. so }
 
 bit-requires : tie.Need-bit-requires
 bit-requires c κs = search needs
@@ -42,7 +42,7 @@ word-is c =
 returns-2 : tie.Need-returns-2
 returns-2 c =
     let start = c .before .before .before .before .before in
-    record { word-is = word-is (c .before .before .before); early = start .pre .early; cached = λ _ _ _ _ so _. so }
+    record { word-is = word-is (c .before .before .before); later = omega arith; early = start .pre .early; cached = λ _ _ _ _ so _. so }
 
 keep-span-requires : tie.Need-keep-span-requires
 keep-span-requires c κs = search needs
@@ -56,6 +56,7 @@ returns-3 c =
     let spans = now (a .spans) in
     record {
       word-is = word-is (c .before .before .before .before .before);
+      later = omega arith;
       early = omega (arith, c .before .before .if2 .left);
       cached = λ limits book tables room so table.
           subst (λ (s : List ℕ). Cached limits book tables s (at + size .result)) (sym (c .keep-span .ensures))

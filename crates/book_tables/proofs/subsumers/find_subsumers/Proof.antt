@@ -1,29 +1,24 @@
--- The case's table is made behind all others; where 14 is answered yes, the cards are tested against it.
+-- The case's table is made before all others; where 14 is answered yes, the cards are tested against it.
 use Prim.Native.Nat.{_≤_}
 use native.Mathlib.Omega.{arith}
 use borrow.Author.Needs.{needs}
 use denote.Ref.{now}
-use lib.ListN.{length, length-drop}
-use mathlib.Core.Path.{_≡_, refl, subst, sym}
+use lib.ListN.{length}
+use mathlib.Core.Path.{_∙_, _≡_, refl, subst, sym}
 use Rattle.table_rows.proofs.Stores.{blank}
 use Rattle.meaning.specs.NormalTable.{mergedCount}
 use Rattle.row_sets.specs.Rows.{Checked}
 use Rattle.homomorphism_search.specs.Search.{LinkedTable}
 use Rattle.normal_writer.proofs.Tablings.{none-many, some-few, tabled-checked}
-use Rattle.book_tables.specs.Cache.{casePlace, tableIn, tablesSize}
+use Rattle.book_tables.specs.Cache.{tableIn, tablesSize}
 use Rattle.book_tables.proofs.CardTests.{case-many, case-tested}
 use Rattle.book_tables.proofs.subsumers.find_subsumers.Statement.{statement}
 use Rattle.book_tables.proofs.subsumers.find_subsumers.Tie as tie
 
-table-case-requires : tie.Need-table-case-requires
-table-case-requires c κs =
-    let start = c .before .before .before .before in
-    let rest = length-drop casePlace (now (start .args .tables)) in
-    record {
-      bounded = start .pre .bounded;
-      readable = start .pre .readable;
-      space = omega (arith, rest, start .pre .long, start .pre .bounded .0);
-    }
+normal-table-requires : tie.Need-normal-table-requires
+normal-table-requires c κs =
+    let pre = c .before .before .before .before .pre in
+    record { bounded = pre .bounded; readable = pre .readable; space = omega (arith, pre .long, pre .bounded .0) }
 
 too-many-requires : tie.Need-too-many-requires
 too-many-requires c κs = search needs
@@ -32,14 +27,14 @@ same-length : tie.Need-same-length
 same-length c = search needs
 
 -- the way back from the table that was made to the entry
-abbrev entry : (c : tie.After-table-case) → tie.Start
+abbrev entry : (c : tie.After-normal-table) → tie.Start
 entry c = c .before .before .before .before .before
 
 returns : tie.Need-returns
 returns c =
     let made = c .before .before .before .before in
     let a = entry made .args in
-    let many = none-many _ _ _ _ _ (entry made .pre .bounded) (made .table-case .ensures) (c .before .if1 .taken) in
+    let many = none-many _ _ _ _ _ (entry made .pre .bounded) (made .normal-table .ensures) (c .before .if1 .taken) in
     rw (c .too-many .ensures) (case-many (a .limits) (now (a .case)) (now (a .book)) (a .cards .count) many, tt)
 
 -- where a row was given, 14 is answered yes, and the table has all that a search needs
@@ -47,28 +42,25 @@ few : (c : tie.Else1) → let a = entry (c .before .before .before) .args in
     mergedCount (a .limits) (now (a .case)) ≤ a .limits .rows
 few c =
     let made = c .before .before .before in
-    some-few _ _ _ _ _ (entry made .pre .bounded) (made .table-case .ensures) (c .if1 .left)
+    some-few _ _ _ _ _ (entry made .pre .bounded) (made .normal-table .ensures) (c .if1 .left)
 
-checked : (c : tie.Else1) → let made = c .before .before .before .table-case in
-    Checked (tableIn (made .last .1 .1 .0) casePlace (made .result)) (made .result)
+checked : (c : tie.Else1) → let made = c .before .before .before .normal-table in
+    Checked (tableIn (made .last .1 .1 .0) 0 (made .result)) (made .result)
 checked c =
     let made = c .before .before .before in
-    tabled-checked _ _ _ _ _ (entry made .pre .bounded) (made .table-case .ensures) (few c) _ refl
+    tabled-checked _ _ _ _ _ (entry made .pre .bounded) (made .normal-table .ensures) (few c) _ refl
 
-long : (c : tie.After-table-case) → length (c .table-case .last .1 .1 .0) ≡ tablesSize
-long c =
-    let old = length-drop casePlace (now (entry c .args .tables)) in
-    let new = length-drop casePlace (c .table-case .last .1 .1 .0) in
-    omega (arith, old, new, c .table-case .ensures .same, entry c .pre .long)
+long : (c : tie.After-normal-table) → length (c .normal-table .last .1 .1 .0) ≡ tablesSize
+long c = c .normal-table .ensures .same ∙ entry c .pre .long
 
 table-at-requires : tie.Need-table-at-requires
 table-at-requires c κs =
     let most = checked (c .before) .most in (most, omega (arith, most, long (c .before .before .before .before)))
 
 cut-checked : (c : tie.After-table-at) →
-    Checked (now (c .table-at .result)) (c .before .before .before .before .before .table-case .result)
+    Checked (now (c .table-at .result)) (c .before .before .before .before .before .normal-table .result)
 cut-checked c =
-    subst (λ t. Checked t (c .before .before .before .before .before .table-case .result)) (sym (c .table-at .ensures))
+    subst (λ t. Checked t (c .before .before .before .before .before .normal-table .result)) (sym (c .table-at .ensures))
     (checked (c .before .before))
 
 fill-links-requires : tie.Need-fill-links-requires
@@ -85,7 +77,7 @@ test-cards-requires c κs =
       cards-read = pre .cards-read;
       long = long made;
       linked =
-          subst (λ t. LinkedTable t (made .table-case .result) (linked .last .1 .1 .0)) (cut .table-at .ensures)
+          subst (λ t. LinkedTable t (made .normal-table .result) (linked .last .1 .1 .0)) (cut .table-at .ensures)
           (record { checked = cut-checked cut; linked = linked .ensures });
       blank = pre .blank;
     }
@@ -100,7 +92,7 @@ returns-2 c =
     let made = here .before .before .before in
     let a = entry made .args in (
       case-tested (a .limits) (now (a .case)) (now (a .book)) (a .cards .count) (entry made .pre .bounded) (few here)
-          (made .table-case .ensures .file (few here)) (tested .ensures .0),
+          (made .normal-table .ensures .file (few here)) (tested .ensures .0),
       tested .ensures .1,
     )
 
@@ -108,7 +100,7 @@ pub find-subsumers-spec : {M : Type 1} → statement M
 find-subsumers-spec =
     tie.close
     (tie.spec
-    table-case-requires
+    normal-table-requires
     too-many-requires
     same-length
     returns

@@ -1,5 +1,4 @@
--- At the loop's head the cards below k are tested. The table of card k is made behind those that are kept, and before
--- the case's; where 14 is answered yes, the search on both tables says whether it covers the case.
+-- At the loop's head the cards below k are tested. The table of card k is made behind those that are kept; where 14 is answered yes, the search on both tables says whether it covers the case.
 use Prim.Native.Nat.{_+_, _-_}
 use native.Mathlib.Omega.{arith}
 use borrow.Author.Needs.{needs}
@@ -8,7 +7,7 @@ use denote.Ref.{now}
 use mathlib.Core.Path.{_∙_, refl, sym}
 use Rattle.normal_writer.specs.Tables.{Tabled}
 use Rattle.book.specs.Form.{card}
-use Rattle.book_tables.specs.Cache.{SubsumersBelow, casePlace, tableIn, tableSize}
+use Rattle.book_tables.specs.Cache.{SubsumersBelow, tableIn, tableSize}
 use Rattle.book_tables.proofs.CardTables.{card-room, card-tabled}
 use Rattle.book_tables.proofs.CardTests.{addable, testable}
 use Rattle.book_tables.proofs.CardTests.{test-all, test-long, test-many, test-next, test-room, test-start}
@@ -17,19 +16,24 @@ use Rattle.book_tables.proofs.subsumers.test_cards.Tie as tie
 
 abbrev Inv-loop : tie.InvT-loop
 Inv-loop book cards limits n links tables₀ spans₀ subsumers₀ k₀ tables spans subsumers k =
-    SubsumersBelow limits (tableIn tables₀ casePlace n) book (cards .count) n tables spans subsumers k
+    SubsumersBelow limits (tableIn tables₀ 0 n) book (cards .count) n tables spans subsumers k
 
 abbrev μ-loop : tie.MeasureT-loop
 μ-loop book cards limits n links tables₀ spans₀ subsumers₀ k₀ tables spans subsumers k = cards .count - k
 
+place-requires : tie.Need-place-requires Inv-loop μ-loop
+place-requires c κs = (c .before .before .pre .linked .checked .most, omega arith)
+
 loop-holds : tie.Need-loop-holds Inv-loop μ-loop
-loop-holds c = let pre = c .before .before .pre in test-start (pre .long) refl (pre .blank)
+loop-holds c =
+    let pre = c .before .before .before .pre in
+    test-start (pre .long) refl (pre .linked .checked .most) (pre .blank) (c .place .result) (c .place .ensures)
 
 add-end : tie.Need-add-end Inv-loop μ-loop
 add-end c = let so = c .before .before .loop .inv in omega arith
 
 card-requires : tie.Need-card-requires Inv-loop μ-loop
-card-requires c κs = (c .before .before .before .before .before .pre .cards-read .places-are, c .if1 .taken)
+card-requires c κs = (c .before .before .before .before .before .before .pre .cards-read .places-are, c .if1 .taken)
 
 sub-normal-table : tie.Need-sub-normal-table Inv-loop μ-loop
 sub-normal-table c = omega arith
@@ -42,14 +46,14 @@ part-normal-table-end c = let so = c .before .before .before .loop .inv in omega
 
 normal-table-requires : tie.Need-normal-table-requires Inv-loop μ-loop
 normal-table-requires c κs =
-    let pre = c .before .before .before .before .before .before .before .pre in
+    let pre = c .before .before .before .before .before .before .before .before .pre in
     let less = c .before .before .if1 .taken in
     card-room (pre .cards-read) less (pre .bounded) (c .before .card .ensures)
     (test-room (c .before .before .before .before .loop .inv) less (pre .bounded))
 
 -- the way back from the table that was made to the entry, to the loop's head, and to the turn's beginning
 abbrev entry : (c : tie.After-normal-table Inv-loop μ-loop) → tie.Start Inv-loop μ-loop
-entry c = c .before .before .before .before .before .before .before .before
+entry c = c .before .before .before .before .before .before .before .before .before
 
 abbrev head : (c : tie.After-normal-table Inv-loop μ-loop) → tie.At-loop Inv-loop μ-loop
 head c = c .before .before .before .before .before
@@ -66,8 +70,8 @@ tabled c =
     card-tabled (entry c .pre .cards-read) (turn c .if1 .taken) (c .before .before .card .ensures)
     (c .normal-table .ensures)
 
-cast-t21 : tie.Need-cast-t21 Inv-loop μ-loop
-cast-t21 c =
+cast-t22 : tie.Need-cast-t22 Inv-loop μ-loop
+cast-t22 c =
     let made = c .before .before .before in
     omega (arith, turn made .if1 .taken, entry made .pre .cards-read .places-are .most)
 
@@ -116,7 +120,7 @@ loop-again c =
     (c .before .before .before .before .if2 .left) (c .before .before .covers-case .ensures) (c .add-card .ensures)
 
 same-length-2 : tie.Need-same-length-2 Inv-loop μ-loop
-same-length-2 c = c .before .before .loop .inv .long ∙ sym (c .before .before .before .before .before .pre .long)
+same-length-2 c = c .before .before .loop .inv .long ∙ sym (c .before .before .before .before .before .before .pre .long)
 
 returns-2 : tie.Need-returns-2 Inv-loop μ-loop
 returns-2 c = test-all (c .before .before .loop .inv) (c .if1 .left)
@@ -127,6 +131,7 @@ test-cards-spec =
     (tie.spec
     Inv-loop
     μ-loop
+    place-requires
     loop-holds
     add-end
     card-requires
@@ -134,7 +139,7 @@ test-cards-spec =
     part-normal-table-start
     part-normal-table-end
     normal-table-requires
-    cast-t21
+    cast-t22
     too-many-requires
     same-length
     returns
