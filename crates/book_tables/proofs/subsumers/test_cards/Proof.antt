@@ -22,7 +22,7 @@ abbrev μ-loop : tie.MeasureT-loop
 μ-loop book cards limits n links tables₀ spans₀ subsumers₀ k₀ tables spans subsumers k = cards .count - k
 
 place-requires : tie.Need-place-requires Inv-loop μ-loop
-place-requires c κs = (c .before .before .pre .linked .checked .most, omega arith)
+place-requires c κs = (omega (arith, c .before .before .pre .linked .checked .most), omega arith)
 
 loop-holds : tie.Need-loop-holds Inv-loop μ-loop
 loop-holds c =
