@@ -25,7 +25,8 @@ use Rattle.row_sets.specs.Rows.{Checked}
 use Rattle.homomorphism_search.specs.Search.{LinkedTable}
 use Rattle.workspace.specs.Prepare.{workSize}
 use Rattle.book.specs.Form.{card, cardCount, mostCards}
-use Rattle.book_tables.specs.Cache.{Cached, TableAt, tableIn}
+use Rattle.book_tables.specs.Cache.{Cached, TableAt}
+use Rattle.normal_writer.specs.Tables.{tableIn}
 use Rattle.book_selection.specs.declared.spot.Spot.{Spot}
 
 abbrev pub areaOf : List ℕ → List ℕ → Spot → List ℕ

@@ -23,7 +23,7 @@ use Rattle.meaning.specs.NormalTable.{mergedCount, normalFile}
 use Rattle.row_sets.specs.Rows.{Checked}
 use Rattle.normal_writer.proofs.Prefixes.{take-put}
 use Rattle.normal_writer.proofs.Tablings.{tabled-checked, tabled-fits}
-use Rattle.normal_writer.specs.Tables.{TableRoom, Tabled, tableRows}
+use Rattle.normal_writer.specs.Tables.{TableRoom, Tabled, tableIn, tableRows}
 use Rattle.table.proofs.Puts.{length-put}
 use Rattle.table.specs.Bounds.{Bounded, pictureSize}
 use Rattle.table.specs.Layout.{endSize, «place»}
@@ -33,7 +33,7 @@ use Rattle.table.specs.Put.{put}
 use Rattle.table.specs.declared.layout.Limits.{Limits}
 use Rattle.workspace.proofs.Halves.{put-upper, upper-part}
 use Rattle.book.specs.Form.{card, mostCards}
-use Rattle.book_tables.specs.Cache.{Cached, CachedAt, TableAt, tableIn, withSpan}
+use Rattle.book_tables.specs.Cache.{Cached, CachedAt, TableAt, withSpan}
 use Rattle.book_tables.proofs.Parts.{front-same, part-there, put-part}
 
 pub tabled-at : (limits : Limits) (s out : List ℕ) (r : ℕ) (end : List ℕ) → Tabled limits s out r end → mergedCount limits s ≤ limits .rows → TableAt limits s end r

@@ -30,12 +30,12 @@ use Rattle.picture.specs.Asked.{andThen, askedFrom}
 use Rattle.normal.proofs.Answers.{merged-decides, merged-many}
 use Rattle.normal.specs.Call.{mergedAsked}
 use Rattle.normal_writer.proofs.Tablings.{none-many, some-few, tabled-fits}
-use Rattle.normal_writer.specs.Tables.{Tabled}
+use Rattle.normal_writer.specs.Tables.{Tabled, tableIn}
 use Rattle.book.specs.Call.{cardMerged}
 use Rattle.book.specs.Form.{card, mostCards}
 use Rattle.book.specs.Selection.{cardWord, caseCovered}
 use Rattle.book_tables.specs.Cache.{Addable, Added, Cached, SubsumersBelow, TableAt, Testable}
-use Rattle.book_tables.specs.Cache.{keptSize, tableIn, tableSize, tablesSize}
+use Rattle.book_tables.specs.Cache.{keptSize, tableSize, tablesSize}
 use Rattle.book_tables.specs.Tables.{coversTable, selectedOn}
 use Rattle.picture.specs.declared.answer.Asked.{Asked}
 use Rattle.picture.specs.declared.answer.Asked.the-variants.{No, Yes}

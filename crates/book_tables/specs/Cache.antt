@@ -4,7 +4,6 @@
 --   tableSize        as many bytes as the longest table takes
 --   keptSize         before this byte end those that are kept
 --   tablesSize       as many bytes as all of them take
---   tableIn          the table of so many rows from a byte on
 --   TableAt          the normal table of a picture, of so many rows, at the start of a part
 --   CachedAt         one that is kept, from a byte on, before another
 --   Cached           each card with rows of its own in the spans has its table there, before where all end
@@ -32,7 +31,7 @@ use Rattle.picture.specs.Readable.{Readable}
 use Rattle.meaning.specs.NormalTable.{mergedCount, normalFile}
 use Rattle.row_sets.specs.Rows.{Checked}
 use Rattle.homomorphism_search.specs.Search.{LinkedTable}
-use Rattle.normal_writer.specs.Tables.{tableRows}
+use Rattle.normal_writer.specs.Tables.{tableIn, tableRows}
 use Rattle.book.specs.Call.{cardMerged}
 use Rattle.book.specs.Form.{card, mostCards}
 use Rattle.book.specs.Selection.{cardWord}
@@ -51,9 +50,6 @@ keptSize = tableSize + tableSize
 
 abbrev pub tablesSize : ℕ
 tablesSize = keptSize + tableSize
-
-abbrev pub tableIn : List ℕ → ℕ → ℕ → List ℕ
-tableIn tables start rows = take (place rows endSize) (drop start tables)
 
 pub record TableAt (limits : Limits) (s part : List ℕ) (rows : ℕ) : Type 0 where
   pub few : mergedCount limits s ≤ limits .rows

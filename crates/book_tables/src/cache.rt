@@ -13,7 +13,7 @@ ghost use Rattle.table.specs.Bounds.{maxRows};
 ghost use Rattle.table.specs.Layout.{endSize, «place»};
 ghost use Rattle.table.specs.declared.layout.Limits.{Limits};
 ghost use Rattle.book.specs.Form.{«card», mostCards};
-ghost use Rattle.book_tables.specs.Cache.{Cached, Storable, TableAt, tableIn, withSpan};
+ghost use Rattle.book_tables.specs.Cache.{Cached, Storable, TableAt, withSpan};
 
 // While cards are tested, the tables that are kept end before this byte; behind them there is room for one more.
 pub const KEPT: usize = 2 * TABLE;
@@ -22,14 +22,6 @@ pub const TABLES: usize = KEPT + TABLE;
 
 // For each card where its table begins, and then for each card its rows; 0 if it is not cached.
 pub const SPANS: usize = 2 * MAX_CARDS;
-
-// The table of so many rows from a byte on.
-pub fn table_at(tables: &[u8], start: usize, rows: usize) -> &[u8]
-    requires { ⌜ (rows ≤ maxRows) × (start + «place» rows endSize ≤ length (now tables)) ⌝ }
-    ensures { λ r. ⌜ now r ≡ tableIn (now (tables .entry)) start rows ⌝ }
-{
-    &tables[start..start + place(rows, END_SIZE)]
-}
 
 // Says where the table of card k begins, and its rows.
 pub fn keep_span(k: usize, start: usize, rows: usize, spans: &mut [usize; SPANS])

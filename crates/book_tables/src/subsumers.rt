@@ -4,7 +4,6 @@
 use crate::cache::KEPT;
 use crate::cache::SPANS;
 use crate::cache::keep_span;
-use crate::cache::table_at;
 use crate::covering::table_covers;
 use book::answer::Selected;
 use book_form::form::Cards;
@@ -12,6 +11,7 @@ use book_form::form::card;
 use book_form::word::bit;
 use normal_writer::write::TABLE;
 use normal_writer::write::normal_table;
+use normal_writer::write::table_at;
 use picture::answer::Input;
 use picture::answer::too_many;
 use row_sets::rows::LINKS;
@@ -24,12 +24,11 @@ ghost use lib.ListN.{drop};
 ghost use Rattle.homomorphism_search.specs.Search.{rowMaps};
 ghost use Rattle.picture.specs.Asked.{andThen, askedFrom};
 ghost use Rattle.normal.specs.Call.{mergedAsked};
-ghost use Rattle.normal_writer.specs.Tables.{TableRoom, Tabled};
+ghost use Rattle.normal_writer.specs.Tables.{TableRoom, Tabled, tableIn};
 ghost use Rattle.book.specs.Call.{cardMerged};
 ghost use Rattle.book.specs.Selection.{cardWord, caseCovered};
 ghost use Rattle.book_tables.specs.Tables.{coversTable, selectedOn};
 ghost use Rattle.book_tables.specs.Cache.{Addable, Added, CachedAfter, CardsTestable, Findable, Testable};
-ghost use Rattle.book_tables.specs.Cache.{tableIn};
 
 // Of the cards tested so far those that subsume the case, and where the tables kept of them end.
 pub struct Subsumers {

@@ -1,12 +1,13 @@
 -- Whole tables at the start of a lent part. Nobody has to believe these.
 --   TableRoom   what making a normal table needs of its arguments
+--   tableIn     the table of so many rows from a byte on
 --   tableRows   the rows of the normal table of a picture
 --   Tabled      the normal table of a picture is there, and its rows are given; 0 if 14 is answered no
 --   RowsRoom    what ending a table under construction needs
 --   HalfRoom    what a finished table in a half of the work space needs
 use Prim.Native.Nat.{_≤_, ℕ}
 use lib.Dec.{leb}
-use lib.ListN.{length, take}
+use lib.ListN.{drop, length, take}
 use mathlib.Core.List.{List}
 use mathlib.Core.Path.{_≡_}
 use Rattle.table.specs.Bounds.{Bounded, maxRows, pictureSize}
@@ -22,6 +23,9 @@ pub record TableRoom (limits : Limits) (s out : List ℕ) : Type 0 where
   pub bounded : Bounded limits
   pub readable : Readable limits s
   pub space : pictureSize limits ≤ length out
+
+abbrev pub tableIn : List ℕ → ℕ → ℕ → List ℕ
+tableIn part start rows = take (place rows endSize) (drop start part)
 
 abbrev pub tableRows : Limits → List ℕ → ℕ
 tableRows limits s = size pictureSignature (normalTreeOf limits s)

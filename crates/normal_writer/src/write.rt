@@ -11,7 +11,7 @@ use table::number::copy_in;
 use table_rows::builder::Builder;
 ghost use mathlib.Core.Path.{_≡_};
 ghost use mathlib.Core.List.{_++_};
-ghost use Prim.Native.Nat.{ℕ, _≤_};
+ghost use Prim.Native.Nat.{ℕ, _+_, _≤_};
 ghost use lib.ListN.{length, take};
 ghost use Rattle.table.specs.Bounds.{maxRows};
 ghost use Rattle.table.specs.Fields.{endBytes};
@@ -19,7 +19,7 @@ ghost use Rattle.table.specs.Layout.{«place», endSize};
 ghost use Rattle.table.specs.Put.{put};
 ghost use Rattle.normal.specs.Half.{halfOf};
 ghost use Rattle.normal_writer.specs.Grown.{prefix};
-ghost use Rattle.normal_writer.specs.Tables.{HalfRoom, RowsRoom, TableRoom, Tabled};
+ghost use Rattle.normal_writer.specs.Tables.{HalfRoom, RowsRoom, TableRoom, Tabled, tableIn};
 
 // As many bytes as the rows of the longest table take.
 pub const SCRATCH: usize = ROW_SIZE * MAX_ROWS;
@@ -48,6 +48,14 @@ pub fn table_of(part: &[u8], rows: usize) -> &[u8]
     ensures { λ r. ⌜ now r ≡ take («place» rows endSize) (now (part .entry)) ⌝ }
 {
     &part[..place(rows, END_SIZE)]
+}
+
+// The table of so many rows from a byte on.
+pub fn table_at(part: &[u8], start: usize, rows: usize) -> &[u8]
+    requires { ⌜ (rows ≤ maxRows) × (start + «place» rows endSize ≤ length (now part)) ⌝ }
+    ensures { λ r. ⌜ now r ≡ tableIn (now (part .entry)) start rows ⌝ }
+{
+    &part[start..start + place(rows, END_SIZE)]
 }
 
 // Copies the rows of a table under construction and ends the table there; its length in bytes.

@@ -3,6 +3,7 @@
 //   second_table   from the second half on
 use crate::prepare::Pair;
 use crate::prepare::half_size;
+use normal_writer::write::table_at;
 use table::layout::END_SIZE;
 use table::layout::Limits;
 use table::layout::place;
@@ -24,6 +25,5 @@ pub fn second_table(work: &[u8], limits: Limits, pair: Pair) -> &[u8]
     requires { ⌜ (Bounded limits) × (TablesIn limits (now work) pair) ⌝ }
     ensures { λ r. ⌜ now r ≡ secondIn limits pair (now (work .entry)) ⌝ }
 {
-    let half = half_size(limits);
-    &work[half..half + place(pair.second, END_SIZE)]
+    table_at(work, half_size(limits), pair.second)
 }

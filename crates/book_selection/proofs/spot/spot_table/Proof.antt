@@ -5,7 +5,7 @@ use lib.ListN.{length}
 use mathlib.Core.List.{List}
 use mathlib.Core.Path.{_∙_, _≡_, ap}
 use Prim.Native.Nat.{ℕ}
-use Rattle.book_tables.specs.Cache.{tableIn}
+use Rattle.normal_writer.specs.Tables.{tableIn}
 use Rattle.book_selection.specs.Standing.{areaOf}
 use Rattle.book_selection.proofs.spot.spot_table.Statement.{statement}
 use Rattle.book_selection.proofs.spot.spot_table.Tie as tie

@@ -10,7 +10,8 @@ use Rattle.meaning.specs.NormalTable.{mergedCount}
 use Rattle.row_sets.specs.Rows.{Checked}
 use Rattle.homomorphism_search.specs.Search.{LinkedTable}
 use Rattle.normal_writer.proofs.Tablings.{none-many, some-few, tabled-checked}
-use Rattle.book_tables.specs.Cache.{tableIn, tablesSize}
+use Rattle.book_tables.specs.Cache.{tablesSize}
+use Rattle.normal_writer.specs.Tables.{tableIn}
 use Rattle.book_tables.proofs.CardTests.{case-many, case-tested}
 use Rattle.book_tables.proofs.subsumers.find_subsumers.Statement.{statement}
 use Rattle.book_tables.proofs.subsumers.find_subsumers.Tie as tie

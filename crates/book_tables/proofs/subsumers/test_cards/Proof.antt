@@ -5,9 +5,9 @@ use borrow.Author.Needs.{needs}
 use borrow.Rule.Slice.PartMut.{midOf}
 use denote.Ref.{now}
 use mathlib.Core.Path.{_∙_, refl, sym}
-use Rattle.normal_writer.specs.Tables.{Tabled}
+use Rattle.normal_writer.specs.Tables.{Tabled, tableIn}
 use Rattle.book.specs.Form.{card}
-use Rattle.book_tables.specs.Cache.{SubsumersBelow, tableIn, tableSize}
+use Rattle.book_tables.specs.Cache.{SubsumersBelow, tableSize}
 use Rattle.book_tables.proofs.CardTables.{card-room, card-tabled}
 use Rattle.book_tables.proofs.CardTests.{addable, testable}
 use Rattle.book_tables.proofs.CardTests.{test-all, test-long, test-many, test-next, test-room, test-start}

@@ -6,8 +6,8 @@ use denote.Ref.{now}
 use lib.ListN.{drop, take}
 use Rattle.table.specs.Layout.{endSize, «place»}
 use borrow.Author.Needs.{needs}
-use Rattle.book_tables.proofs.cache.table_at.Statement.{statement}
-use Rattle.book_tables.proofs.cache.table_at.Tie as tie
+use Rattle.normal_writer.proofs.write.table_at.Statement.{statement}
+use Rattle.normal_writer.proofs.write.table_at.Tie as tie
 
 place-requires : tie.Need-place-requires
 place-requires c κs = search needs
@@ -29,7 +29,7 @@ returns c =
     let a = c .before .before .before .args in
     let size = c .before .place in
     let long : a .start + size .result - a .start ≡ place (a .rows) endSize = omega (arith, size .ensures) in
-    ap (λ n. take n (drop (a .start) (now (a .tables)))) long
+    ap (λ n. take n (drop (a .start) (now (a .part)))) long
 
 pub table-at-spec : {M : Type 1} → statement M
 table-at-spec =
