@@ -34,9 +34,11 @@ extern "C" {
  * header has to be compiled again or changed, the minor one when something is
  * added.
  *
- * 3.0: zuvaropy_most_specific finds cards that have the same instances together,
- * where they used to hide each other. A program that takes those found to differ
- * in their instances has to be changed; no other has to be.
+ * 3.0: of cards that have the same instances zuvaropy_most_specific finds all or
+ * none. Before, they hid each other: none of them was found, and the value could
+ * be 0 although cards subsumed the case. A program that takes any two cards that
+ * are found to differ in their instances has to be changed; any other has only to
+ * be linked again.
  *
  * 2.0: bits 31..0 of a refusal by question 2 to 13, which were 0, hold a row and a
  * byte. Programs have to be compiled again; one that compares whole words of
@@ -668,16 +670,19 @@ uint64_t zuvaropy_verify(const uint8_t *first, size_t first_len, const uint8_t *
 /*
  * Find the most specific cards of a book that subsume a picture, the case.
  *
- * A card that subsumes the case is passed over exactly when it subsumes another
- * card that subsumes the case and that does not subsume it in return. A card is
- * found if it subsumes the case and is not passed over.
+ * A card subsumes the case if every instance of the case is one of the card:
+ * zuvaropy_subsumes says so, with the case first and the card second. A card is
+ * passed over if the book has one that says more of the case. Exactly: a card that
+ * subsumes the case is passed over exactly when it subsumes another card that
+ * subsumes the case and that does not subsume it in return. A card is found if it
+ * subsumes the case and is not passed over.
  *
  * So some card is found exactly when some card subsumes the case, and each card
  * that subsumes the case subsumes one that is found. Cards that have the same
- * instances subsume each other, also where their bytes differ, and are found
- * together or not at all: several of the cards that are found may say the same.
- * Of two that are found, one subsumes the other only if they say the same, so that
- * zuvaropy_subsumes need be asked one way only.
+ * instances subsume each other, also where their bytes differ, and of these all
+ * are found or none. To learn which of the cards that are found have the same
+ * instances, ask zuvaropy_subsumes of each two, in either order: it says yes
+ * exactly when they have.
  *
  * Reads:   case_picture, at most case_picture_len bytes; book, at most book_len
  *          bytes.
@@ -697,21 +702,22 @@ uint64_t zuvaropy_verify(const uint8_t *first, size_t first_len, const uint8_t *
  *          question 2 to 13, input ZUVAROPY_INPUT_CARD, of the cards in turn:
  *          all of one card before the next card. zuvaropy_card says which, row
  *          and byte where in its picture, which begins ZUVAROPY_HEAD_BYTES after
- *          the card's field;
+ *          the first byte of the card's field;
  *          question 14, input ZUVAROPY_INPUT_FIRST, of the case, as
  *          zuvaropy_normalize;
  *          question 14, input ZUVAROPY_INPUT_CARD, of the cards in turn.
  *
  * Any bytes of any length may be given as the case and as the book; an empty
  * buffer is no book, and a card of length 0 is refused by question 2. The first
- * card that is refused is told; zuvaropy_validate tests each by itself. The work
- * space may hold anything beforehand. It must not overlap any other buffer; the
- * others may overlap.
+ * card that is refused is told; zuvaropy_normalize asks 2 to 14 of each by itself.
+ * The work space may hold anything beforehand. It must not overlap any other
+ * buffer; the others may overlap.
  *
  * The call takes at most ZUVAROPY_MOST_SPECIFIC_STACK_BYTES of stack. The normal
  * table of each card is made once and compared with that of the case. Then each
- * two cards that subsume the case are compared at most once, both ways; tables
- * that do not fit into that stack are made again for it.
+ * two cards that subsume the case are compared at most once, both ways, and not
+ * where one is passed over already. Tables are kept as long as they fit into that
+ * stack, those of 32 cards of 23 rows and of a case of 23; others are made again.
  */
 uint64_t zuvaropy_most_specific(const uint8_t *case_picture, size_t case_picture_len, const uint8_t *book,
                                 size_t book_len, uint8_t *work, size_t work_len);
