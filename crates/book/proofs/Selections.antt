@@ -20,7 +20,6 @@ use mathlib.Core.List.{List}
 use mathlib.Core.Logic.{_↔_}
 use mathlib.Core.Path.{_∙_, _≡_, ap, subst, sym}
 use native.Mathlib.Nat.{lt-of-lt-of-le}
-use native.Mathlib.Omega.{arith}
 use Rattle.order.proofs.Minima.{is-minimal, is-strict, minimal-is, minimal-under, over-passed, passed-over, strict-is}
 use Rattle.order.specs.Preorder.{Preorder, passedOver}
 use Rattle.meaning.proofs.Coverings.{covers-exactly, covers-itself, covers-through}
@@ -45,8 +44,8 @@ module _ (limits : Limits) (book : List ℕ)
 
   pub cards-preorder : Preorder (cardCovers limits book) (cardCount book)
   cards-preorder = record {
-    itself = λ i l. card-exactly i i l l .0 (covers-itself limits (card book i));
-    through = λ i j k p q r a b.
+    reflexive = λ i l. card-exactly i i l l .0 (covers-itself limits (card book i));
+    transitive = λ i j k p q r a b.
         card-exactly i k p r .0
         (covers-through limits (card book i) (card book j) (card book k) (card-exactly i j p q .1 a) (card-exactly j k q r .1 b));
   }

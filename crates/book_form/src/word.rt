@@ -14,13 +14,6 @@ pub fn bit(k: usize) -> u32
     1u32 << k
 }
 
-pub fn has_card(word: u32, k: usize) -> bool
-    requires { ⌜ k < mostCards ⌝ }
-    ensures { λ r. ⌜ r ≡ has word k ⌝ }
-{
-    (word >> k) % 2 == 1
-}
-
 pub fn with_card(word: u32, k: usize) -> u32
     requires { ⌜ k < mostCards ⌝ }
     ensures { λ r. ⌜ ((i : ℕ) → has r i ≡ (has word i || eqb i k)) ⌝ }

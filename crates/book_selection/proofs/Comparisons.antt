@@ -1,11 +1,11 @@
 -- Laws of the word of the redundant cards, those that are passed over, as pairs of covering cards are compared.
 --   none-compared                no pair yet
---   rows-left                    cards that do not cover the case
---   row-next                     card m: the next card to compare it with; those that are redundant, or do not cover the case, are left out
---   row-ended                    with all earlier ones
+--   cards-left                    cards that do not cover the case
+--   earlier-next                     card m: the next card to compare it with; those that are redundant, or do not cover the case, are left out
+--   earlier-ended                    with all earlier ones
 --   paired                       the word that has the one of two cards that covers the other strictly
 --   pair-compared                one pair more
---   row-stopped                  card m covers an earlier card that is not redundant: no other pair of its row says anything new
+--   earlier-stopped                  card m covers an earlier card that is not redundant: no other pair of its row says anything new
 --   all-compared                 then the word has exactly the covering cards that are passed over
 --   selected-bits                and what is left of the covering cards are the others
 --   cleared                      a work space cleared from its first byte to its last
@@ -89,9 +89,9 @@ module _ (limits : Limits) (book : List ℕ) (covering : ℕ) where
         decided = λ i j a b l e. absurd (⊎-elim (λ x. omega (arith, x)) (λ x. omega (arith, x .1)) e);
       }
 
-  pub rows-left : (m next redundant : ℕ) → ((k : ℕ) → m ≤ k → k < next → has covering k ≡ false) →
+  pub cards-left : (m next redundant : ℕ) → ((k : ℕ) → m ≤ k → k < next → has covering k ≡ false) →
       Compared limits book covering m redundant → Compared limits book covering next redundant
-  rows-left m next redundant none so = earlier-compared m 0 next 0 redundant earlier so
+  cards-left m next redundant none so = earlier-compared m 0 next 0 redundant earlier so
     where
       earlier : (i j : ℕ) → has covering i ≡ true → j < i → Earlier next 0 i j → Earlier m 0 i j
       earlier i j a l (inl x) = elim (decLt i m) [
@@ -101,8 +101,8 @@ module _ (limits : Limits) (book : List ℕ) (covering : ℕ) where
       earlier i j a l (inr (s, x)) = absurd (omega (arith, x))
 
   module _ (m redundant : ℕ) where
-    pub row-ended : (n : ℕ) → m ≤ n → ComparedTo limits book covering m n redundant → Compared limits book covering (m + 1) redundant
-    row-ended n past so = earlier-compared m n (m + 1) 0 redundant earlier so
+    pub earlier-ended : (n : ℕ) → m ≤ n → ComparedTo limits book covering m n redundant → Compared limits book covering (m + 1) redundant
+    earlier-ended n past so = earlier-compared m n (m + 1) 0 redundant earlier so
       where
         earlier : (i j : ℕ) → has covering i ≡ true → j < i → Earlier (m + 1) 0 i j → Earlier m n i j
         earlier i j a l (inl x) = elim (ℕ-discrete i m) [
@@ -111,10 +111,10 @@ module _ (limits : Limits) (book : List ℕ) (covering : ℕ) where
         ]
         earlier i j a l (inr (s, x)) = absurd (omega (arith, x))
 
-    row-skipped : (left n next : ℕ) → ((k : ℕ) → has left k ≡ (has covering k && not (has redundant k))) →
+    earlier-skipped : (left n next : ℕ) → ((k : ℕ) → has left k ≡ (has covering k && not (has redundant k))) →
         ((k : ℕ) → n ≤ k → k < next → has left k ≡ false) →
         ComparedTo limits book covering m n redundant → ComparedTo limits book covering m next redundant
-    row-skipped left n next is none so =
+    earlier-skipped left n next is none so =
         record {
           sound = so .sound;
           decided = λ i j a b l e c.
@@ -122,9 +122,9 @@ module _ (limits : Limits) (book : List ℕ) (covering : ℕ) where
         }
       where
         shown : (j : ℕ) → has covering j ≡ true → n ≤ j → j < next → has redundant j ≡ true
-        shown j b low high =
+        shown j b own other =
             by-test (has redundant j) (λ e. e)
-            (λ e. absurd (false≢true (sym (none j low high) ∙ is j ∙ rw (b, e))))
+            (λ e. absurd (false≢true (sym (none j own other) ∙ is j ∙ rw (b, e))))
 
         parted : (i j : ℕ) → Earlier m next i j → Earlier m n i j ⊎ ((n ≤ j) × (j < next))
         parted i j (inl x) = inl (inl x)
@@ -134,12 +134,12 @@ module _ (limits : Limits) (book : List ℕ) (covering : ℕ) where
         ]
 
     -- the next card that m is to be compared with
-    pub row-next : (left n next : ℕ) → ((k : ℕ) → has left k ≡ (has covering k && not (has redundant k))) → NextCard left n next →
+    pub earlier-next : (left n next : ℕ) → ((k : ℕ) → has left k ≡ (has covering k && not (has redundant k))) → NextCard left n next →
         m < mostCards → ComparedTo limits book covering m n redundant →
         (next < m → (has covering next ≡ true) × (has redundant next ≡ false)) × ComparedTo limits book covering m next redundant
-    row-next left n next is found small so = (
+    earlier-next left n next is found small so = (
       λ l. left-card covering redundant left next is (found .there (omega (arith, l, small))),
-      row-skipped left n next is (found .none) so,
+      earlier-skipped left n next is (found .none) so,
     )
 
     module _ (n r : ℕ) (so : ComparedTo limits book covering m n redundant) (before : n < m) (inside : m < cardCount book)
@@ -233,8 +233,8 @@ module _ (limits : Limits) (book : List ℕ) (covering : ℕ) where
             by-test (over n m) (λ same. inr (kept j (other-decided j l b (as-n same j l c))))
             (λ other. inl (of-m (is-strict over m n m-covers other)))
 
-        pub row-stopped : Compared limits book covering (m + 1) r
-        row-stopped =
+        pub earlier-stopped : Compared limits book covering (m + 1) r
+        earlier-stopped =
             record {
               sound = new-sound;
               decided = λ i j a b l e c. elim (decLt i m) [

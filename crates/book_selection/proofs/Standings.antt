@@ -7,15 +7,15 @@
 --   stands-whole       and it is there whole
 --   stands-start       at the start of the work space it is the table that is cached
 --   stands-checkable   it has all that a search needs
---   low-kept           with its links it stays where another is made in the second half
+--   own-kept           with its links it stays where another is made in the second half
 --   spots-order        the search on two of them says which card covers the other
 use Prim.Native.Nat.{_+_, _-_, _<_, _≤_, ℕ}
 use borrow.Rule.Slice.PartMut.{midOf, putMid}
 use lib.ListN.{drop, getD, length, length-append, length-drop, take}
 use lib.Seq.{drop-at, length-take-le, take-at, take-take}
-use mathlib.Core.Bool.{Bool, false, true}
-use mathlib.Core.List.{List, _++_}
-use mathlib.Core.Path.{_∙_, _≡_, ap, refl, subst, sym}
+use mathlib.Core.Bool.{false, true}
+use mathlib.Core.List.{List}
+use mathlib.Core.Path.{_∙_, _≡_, ap, subst, sym}
 use native.Mathlib.Omega.{arith}
 use Rattle.homomorphism_search.proofs.NormalMaps.{normal-maps}
 use Rattle.homomorphism_search.specs.Search.{LinkedTable, rowMaps}
@@ -24,17 +24,16 @@ use Rattle.meaning.specs.NormalTable.{mergedCount, normalFile}
 use Rattle.row_sets.proofs.Checks.{readable-checked}
 use Rattle.row_sets.specs.Rows.{Checked}
 use Rattle.table.proofs.Bools.{by-test}
-use Rattle.table.specs.Bounds.{Bounded, maxRows, pictureSize}
+use Rattle.table.specs.Bounds.{Bounded, pictureSize}
 use Rattle.table.specs.Layout.{endSize, «place»}
 use Rattle.table.specs.declared.layout.Limits.{Limits}
 use Rattle.workspace.proofs.Halves.{put-upper, upper-part}
-use Rattle.workspace.specs.Prepare.{workSize}
 use Rattle.book.specs.Form.{card, cardCount, mostCards}
 use Rattle.book.specs.Selection.{cardCovers}
 use Rattle.book_tables.proofs.Caches.{table-few, tabled-at}
 use Rattle.book_tables.specs.Cache.{Cached, TableAt}
 use Rattle.book_selection.specs.Comparing.{Ordered}
-use Rattle.book_selection.specs.Standing.{BookTaken, Checkable, Inside, LowTable, Stands, areaOf, tableAt}
+use Rattle.book_selection.specs.Standing.{BookTaken, Checkable, OwnTable, Stands, areaOf, tableAt}
 use Rattle.book_selection.specs.declared.compare.Order.{Order}
 use Rattle.book_selection.specs.declared.spot.Spot.{Spot}
 use Rattle.normal_writer.proofs.Tablings.{tabled-there}
@@ -46,7 +45,7 @@ pub cached-stands : (limits : Limits) (book tables spans : List ℕ) (at : ℕ) 
     (work : List ℕ) (k : ℕ) → k < mostCards → (getD spans (mostCards + k) 0 ≡ 0 → ⊥) →
     Stands limits book tables work (record { card = k; cached = true; start = getD spans k 0; rows = getD spans (mostCards + k) 0 })
 cached-stands limits book tables spans at bounded so work k l some =
-    let there = so .tables k l some in
+    let there = so .each k l some in
     let fits = table-few (there .table) in
     record {
       inside = record { few = omega (arith, fits, bounded .0); ends = omega (arith, there .ends, so .long) };
@@ -125,37 +124,37 @@ module _ {limits : Limits} {book tables work : List ℕ} {spot : Spot} (bounded 
             (subst (λ n. Checked (normalFile limits s) n) (sym (so .table .rows-are)) whole);
       }
 
-module _ {limits : Limits} {book tables work : List ℕ} {low : Spot} {links : List ℕ}
-    (so : LowTable limits book tables work low links) (work₂ : List ℕ) (half : ℕ) (is : half ≡ pictureSize limits)
+module _ {limits : Limits} {book tables work : List ℕ} {own : Spot} {links : List ℕ}
+    (so : OwnTable limits book tables work own links) (work₂ : List ℕ) (half : ℕ) (is : half ≡ pictureSize limits)
     (same : take half work₂ ≡ take half work) (long : length work₂ ≡ length work) where
-  low-part : (n : ℕ) → n ≤ half →
-      take n (drop (low .start) (areaOf tables work₂ low)) ≡ take n (drop (low .start) (areaOf tables work low))
-  low-part n l =
-      by-test (low .cached) (λ e. rw e)
+  own-part : (n : ℕ) → n ≤ half →
+      take n (drop (own .start) (areaOf tables work₂ own)) ≡ take n (drop (own .start) (areaOf tables work own))
+  own-part n l =
+      by-test (own .cached) (λ e. rw e)
       (λ e. rw (e, so .first e) (sym (take-take n half work₂ l) ∙ ap (take n) same ∙ take-take n half work l))
 
-  low-long : length (areaOf tables work₂ low) ≡ length (areaOf tables work low)
-  low-long = by-test (low .cached) (λ e. rw e) (λ e. rw e long)
+  own-long : length (areaOf tables work₂ own) ≡ length (areaOf tables work own)
+  own-long = by-test (own .cached) (λ e. rw e) (λ e. rw e long)
 
-  pub low-kept : LowTable limits book tables work₂ low links
-  low-kept =
-      let part = low-part (place (low .rows) endSize) (omega (arith, table-few (so .stands .table), is)) in
+  pub own-kept : OwnTable limits book tables work₂ own links
+  own-kept =
+      let part = own-part (place (own .rows) endSize) (omega (arith, table-few (so .stands .table), is)) in
       let table = so .stands .table in
       record {
         stands = record {
-          inside = record { few = so .stands .inside .few; ends = omega (arith, so .stands .inside .ends, low-long) };
+          inside = record { few = so .stands .inside .few; ends = omega (arith, so .stands .inside .ends, own-long) };
           table = record { few = table .few; rows-are = table .rows-are; is = part ∙ table .is };
         };
         first = so .first;
         long = long ∙ so .long;
-        linked = subst (λ t. LinkedTable t (low .rows) links) (sym part) (so .linked);
+        linked = subst (λ t. LinkedTable t (own .rows) links) (sym part) (so .linked);
       }
 
 -- ---- two of them
 
 module _ {limits : Limits} {book : List ℕ} (taken : BookTaken limits book) (bounded : Bounded limits)
-    {tables work : List ℕ} {low high : Spot} (l : low .card < cardCount book) (h : high .card < cardCount book)
-    (a : Stands limits book tables work low) (b : Stands limits book tables work high) where
+    {tables work : List ℕ} {own other : Spot} (l : own .card < cardCount book) (h : other .card < cardCount book)
+    (a : Stands limits book tables work own) (b : Stands limits book tables work other) where
   covers-is : (u v : List ℕ) (i j : ℕ) → u ≡ normalFile limits (card book i) → v ≡ normalFile limits (card book j) →
       i < cardCount book → j < cardCount book → rowMaps u v (limits .depth) 0 0 ≡ cardCovers limits book j i
   covers-is u v i j d e p q =
@@ -164,10 +163,10 @@ module _ {limits : Limits} {book : List ℕ} (taken : BookTaken limits book) (bo
       ∙ normal-maps limits (card book i) (card book j) bounded (taken .few i p) (taken .few j q)
 
   pub spots-order : (order : Order) →
-      order .over ≡ rowMaps (tableAt tables work high) (tableAt tables work low) (limits .depth) 0 0 →
-      order .under ≡ rowMaps (tableAt tables work low) (tableAt tables work high) (limits .depth) 0 0 →
-      Ordered limits book (low .card) (high .card) order
+      order .over ≡ rowMaps (tableAt tables work other) (tableAt tables work own) (limits .depth) 0 0 →
+      order .under ≡ rowMaps (tableAt tables work own) (tableAt tables work other) (limits .depth) 0 0 →
+      Ordered limits book (own .card) (other .card) order
   spots-order order over under = (
-    over ∙ covers-is (tableAt tables work high) (tableAt tables work low) (high .card) (low .card) (b .table .is) (a .table .is) h l,
-    under ∙ covers-is (tableAt tables work low) (tableAt tables work high) (low .card) (high .card) (a .table .is) (b .table .is) l h,
+    over ∙ covers-is (tableAt tables work other) (tableAt tables work own) (other .card) (own .card) (b .table .is) (a .table .is) h l,
+    under ∙ covers-is (tableAt tables work own) (tableAt tables work other) (own .card) (other .card) (a .table .is) (b .table .is) l h,
   )

@@ -5,10 +5,10 @@
 --   Earlier                a pair that comes before card m with card n
 --   ComparedTo, Compared   of those that cover the case each card below m is compared with each earlier one, card m with those below n: of each
 --                          such pair of which one covers the other strictly one is redundant; and each redundant one is passed over
---   PairRoom, RowRoom, CardRoom, SelectRoom   what comparing a pair needs; a card whose table stands; a card; and all
+--   PairRoom, EarlierRoom, CardRoom, SelectRoom   what comparing a pair needs; a card whose table stands; a card; and all
 use Prim.Native.Nat.{_<_, _≤_, ℕ}
 use lib.ListN.{length}
-use mathlib.Core.Bool.{Bool, false, true}
+use mathlib.Core.Bool.{false, true}
 use mathlib.Core.List.{List}
 use mathlib.Core.Logic.{_⊎_}
 use mathlib.Core.Path.{_≡_}
@@ -21,7 +21,7 @@ use Rattle.book.specs.Form.{cardCount, mostCards}
 use Rattle.book.specs.Selection.{cardCovers}
 use Rattle.book_form.specs.Places.{WithEach}
 use Rattle.book_tables.specs.Cache.{Cached, keptSize}
-use Rattle.book_selection.specs.Standing.{BookCached, BookTaken, LowTable, Stands}
+use Rattle.book_selection.specs.Standing.{BookCached, BookTaken, OwnTable, Stands}
 use Rattle.book_selection.specs.declared.compare.Order.{Order}
 use Rattle.book_selection.specs.declared.compare.Progress.{Progress}
 use Rattle.book_selection.specs.declared.spot.Spot.{Spot}
@@ -49,21 +49,21 @@ pub record ComparedTo (limits : Limits) (book : List ℕ) (covering m n redundan
 abbrev pub Compared : Limits → List ℕ → ℕ → ℕ → ℕ → Type 0
 Compared limits book covering m redundant = ComparedTo limits book covering m 0 redundant
 
-pub record PairRoom (limits : Limits) (book tables spans : List ℕ) (low : Spot) (links : List ℕ) (n : ℕ) (work : List ℕ) : Type 0 where
+pub record PairRoom (limits : Limits) (book tables spans : List ℕ) (own : Spot) (links : List ℕ) (n : ℕ) (work : List ℕ) : Type 0 where
   pub bounded : Bounded limits
   pub cached : BookCached limits book tables spans
-  pub low-table : LowTable limits book tables work low links
-  pub low-below : low .card < cardCount book
+  pub own-table : OwnTable limits book tables work own links
+  pub own-below : own .card < cardCount book
   pub below : n < cardCount book
 
-pub record RowRoom (limits : Limits) (book tables spans : List ℕ) (covering : ℕ) (low : Spot) (redundant : ℕ) (work : List ℕ) : Type 0 where
+pub record EarlierRoom (limits : Limits) (book tables spans : List ℕ) (covering : ℕ) (own : Spot) (redundant : ℕ) (work : List ℕ) : Type 0 where
   pub bounded : Bounded limits
   pub cached : BookCached limits book tables spans
-  pub stands : Stands limits book tables work low
-  pub first : low .cached ≡ false → low .start ≡ 0
-  pub below : low .card < cardCount book
-  pub covers : has covering (low .card) ≡ true
-  pub compared : Compared limits book covering (low .card) redundant
+  pub stands : Stands limits book tables work own
+  pub first : own .cached ≡ false → own .start ≡ 0
+  pub below : own .card < cardCount book
+  pub covers : has covering (own .card) ≡ true
+  pub compared : Compared limits book covering (own .card) redundant
   pub long : length work ≡ workSize limits
 
 pub record CardRoom (limits : Limits) (book tables spans : List ℕ) (covering m : ℕ) (progress : Progress) (work : List ℕ) : Type 0 where

@@ -1,17 +1,19 @@
 -- Where the tables of cards stand while they are compared. Nobody has to believe these.
---   tableAt     the bytes of the table at a spot, in the tables or in the work space
+--   areaOf      the bytes that a spot lies in: the tables if it is cached, else the work space
+--   tableAt     the bytes of the table there
 --   Inside      a spot lies in its area
 --   Stands      the table there is that of the spot's card
---   Checkable   the table there has all that a search needs
+--   Checkable   it has all that a search needs
 --   Facing      two tables, of which the first has its links
 --   BookTaken   the cards of a book have passed 2 to 14
 --   BookCached  and the tables are kept where the spans say
 --   Makeable    what making the table of card k needs
---   Placeable   what finding the table of card k needs
+--   Placeable   what finding it needs
+--   Found       it is found; what stands before it in the work space stays
 --   Keepable    what caching a table at the start of the work space needs
---   LowTable    card m's table, with its links; in the work space it stands before the second half
+--   OwnTable    a card's own table, with its links; in the work space it stands at the start
 use Prim.Native.Nat.{ℕ, _+_, _<_, _≤_}
-use lib.ListN.{drop, length}
+use lib.ListN.{drop, length, take}
 use mathlib.Core.Bool.{false}
 use mathlib.Core.List.{List}
 use mathlib.Core.Path.{_≡_}
@@ -47,10 +49,10 @@ pub record Checkable (tables work : List ℕ) (spot : Spot) : Type 0 where
   pub inside : Inside tables work spot
   pub checked : Checked (tableAt tables work spot) (spot .rows)
 
-pub record Facing (tables work : List ℕ) (low : Spot) (links : List ℕ) (high : Spot) : Type 0 where
-  pub low-inside : Inside tables work low
-  pub linked : LinkedTable (tableAt tables work low) (low .rows) links
-  pub high-table : Checkable tables work high
+pub record Facing (tables work : List ℕ) (own : Spot) (links : List ℕ) (other : Spot) : Type 0 where
+  pub own-inside : Inside tables work own
+  pub linked : LinkedTable (tableAt tables work own) (own .rows) links
+  pub other-table : Checkable tables work other
 
 pub record BookTaken (limits : Limits) (book : List ℕ) : Type 0 where
   pub readable : (k : ℕ) → k < cardCount book → Readable limits (card book k)
@@ -73,6 +75,14 @@ pub record Placeable (limits : Limits) (book : List ℕ) (k : ℕ) (tables spans
   pub below : k < cardCount book
   pub room : from + pictureSize limits ≤ length work
 
+pub record Found (limits : Limits) (book : List ℕ) (k : ℕ) (tables before : List ℕ) (from : ℕ) (spot : Spot) (work : List ℕ) :
+    Type 0 where
+  pub stands : Stands limits book tables work spot
+  pub card-is : spot .card ≡ k
+  pub first : spot .cached ≡ false → spot .start ≡ from
+  pub front : take from work ≡ take from before
+  pub same : length work ≡ length before
+
 pub record Keepable (work : List ℕ) (spot : Spot) (at : ℕ) (tables spans : List ℕ) : Type 0 where
   pub few : spot .rows ≤ maxRows
   pub first : spot .cached ≡ false → spot .start ≡ 0
@@ -81,8 +91,8 @@ pub record Keepable (work : List ℕ) (spot : Spot) (at : ℕ) (tables spans : L
   pub inside : at ≤ length tables
   pub spanned : length spans ≡ mostCards + mostCards
 
-pub record LowTable (limits : Limits) (book tables work : List ℕ) (low : Spot) (links : List ℕ) : Type 0 where
-  pub stands : Stands limits book tables work low
-  pub first : low .cached ≡ false → low .start ≡ 0
+pub record OwnTable (limits : Limits) (book tables work : List ℕ) (own : Spot) (links : List ℕ) : Type 0 where
+  pub stands : Stands limits book tables work own
+  pub first : own .cached ≡ false → own .start ≡ 0
   pub long : length work ≡ workSize limits
-  pub linked : LinkedTable (tableAt tables work low) (low .rows) links
+  pub linked : LinkedTable (tableAt tables work own) (own .rows) links

@@ -1,7 +1,7 @@
 // Which of the covering cards are passed over: they cover another of them that does not cover them in return. Each card
 // is compared with the earlier ones, a pair both ways at once. A pair of which one is passed over already is left out:
 // what covers that one strictly covers strictly a card that is not passed over. Once a card covers an earlier one, the
-// rest of its row says nothing new. Tables are compared where they stand.
+// other earlier ones say nothing new of it. Tables are compared where they stand.
 use crate::spot::Spot;
 use crate::spot::cache_table;
 use crate::spot::find_table;
@@ -19,7 +19,7 @@ use row_sets::rows::next_bit;
 use table::layout::Limits;
 use table::number::clear;
 ghost use mathlib.Core.Path.{_≡_};
-ghost use mathlib.Core.Bool.{_&&_, not, true};
+ghost use mathlib.Core.Bool.{_&&_, not};
 ghost use Prim.Native.Nat.{ℕ, _≤_, _<_, _+_};
 ghost use lib.ListN.{length};
 ghost use Rattle.table.specs.Bounds.{maxRows};
@@ -33,8 +33,8 @@ ghost use Rattle.book.specs.Form.{cardCount, mostCards};
 ghost use Rattle.book.specs.Selection.{cardCovers};
 ghost use Rattle.book_form.specs.Places.{WithEach};
 ghost use Rattle.book_tables.specs.Cache.{Cached};
-ghost use Rattle.book_selection.specs.Standing.{Checkable, Facing, LowTable, tableAt};
-ghost use Rattle.book_selection.specs.Comparing.{CardRoom, Compared, NextCard, Ordered, PairRoom, RowRoom, SelectRoom};
+ghost use Rattle.book_selection.specs.Standing.{Checkable, Facing, OwnTable, tableAt};
+ghost use Rattle.book_selection.specs.Comparing.{CardRoom, Compared, NextCard, Ordered, PairRoom, EarlierRoom, SelectRoom};
 
 // Of two cards whether the first covers the second, and whether the second covers the first.
 struct Order {
@@ -65,48 +65,48 @@ fn link_table<'a>(tables: &'a [u8], work: &'a [u8], spot: Spot, links: &mut [u8;
     fill_links(table, spot.rows, links);
 }
 
-// The two tables at these spots, of which the first has its links, each with the other.
+// The tables at two spots, of which the first has its links, each with the other.
 fn compare_spots<'a>(
     tables: &'a [u8],
     work: &'a [u8],
-    low: Spot,
+    own: Spot,
     links: &[u8; LINKS],
-    high: Spot,
+    other: Spot,
     depth: usize,
 ) -> Order
-    requires { ⌜ Facing (now tables) (now work) low (now links) high ⌝ }
-    ensures { λ r. ⌜ (r .over ≡ rowMaps (tableAt (now (tables .entry)) (now (work .entry)) high) (tableAt (now (tables .entry)) (now (work .entry)) low) depth 0 0)
-        × (r .under ≡ rowMaps (tableAt (now (tables .entry)) (now (work .entry)) low) (tableAt (now (tables .entry)) (now (work .entry)) high) depth 0 0) ⌝ }
+    requires { ⌜ Facing (now tables) (now work) own (now links) other ⌝ }
+    ensures { λ r. ⌜ (r .over ≡ rowMaps (tableAt (now (tables .entry)) (now (work .entry)) other) (tableAt (now (tables .entry)) (now (work .entry)) own) depth 0 0)
+        × (r .under ≡ rowMaps (tableAt (now (tables .entry)) (now (work .entry)) own) (tableAt (now (tables .entry)) (now (work .entry)) other) depth 0 0) ⌝ }
 {
     let mut others = [0u8; LINKS];
-    link_table(tables, work, high, &mut others);
-    let first = spot_table(tables, work, low);
-    let second = spot_table(tables, work, high);
-    let a = low.rows;
-    let b = high.rows;
+    link_table(tables, work, other, &mut others);
+    let first = spot_table(tables, work, own);
+    let second = spot_table(tables, work, other);
+    let a = own.rows;
+    let b = other.rows;
     let over = table_covers(second, b, &others, first, a, links, depth);
     let under = table_covers(first, a, links, second, b, &others, depth);
     Order { over, under }
 }
 
-// The card whose table stands low, and card n, whose table may be made in the second half of the work space.
+// The card whose own table is given, and card n, whose table may have to be made, in the second half of the work space.
 fn compare_pair(
     book: &[u8],
     limits: Limits,
     tables: &[u8],
     spans: &[usize; SPANS],
-    low: Spot,
+    own: Spot,
     links: &[u8; LINKS],
     n: usize,
     work: &mut [u8],
 ) -> Order
-    requires { ⌜ PairRoom limits (now book) (now tables) (now spans) low (now links) n (now work) ⌝ }
-    ensures { λ r. ⌜ (Ordered limits (now (book .entry)) (low .card) n r)
-        × (LowTable limits (now (book .entry)) (now (tables .entry)) (now (work .exit)) low (now (links .entry))) ⌝ }
+    requires { ⌜ PairRoom limits (now book) (now tables) (now spans) own (now links) n (now work) ⌝ }
+    ensures { λ r. ⌜ (Ordered limits (now (book .entry)) (own .card) n r)
+        × (OwnTable limits (now (book .entry)) (now (tables .entry)) (now (work .exit)) own (now (links .entry))) ⌝ }
 {
     let half = half_size(limits);
-    let high = find_table(book, n, limits, tables, spans, work, half);
-    compare_spots(tables, work, low, links, high, limits.depth)
+    let other = find_table(book, n, limits, tables, spans, work, half);
+    compare_spots(tables, work, own, links, other, limits.depth)
 }
 
 // The word with the one of cards m and n that covers the other and is not covered by it, if there is one.
@@ -126,28 +126,28 @@ fn mark_passed(redundant: u32, m: usize, n: usize, order: Order) -> u32
     redundant
 }
 
-// The card whose table stands low, with the earlier ones, until it covers one of them.
-fn compare_row(
+// The card whose own table is given, with the earlier ones, until it covers one of them.
+fn compare_earlier(
     book: &[u8],
     limits: Limits,
     tables: &[u8],
     spans: &[usize; SPANS],
     covering: u32,
-    low: Spot,
+    own: Spot,
     redundant: u32,
     work: &mut [u8],
 ) -> u32
-    requires { ⌜ RowRoom limits (now book) (now tables) (now spans) covering low redundant (now work) ⌝ }
-    ensures { λ r. ⌜ (Compared limits (now (book .entry)) covering (low .card + 1) r)
+    requires { ⌜ EarlierRoom limits (now book) (now tables) (now spans) covering own redundant (now work) ⌝ }
+    ensures { λ r. ⌜ (Compared limits (now (book .entry)) covering (own .card + 1) r)
         × (length (now (work .exit)) ≡ length (now (work .entry))) ⌝ }
 {
-    let m = low.card;
+    let m = own.card;
     let mut links = [0u8; LINKS];
-    link_table(tables, work, low, &mut links);
+    link_table(tables, work, own, &mut links);
     let mut word = redundant;
     let mut n = next_card(without(covering, word), 0);
     while n < m {
-        let order = compare_pair(book, limits, tables, spans, low, &links, n, work);
+        let order = compare_pair(book, limits, tables, spans, own, &links, n, work);
         word = mark_passed(word, m, n, order);
         if order.over {
             return word;
@@ -173,15 +173,15 @@ fn compare_card(
         × (Cached limits (now (book .entry)) (now (tables .exit)) (now (spans .exit)) (r .at)))
         × ((length (now (tables .exit)) ≡ length (now (tables .entry))) × (length (now (work .exit)) ≡ length (now (work .entry)))) ⌝ }
 {
-    let low = find_table(book, m, limits, tables, spans, work, 0);
-    let at = cache_table(work, low, progress.at, tables, spans);
-    let redundant = compare_row(
+    let own = find_table(book, m, limits, tables, spans, work, 0);
+    let at = cache_table(work, own, progress.at, tables, spans);
+    let redundant = compare_earlier(
         book,
         limits,
         tables,
         spans,
         covering,
-        low,
+        own,
         progress.redundant,
         work,
     );

@@ -1,5 +1,5 @@
-// Where the table of a card stands while cards are compared: in the tables, or in the work space, where it is made if
-// the tables has had no room for it.
+// The tables of cards while these are compared: each stands in the array of tables or, where that has had no room for
+// it, in the work space.
 use book_form::form::MAX_CARDS;
 use book_form::form::card;
 use book_form::form::find_cards;
@@ -16,8 +16,9 @@ ghost use lib.ListN.{length, take};
 ghost use Rattle.book.specs.Form.{«card»};
 ghost use Rattle.normal_writer.specs.Tables.{Tabled};
 ghost use Rattle.book_tables.specs.Cache.{Cached};
-ghost use Rattle.book_selection.specs.Standing.{Inside, Keepable, Makeable, Placeable, Stands, tableAt};
+ghost use Rattle.book_selection.specs.Standing.{Found, Inside, Keepable, Makeable, Placeable, Stands, tableAt};
 
+// Where a card's table stands: from a byte of the tables on if it is cached, else of the work space; and its rows.
 pub struct Spot {
     pub card: usize,
     pub cached: bool,
@@ -36,8 +37,8 @@ pub fn spot_table<'a>(tables: &'a [u8], work: &'a [u8], spot: Spot) -> &'a [u8]
     table_at(work, spot.start, spot.rows)
 }
 
-// Makes the table of card k at the start of a lent part, and gives its rows. The card is looked for anew: no place of a
-// card is kept for the few tables that are not cached.
+// Makes the table of card k at the start of a lent part, and gives its rows. The card is looked for in the book anew,
+// which costs little beside making its table.
 fn make_table(book: &[u8], k: usize, limits: Limits, out: &mut [u8]) -> usize
     requires { ⌜ Makeable limits (now book) k (now out) ⌝ }
     ensures { λ r. ⌜ Tabled limits («card» (now (book .entry)) k) (now (out .entry)) r (now (out .exit)) ⌝ }
@@ -57,8 +58,7 @@ pub fn find_table(
     from: usize,
 ) -> Spot
     requires { ⌜ Placeable limits (now book) k (now tables) (now spans) (now work) from ⌝ }
-    ensures { λ r. ⌜ ((Stands limits (now (book .entry)) (now (tables .entry)) (now (work .exit)) r) × (r .card ≡ k) × (r .cached ≡ false → r .start ≡ from))
-        × ((take from (now (work .exit)) ≡ take from (now (work .entry))) × (length (now (work .exit)) ≡ length (now (work .entry)))) ⌝ }
+    ensures { λ r. ⌜ Found limits (now (book .entry)) k (now (tables .entry)) (now (work .entry)) from r (now (work .exit)) ⌝ }
 {
     let rows = spans[MAX_CARDS + k];
     if rows == 0 {

@@ -10,20 +10,19 @@
 --   table-few                   a table has as many rows as it may
 use Prim.Native.Nat.{_+_, _-_, _<_, _≤_, ℕ}
 use borrow.Author.Tests.{le-leb}
-use borrow.Rule.Slice.PartMut.{midOf, putMid, take-put as front-put}
+use borrow.Rule.Slice.PartMut.{midOf, putMid, take-put}
 use lib.ListN.{drop, getD, length, length-set, set, take}
-use lib.Seq.{drop-at, getD-set-other, getD-set-same, length-take-le, take-all}
+use lib.Seq.{getD-set-other, getD-set-same, length-take-le, take-all}
 use mathlib.Core.Bool.{Bool}
 use mathlib.Core.List.{List}
 use mathlib.Core.Path.{_∙_, _≡_, ap, refl, subst, sym}
 use native.Mathlib.Decide.{ℕ-discrete}
 use native.Mathlib.Omega.{arith}
 use Rattle.meaning.proofs.Normals.{normal-length, normal-size}
-use Rattle.meaning.specs.NormalTable.{mergedCount, normalFile}
+use Rattle.meaning.specs.NormalTable.{mergedCount}
 use Rattle.row_sets.specs.Rows.{Checked}
-use Rattle.normal_writer.proofs.Prefixes.{take-put}
 use Rattle.normal_writer.proofs.Tablings.{tabled-checked, tabled-fits}
-use Rattle.normal_writer.specs.Tables.{TableRoom, Tabled, tableIn, tableRows}
+use Rattle.normal_writer.specs.Tables.{Tabled, tableIn, tableRows}
 use Rattle.table.proofs.Puts.{length-put}
 use Rattle.table.specs.Bounds.{Bounded, pictureSize}
 use Rattle.table.specs.Layout.{endSize, «place»}
@@ -31,7 +30,6 @@ use Rattle.table_rows.specs.Links.{Zeros}
 use Rattle.table.specs.Pick.{pick}
 use Rattle.table.specs.Put.{put}
 use Rattle.table.specs.declared.layout.Limits.{Limits}
-use Rattle.workspace.proofs.Halves.{put-upper, upper-part}
 use Rattle.book.specs.Form.{card, mostCards}
 use Rattle.book_tables.specs.Cache.{Cached, CachedAt, TableAt, withSpan}
 use Rattle.book_tables.proofs.Parts.{front-same, part-there, put-part}
@@ -44,12 +42,12 @@ tabled-at limits s out r end tabled few =
       is = tabled .file few;
     }
 
-pub none-cached : (limits : Limits) (book cache spans : List ℕ) → Zeros (mostCards + mostCards) spans → Cached limits book cache spans 0
-none-cached limits book cache spans blank =
+pub none-cached : (limits : Limits) (book tables spans : List ℕ) → Zeros (mostCards + mostCards) spans → Cached limits book tables spans 0
+none-cached limits book tables spans blank =
     record {
       long = omega arith;
       spanned = blank .size;
-      tables = λ j l some. absurd (some (blank .zeros (mostCards + j)));
+      each = λ j l some. absurd (some (blank .zeros (mostCards + j)));
     }
 
 table-same : {limits : Limits} {s part : List ℕ} {rows : ℕ} → TableAt limits s part rows → (part₂ : List ℕ) →
@@ -79,36 +77,36 @@ module _ (limits : Limits) (s tables : List ℕ) (a e r : ℕ) (end : List ℕ) 
 
 -- ---- those that are kept
 
-module _ (limits : Limits) (book cache spans : List ℕ) (at : ℕ) (so : Cached limits book cache spans at) where
-  pub cached-same : (cache₂ : List ℕ) → at ≤ length cache₂ → take at cache₂ ≡ take at cache →
-      Cached limits book cache₂ spans at
-  cached-same cache₂ inside same =
+module _ (limits : Limits) (book tables spans : List ℕ) (at : ℕ) (so : Cached limits book tables spans at) where
+  pub cached-same : (tables₂ : List ℕ) → at ≤ length tables₂ → take at tables₂ ≡ take at tables →
+      Cached limits book tables₂ spans at
+  cached-same tables₂ inside same =
       record {
         long = inside;
         spanned = so .spanned;
-        tables = λ j b some.
-            let old = so .tables j b some in
+        each = λ j b some.
+            let old = so .each j b some in
             let start : ℕ = getD spans j 0 in
             let n : ℕ = place (getD spans (mostCards + j) 0) endSize in
             record {
               ends = old .ends;
-              table = table-same (old .table) (drop start cache₂)
-                  (front-same cache cache₂ at start n (so .long) inside same (old .ends));
+              table = table-same (old .table) (drop start tables₂)
+                  (front-same tables tables₂ at start n (so .long) inside same (old .ends));
             };
       }
 
-  pub cached-within : (end : ℕ) → at ≤ end → end ≤ length cache → Cached limits book cache spans end
+  pub cached-within : (end : ℕ) → at ≤ end → end ≤ length tables → Cached limits book tables spans end
   cached-within end later inside =
       record {
         long = inside;
         spanned = so .spanned;
-        tables = λ j b some.
-            let old = so .tables j b some in record { ends = omega (arith, old .ends); table = old .table };
+        each = λ j b some.
+            let old = so .each j b some in record { ends = omega (arith, old .ends); table = old .table };
       }
 
-module _ (limits : Limits) (book cache spans : List ℕ) (at m k : ℕ) (so : Cached limits book cache spans at)
-    (l : k < mostCards) (table : TableAt limits (card book k) (drop at cache) m)
-    (room : at + place m endSize ≤ length cache) where
+module _ (limits : Limits) (book tables spans : List ℕ) (at m k : ℕ) (so : Cached limits book tables spans at)
+    (l : k < mostCards) (table : TableAt limits (card book k) (drop at tables) m)
+    (room : at + place m endSize ≤ length tables) where
   abbrev new : List ℕ
   new = withSpan spans k at m
 
@@ -117,13 +115,13 @@ module _ (limits : Limits) (book cache spans : List ℕ) (at m k : ℕ) (so : Ca
 
   -- what is true of a span holds of the new spans where they say the same
   spanned-same : (j start rows : ℕ) → getD new j 0 ≡ start → getD new (mostCards + j) 0 ≡ rows →
-      CachedAt limits (card book j) cache start rows end →
-      CachedAt limits (card book j) cache (getD new j 0) (getD new (mostCards + j) 0) end
+      CachedAt limits (card book j) tables start rows end →
+      CachedAt limits (card book j) tables (getD new j 0) (getD new (mostCards + j) 0) end
   spanned-same j start rows same-start same-rows there-is =
-      subst (λ r. CachedAt limits (card book j) cache (getD new j 0) r end) (sym same-rows)
-      (subst (λ a. CachedAt limits (card book j) cache a rows end) (sym same-start) there-is)
+      subst (λ r. CachedAt limits (card book j) tables (getD new j 0) r end) (sym same-rows)
+      (subst (λ a. CachedAt limits (card book j) tables a rows end) (sym same-start) there-is)
 
-  last : CachedAt limits (card book k) cache (getD new k 0) (getD new (mostCards + k) 0) end
+  last : CachedAt limits (card book k) tables (getD new k 0) (getD new (mostCards + k) 0) end
   last =
       spanned-same k at m
       (getD-set-other (set spans k at) (mostCards + k) k m 0 (λ z. omega (arith, z))
@@ -137,61 +135,61 @@ module _ (limits : Limits) (book cache spans : List ℕ) (at m k : ℕ) (so : Ca
       ∙ getD-set-other spans k (mostCards + j) at 0 (λ z. omega (arith, z))
 
   earlier : (j : ℕ) → j < mostCards → (j ≡ k → ⊥) → (getD new (mostCards + j) 0 ≡ 0 → ⊥) →
-      CachedAt limits (card book j) cache (getD new j 0) (getD new (mostCards + j) 0) end
+      CachedAt limits (card book j) tables (getD new j 0) (getD new (mostCards + j) 0) end
   earlier j b u some =
-      let wider = cached-within limits book cache spans at so end (omega arith) room in
+      let wider = cached-within limits book tables spans at so end (omega arith) room in
       spanned-same j (getD spans j 0) (getD spans (mostCards + j) 0)
       (getD-set-other (set spans k at) (mostCards + k) j m 0 (λ z. omega (arith, z)) ∙ getD-set-other spans k j at 0 u)
-      (same-rows j u b) (wider .tables j b (λ z. some (same-rows j u b ∙ z)))
+      (same-rows j u b) (wider .each j b (λ z. some (same-rows j u b ∙ z)))
 
-  pub cached-more : Cached limits book cache new end
+  pub cached-more : Cached limits book tables new end
   cached-more =
       record {
         long = room;
         spanned = length-set (set spans k at) (mostCards + k) m ∙ length-set spans k at ∙ so .spanned;
-        tables = λ j b some. elim (ℕ-discrete j k) [
+        each = λ j b some. elim (ℕ-discrete j k) [
           | yes s ↦
-              subst (λ i. CachedAt limits (card book i) cache (getD new i 0) (getD new (mostCards + i) 0) end) (sym s)
+              subst (λ i. CachedAt limits (card book i) tables (getD new i 0) (getD new (mostCards + i) 0) end) (sym s)
               last
           | no u ↦ earlier j b u some
         ];
       }
 
 -- a table of n bytes that was put behind those that are kept
-module _ (limits : Limits) (book cache spans : List ℕ) (at : ℕ) (so : Cached limits book cache spans at)
-    (scratch : List ℕ) (m k n : ℕ) (cache₂ : List ℕ) (l : k < mostCards)
+module _ (limits : Limits) (book tables spans : List ℕ) (at : ℕ) (so : Cached limits book tables spans at)
+    (scratch : List ℕ) (m k n : ℕ) (tables₂ : List ℕ) (l : k < mostCards)
     (table : TableAt limits (card book k) scratch m) (e : n ≡ place m endSize) (inside : n ≤ length scratch)
-    (room : at + n ≤ length cache) (written : cache₂ ≡ put cache at (take n scratch)) where
+    (room : at + n ≤ length tables) (written : tables₂ ≡ put tables at (take n scratch)) where
   abbrev part : List ℕ
   part = take n scratch
 
   part-long : length part ≡ n
   part-long = length-take-le n scratch inside
 
-  is-put : cache₂ ≡ putMid at (length part) cache part
-  is-put = written ∙ put-part cache at part
+  is-put : tables₂ ≡ putMid at (length part) tables part
+  is-put = written ∙ put-part tables at part
 
-  as-long : length cache₂ ≡ length cache
-  as-long = ap length written ∙ length-put cache at part (omega (arith, part-long, room))
+  as-long : length tables₂ ≡ length tables
+  as-long = ap length written ∙ length-put tables at part (omega (arith, part-long, room))
 
-  kept : Cached limits book cache₂ spans at
+  kept : Cached limits book tables₂ spans at
   kept =
-      cached-same limits book cache spans at so cache₂ (omega (arith, as-long, so .long))
-      (ap (take at) is-put ∙ front-put at (length part) cache part (so .long))
+      cached-same limits book tables spans at so tables₂ (omega (arith, as-long, so .long))
+      (ap (take at) is-put ∙ take-put at (length part) tables part (so .long))
 
-  stored : TableAt limits (card book k) (drop at cache₂) m
+  stored : TableAt limits (card book k) (drop at tables₂) m
   stored =
-      table-same table (drop at cache₂)
-      (ap (λ (i : ℕ). take i (drop at cache₂)) (sym e)
+      table-same table (drop at tables₂)
+      (ap (λ (i : ℕ). take i (drop at tables₂)) (sym e)
       ∙ ap (λ (d : List ℕ). take n (drop at d)) is-put
-      ∙ part-there cache at (length part) part n (so .long) (omega (arith, part-long))
+      ∙ part-there tables at (length part) part n (so .long) (omega (arith, part-long))
       ∙ take-all n part (omega (arith, part-long))
       ∙ ap (λ (i : ℕ). take i scratch) e)
 
-  pub cached-stored : Cached limits book cache₂ (withSpan spans k at m) (at + n)
+  pub cached-stored : Cached limits book tables₂ (withSpan spans k at m) (at + n)
   cached-stored =
-      subst (λ i. Cached limits book cache₂ (withSpan spans k at m) (at + i)) (sym e)
-      (cached-more limits book cache₂ spans at m k kept l stored (omega (arith, e, as-long, room)))
+      subst (λ i. Cached limits book tables₂ (withSpan spans k at m) (at + i)) (sym e)
+      (cached-more limits book tables₂ spans at m k kept l stored (omega (arith, e, as-long, room)))
 
 pub table-few : {limits : Limits} {s part : List ℕ} {rows : ℕ} → TableAt limits s part rows →
     place rows endSize ≤ pictureSize limits

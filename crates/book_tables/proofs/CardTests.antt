@@ -9,7 +9,7 @@
 use Prim.Native.Nat.{_*_, _+_, _-_, _<_, _^_, _≤_, ℕ}
 use borrow.Rule.Slice.PartMut.{mid-len, midOf, putMid, same-len-mid, take-put}
 use lib.Dec.{leb}
-use lib.ListN.{drop, length, take}
+use lib.ListN.{drop, length}
 use lib.Pow.{pow-add, pow-mono}
 use mathlib.Core.Bool.{Bool, false}
 use mathlib.Core.List.{List}

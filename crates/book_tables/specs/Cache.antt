@@ -56,14 +56,14 @@ pub record TableAt (limits : Limits) (s part : List ℕ) (rows : ℕ) : Type 0 w
   pub rows-are : rows ≡ tableRows limits s
   pub is : take (place rows endSize) part ≡ normalFile limits s
 
-pub record CachedAt (limits : Limits) (s cache : List ℕ) (start rows at : ℕ) : Type 0 where
+pub record CachedAt (limits : Limits) (s tables : List ℕ) (start rows at : ℕ) : Type 0 where
   pub ends : start + place rows endSize ≤ at
-  pub table : TableAt limits s (drop start cache) rows
+  pub table : TableAt limits s (drop start tables) rows
 
-pub record Cached (limits : Limits) (book cache spans : List ℕ) (at : ℕ) : Type 0 where
-  pub long : at ≤ length cache
+pub record Cached (limits : Limits) (book tables spans : List ℕ) (at : ℕ) : Type 0 where
+  pub long : at ≤ length tables
   pub spanned : length spans ≡ mostCards + mostCards
-  pub tables : (j : ℕ) → j < mostCards → (getD spans (mostCards + j) 0 ≡ 0 → ⊥) → CachedAt limits (card book j) cache (getD spans j 0) (getD spans (mostCards + j) 0) at
+  pub each : (j : ℕ) → j < mostCards → (getD spans (mostCards + j) 0 ≡ 0 → ⊥) → CachedAt limits (card book j) tables (getD spans j 0) (getD spans (mostCards + j) 0) at
 
 abbrev pub withSpan : List ℕ → ℕ → ℕ → ℕ → List ℕ
 withSpan spans k start rows = set (set spans k start) (mostCards + k) rows

@@ -2,14 +2,14 @@
 --   CardsRead               the cards have passed 2 to 13
 --   selectedOn              a word of cards where all is answered yes, else the refusal
 --   coversTable             card k covers what a normal table is of
-use Prim.Native.Nat.{_<_, _≤_, ℕ}
+use Prim.Native.Nat.{_<_, ℕ}
 use mathlib.Core.Bool.{Bool}
 use mathlib.Core.List.{List}
 use Rattle.table.specs.declared.layout.Limits.{Limits}
 use Rattle.picture.specs.Asked.{onAsked}
 use Rattle.picture.specs.Readable.{Readable}
 use Rattle.picture.specs.declared.answer.Asked.{Asked}
-use Rattle.meaning.specs.NormalTable.{mergedCount, normalFile}
+use Rattle.meaning.specs.NormalTable.{normalFile}
 use Rattle.homomorphism_search.specs.Search.{rowMaps}
 use Rattle.book.specs.Form.{card}
 use Rattle.book.specs.declared.answer.Selected.{Selected}

@@ -9,12 +9,11 @@
 --   short-call, case-refused, case-readable, case-passed         1, and 2 to 13 of the case
 use Prim.Native.Nat.{_+_, _-_, _<_, _≤_, ℕ}
 use borrow.Author.Tests.{le-leb, lt-leb, lt-ltb, ltb-true}
-use lib.Dec.{eqb, ltb}
+use lib.Dec.{ltb}
 use lib.ListN.{drop, length}
 use mathlib.Core.Bool.{Bool, _&&_, and-assoc, false, not, true}
 use mathlib.Core.List.{List, _++_}
 use mathlib.Core.Path.{_∙_, _≡_, ap, refl, subst, sym}
-use native.Mathlib.Decide.{ℕ-discrete}
 use native.Mathlib.Omega.{arith}
 use Rattle.picture.specs.Refusal.{shortBuffer}
 use Rattle.picture.proofs.Orders.{YesTo, and-yes, given, read-decides, refused-by, refused-no, rows-yes, to-no, to-yes, yes-on, yes-to}

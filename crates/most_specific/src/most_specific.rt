@@ -17,7 +17,7 @@ use picture_reader::read::read;
 use prepare_pair::prepare::half_size;
 use table::layout::Limits;
 ghost use mathlib.Core.Path.{_≡_};
-ghost use Prim.Native.Nat.{ℕ, _≤_};
+ghost use Prim.Native.Nat.{_≤_};
 ghost use lib.ListN.{length};
 ghost use Rattle.table.specs.Bounds.{Bounded};
 ghost use Rattle.table.specs.Put.{put, zeros};

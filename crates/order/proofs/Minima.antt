@@ -34,15 +34,15 @@ module _ (over : ℕ → ℕ → Bool) where
         strict over i j ≡ true → over j k ≡ true → strict over i k ≡ true
     strict-under i j k p q r s t =
         let (a, b) = strict-is i j s in
-        is-strict i k (order .through i j k p q r a t)
-        (refuted (over k i) (λ u. false≢true (sym b ∙ order .through j k i q r p t u)))
+        is-strict i k (order .transitive i j k p q r a t)
+        (refuted (over k i) (λ u. false≢true (sym b ∙ order .transitive j k i q r p t u)))
 
     pub over-strict : (i j k : ℕ) → i < n → j < n → k < n →
         over i j ≡ true → strict over j k ≡ true → strict over i k ≡ true
     over-strict i j k p q r s t =
         let (a, b) = strict-is j k t in
-        is-strict i k (order .through i j k p q r s a)
-        (refuted (over k i) (λ u. false≢true (sym b ∙ order .through k i j r p q u s)))
+        is-strict i k (order .transitive i j k p q r s a)
+        (refuted (over k i) (λ u. false≢true (sym b ∙ order .transitive k i j r p q u s)))
 
   module _ (n : ℕ) (test : ℕ → Bool) where
     pub passed-over : (k : ℕ) → passedOver over n test k ≡ true →
@@ -73,7 +73,7 @@ module _ (over : ℕ → ℕ → Bool) where
       least-to : (k : ℕ) → k < n → test k ≡ true → (b : ℕ) → b ≤ n →
           (m : ℕ) × (m < n) × (test m ≡ true) × (over k m ≡ true)
           × ((j : ℕ) → j < b → test j ≡ true → strict over m j ≡ true → ⊥)
-      least-to k l t zero h = (k, l, t, order .itself k l, λ j i. absurd (omega (arith, i)))
+      least-to k l t zero h = (k, l, t, order .reflexive k l, λ j i. absurd (omega (arith, i)))
       least-to k l t (suc b) h =
           let (m, p, q, a, least) = least-to k l t b (omega arith) in
           let inside : b < n = omega arith in
@@ -83,7 +83,7 @@ module _ (over : ℕ → ℕ → Bool) where
             b,
             inside,
             u,
-            order .through k m b l p inside a (strict-is m b s .0),
+            order .transitive k m b l p inside a (strict-is m b s .0),
             λ j i v w.
                 elim (ℕ-discrete b j) [
                   | yes x ↦ strict-not b j x w

@@ -9,8 +9,8 @@ use mathlib.Core.Path.{_≡_}
 use Rattle.table.specs.Range.{some}
 
 pub record Preorder (over : ℕ → ℕ → Bool) (n : ℕ) : Type 0 where
-  pub itself : (i : ℕ) → i < n → over i i ≡ true
-  pub through : (i j k : ℕ) → i < n → j < n → k < n → over i j ≡ true → over j k ≡ true → over i k ≡ true
+  pub reflexive : (i : ℕ) → i < n → over i i ≡ true
+  pub transitive : (i j k : ℕ) → i < n → j < n → k < n → over i j ≡ true → over j k ≡ true → over i k ≡ true
 
 abbrev pub strict : (ℕ → ℕ → Bool) → ℕ → ℕ → Bool
 strict over i j = over i j && not (over j i)

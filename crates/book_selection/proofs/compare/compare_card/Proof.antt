@@ -33,12 +33,12 @@ cache-table-requires c κs =
     let a = entry found .args in
     let pre = entry found .pre in
     let find = found .find-table in
-    let stands = find .ensures .0 .0 in
+    let stands = find .ensures .stands in
     record {
       few = stands .inside .few;
-      first = find .ensures .0 .2;
+      first = find .ensures .first;
       whole = λ outside. stands-whole (a .limits) (now (a .book)) (find .last .1 .1 .1 .1 .1 .0) (find .result) (now (a .tables)) outside stands;
-      below = omega (arith, find .ensures .0 .1, pre .below, count-most (now (a .book)));
+      below = omega (arith, find .ensures .card-is, pre .below, count-most (now (a .book)));
       inside = pre .cached .long;
       spanned = pre .cached .spanned;
     }
@@ -53,24 +53,24 @@ kept : (c : tie.After-cache-table) →
 kept c =
     let found = c .before .before .before .before .before .before in
     let a = entry found .args in
-    c .cache-table .ensures .0 (a .limits) (now (a .book)) (entry found .pre .cached) (found .find-table .ensures .0 .0)
+    c .cache-table .ensures .0 (a .limits) (now (a .book)) (entry found .pre .cached) (found .find-table .ensures .stands)
 
-compare-row-requires : tie.Need-compare-row-requires
-compare-row-requires c κs =
+compare-earlier-requires : tie.Need-compare-earlier-requires
+compare-earlier-requires c κs =
     let stored = c .before .before .before .before .before in
     let found = stored .before .before .before .before .before .before in
     let a = entry found .args in
     let pre = entry found .pre in
-    let is = found .find-table .ensures .0 .1 in
+    let is = found .find-table .ensures .card-is in
     record {
       bounded = pre .bounded;
       cached = record { taken = pre .taken; at = _; cache-is = kept stored .0 };
       stands = kept stored .1;
-      first = found .find-table .ensures .0 .2;
+      first = found .find-table .ensures .first;
       below = omega (arith, is, pre .below);
       covers = ap (has (a .covering)) is ∙ pre .covers;
       compared = subst (λ k. Compared (a .limits) (now (a .book)) (a .covering) k (a .progress .redundant)) (sym is) (pre .compared);
-      long = found .find-table .ensures .1 .1 ∙ pre .long;
+      long = found .find-table .ensures .same ∙ pre .long;
     }
 
 same-length : tie.Need-same-length
@@ -81,16 +81,16 @@ same-length-2 c = search needs
 
 returns : tie.Need-returns
 returns c =
-    let row = c .before .before in
-    let stored = row .before .before .before .before .before .before in
+    let compared = c .before .before in
+    let stored = compared .before .before .before .before .before .before in
     let found = stored .before .before .before .before .before .before in
     let a = entry found .args in
-    let is = found .find-table .ensures .0 .1 in (
+    let is = found .find-table .ensures .card-is in (
       (
-        subst (λ k. Compared (a .limits) (now (a .book)) (a .covering) (k + 1) (row .compare-row .result)) is (row .compare-row .ensures .0),
+        subst (λ k. Compared (a .limits) (now (a .book)) (a .covering) (k + 1) (compared .compare-earlier .result)) is (compared .compare-earlier .ensures .0),
         kept stored .0,
       ),
-      (stored .cache-table .ensures .1, row .compare-row .ensures .1 ∙ found .find-table .ensures .1 .1),
+      (stored .cache-table .ensures .1, compared .compare-earlier .ensures .1 ∙ found .find-table .ensures .same),
     )
 
 pub compare-card-spec : {M : Type 1} → statement M
@@ -99,7 +99,7 @@ compare-card-spec =
     (tie.spec
     find-table-requires
     cache-table-requires
-    compare-row-requires
+    compare-earlier-requires
     same-length
     same-length-2
     returns)

@@ -1,6 +1,6 @@
 -- At the loop's head the cards below m are compared with all earlier ones, and m is the next that covers the case, or
 -- past the last card.
-use Prim.Native.Nat.{_+_, _-_, _<_, _≤_}
+use Prim.Native.Nat.{_+_, _-_, _<_}
 use native.Mathlib.Omega.{arith}
 use denote.Ref.{now}
 use lib.ListN.{length}
@@ -11,7 +11,7 @@ use Rattle.workspace.specs.Prepare.{workSize}
 use Rattle.book.specs.Form.{mostCards}
 use Rattle.book_tables.specs.Cache.{Cached}
 use Rattle.book_selection.specs.Comparing.{Compared}
-use Rattle.book_selection.proofs.Comparisons.{none-compared, rows-left}
+use Rattle.book_selection.proofs.Comparisons.{none-compared, cards-left}
 use Rattle.book_selection.proofs.compare.compare_cards.Statement.{statement}
 use Rattle.book_selection.proofs.compare.compare_cards.Tie as tie
 
@@ -35,7 +35,7 @@ loop-holds c =
       (
         next .ensures .there,
         (
-          rows-left (a .limits) (now (a .book)) (a .covering) 0 (next .result) 0 (next .ensures .none) (none-compared (a .limits) (now (a .book)) (a .covering)),
+          cards-left (a .limits) (now (a .book)) (a .covering) 0 (next .result) 0 (next .ensures .none) (none-compared (a .limits) (now (a .book)) (a .covering)),
           start .pre .cached,
         ),
       ),
@@ -86,7 +86,7 @@ loop-again c =
       (
         next .ensures .there,
         (
-          rows-left (a .limits) (now (a .book)) (a .covering) (head card .loop .m + 1) (next .result) (card .compare-card .result .redundant)
+          cards-left (a .limits) (now (a .book)) (a .covering) (head card .loop .m + 1) (next .result) (card .compare-card .result .redundant)
               (next .ensures .none) (done .0 .0),
           done .0 .1,
         ),
@@ -105,7 +105,7 @@ returns c =
     let start = c .before .before .before .before .before .before in
     let a = start .args in
     let l = c .before .loop in (
-      rows-left (a .limits) (now (a .book)) (a .covering) (l .m) mostCards (l .progress .redundant)
+      cards-left (a .limits) (now (a .book)) (a .covering) (l .m) mostCards (l .progress .redundant)
           (λ k p q. absurd (omega (arith, p, q, c .loop-test .left))) (l .inv .0 .1 .0),
       l .inv .1 .1 ∙ sym (start .pre .long),
     )

@@ -6,7 +6,6 @@ use Prim.Native.Nat.{ℕ}
 use Rattle.table_rows.proofs.Stores.{blank}
 use Rattle.homomorphism_search.specs.Search.{LinkedTable, rowMaps}
 use Rattle.book_selection.specs.Standing.{tableAt}
-use borrow.Author.Needs.{needs}
 use Rattle.book_selection.proofs.compare.compare_spots.Statement.{statement}
 use Rattle.book_selection.proofs.compare.compare_spots.Tie as tie
 
@@ -14,41 +13,41 @@ same-search : {s t u v : List ℕ} → s ≡ t → u ≡ v → (depth : ℕ) →
 same-search {s} {t} {u} {v} e f depth = ap (λ (x : List ℕ). rowMaps x u depth 0 0) e ∙ ap (λ (x : List ℕ). rowMaps t x depth 0 0) f
 
 link-table-requires : tie.Need-link-table-requires
-link-table-requires c κs = (c .before .before .before .pre .high-table, blank 512 512 refl)
+link-table-requires c κs = (c .before .before .before .pre .other-table, blank 512 512 refl)
 
 spot-table-requires : tie.Need-spot-table-requires
-spot-table-requires c κs = c .before .before .before .before .pre .low-inside
+spot-table-requires c κs = c .before .before .before .before .pre .own-inside
 
 spot-table-requires-2 : tie.Need-spot-table-requires-2
-spot-table-requires-2 c κs = c .before .before .before .before .before .pre .high-table .inside
+spot-table-requires-2 c κs = c .before .before .before .before .before .pre .other-table .inside
 
 -- both tables, with their links
-low-linked : (c : tie.After-spot-table2) → let a = c .before .before .before .before .before .before .args in
-    LinkedTable (now (c .before .spot-table .result)) (a .low .rows) (now (a .links))
-low-linked c =
+own-linked : (c : tie.After-spot-table2) → let a = c .before .before .before .before .before .before .args in
+    LinkedTable (now (c .before .spot-table .result)) (a .own .rows) (now (a .links))
+own-linked c =
     let start = c .before .before .before .before .before .before in
-    subst (λ t. LinkedTable t (start .args .low .rows) (now (start .args .links))) (sym (c .before .spot-table .ensures)) (start .pre .linked)
+    subst (λ t. LinkedTable t (start .args .own .rows) (now (start .args .links))) (sym (c .before .spot-table .ensures)) (start .pre .linked)
 
-high-linked : (c : tie.After-spot-table2) → let a = c .before .before .before .before .before .before .args in
-    LinkedTable (now (c .spot-table2 .result)) (a .high .rows) (c .before .before .link-table .last .1 .1 .1 .0)
-high-linked c =
+other-linked : (c : tie.After-spot-table2) → let a = c .before .before .before .before .before .before .args in
+    LinkedTable (now (c .spot-table2 .result)) (a .other .rows) (c .before .before .link-table .last .1 .1 .1 .0)
+other-linked c =
     let a = c .before .before .before .before .before .before .args in
-    subst (λ t. LinkedTable t (a .high .rows) (c .before .before .link-table .last .1 .1 .1 .0)) (sym (c .spot-table2 .ensures)) (c .before .before .link-table .ensures)
+    subst (λ t. LinkedTable t (a .other .rows) (c .before .before .link-table .last .1 .1 .1 .0)) (sym (c .spot-table2 .ensures)) (c .before .before .link-table .ensures)
 
 table-covers-requires : tie.Need-table-covers-requires
-table-covers-requires c κs = (high-linked (c .before), low-linked (c .before))
+table-covers-requires c κs = (other-linked (c .before), own-linked (c .before))
 
 table-covers-requires-2 : tie.Need-table-covers-requires-2
-table-covers-requires-2 c κs = (low-linked (c .before .before .before), high-linked (c .before .before .before))
+table-covers-requires-2 c κs = (own-linked (c .before .before .before), other-linked (c .before .before .before))
 
 returns : tie.Need-returns
 returns c =
     let both = c .before .before .before .before in
     let a = both .before .before .before .before .before .before .args in
-    let low : now (both .before .spot-table .result) ≡ tableAt (now (a .tables)) (now (a .work)) (a .low) = both .before .spot-table .ensures in
-    let high : now (both .spot-table2 .result) ≡ tableAt (now (a .tables)) (now (a .work)) (a .high) = both .spot-table2 .ensures in (
-      c .before .before .table-covers .ensures ∙ same-search high low (a .depth),
-      c .table-covers2 .ensures ∙ same-search low high (a .depth),
+    let own : now (both .before .spot-table .result) ≡ tableAt (now (a .tables)) (now (a .work)) (a .own) = both .before .spot-table .ensures in
+    let other : now (both .spot-table2 .result) ≡ tableAt (now (a .tables)) (now (a .work)) (a .other) = both .spot-table2 .ensures in (
+      c .before .before .table-covers .ensures ∙ same-search other own (a .depth),
+      c .table-covers2 .ensures ∙ same-search own other (a .depth),
     )
 
 pub compare-spots-spec : {M : Type 1} → statement M

@@ -1,9 +1,6 @@
 -- The links of the part that is the table.
-use denote.Ref.{now}
-use mathlib.Core.List.{List}
 use mathlib.Core.Path.{subst, sym}
 use Rattle.row_sets.specs.Rows.{Checked}
-use Rattle.homomorphism_search.specs.Search.{LinkedTable}
 use Rattle.table.specs.Bounds.{maxRows}
 use Rattle.table.specs.Fields.{parentOf}
 use Rattle.table_rows.specs.Links.{Linked}

@@ -54,17 +54,18 @@ returns c =
     let pre = start .pre in
     let made = c .before .before .make-table in
     let few = pre .cached .taken .few (a .k) (pre .below) in
-    let end = made .last .1 .1 .1 .0 in (
-      (
-        made-stands (a .limits) (now (a .book)) (now (a .tables)) (now (a .work)) (a .from) (a .k) (made .result) end (pre .bounded) few (pre .room) (made .ensures),
-        refl,
-        λ _. refl,
-      ),
-      (
-        made-before (now (a .work)) (a .from) end (omega (arith, pre .room)),
-        made-long (now (a .work)) (a .from) end (omega (arith, pre .room)) (made .ensures .same ∙ part-long (now (a .work)) (a .from)),
-      ),
-    )
+    let end = made .last .1 .1 .1 .0 in
+    record {
+      stands =
+          made-stands (a .limits) (now (a .book)) (now (a .tables)) (now (a .work)) (a .from) (a .k) (made .result) end
+          (pre .bounded) few (pre .room) (made .ensures);
+      card-is = refl;
+      first = λ _. refl;
+      front = made-before (now (a .work)) (a .from) end (omega (arith, pre .room));
+      same =
+          made-long (now (a .work)) (a .from) end (omega (arith, pre .room))
+          (made .ensures .same ∙ part-long (now (a .work)) (a .from));
+    }
 
 mul-start : tie.Need-mul-start
 mul-start c = omega (arith, small (c .before .before .before .before .before))
@@ -76,15 +77,16 @@ returns-2 : tie.Need-returns-2
 returns-2 c =
     let start = c .before .before .before .before .before .before in
     let a = start .args in
-    let pre = start .pre in (
-      (
-        cached-stands (a .limits) (now (a .book)) (now (a .tables)) (now (a .spans)) (pre .cached .at) (pre .bounded) (pre .cached .cache-is) (now (a .work)) (a .k)
-            (small start) (c .before .if1 .left),
-        refl,
-        λ e. absurd (false≢true (sym e)),
-      ),
-      (refl, refl),
-    )
+    let pre = start .pre in
+    record {
+      stands =
+          cached-stands (a .limits) (now (a .book)) (now (a .tables)) (now (a .spans)) (pre .cached .at) (pre .bounded)
+          (pre .cached .cache-is) (now (a .work)) (a .k) (small start) (c .before .if1 .left);
+      card-is = refl;
+      first = λ e. absurd (false≢true (sym e));
+      front = refl;
+      same = refl;
+    }
 
 pub find-table-spec : {M : Type 1} → statement M
 find-table-spec =

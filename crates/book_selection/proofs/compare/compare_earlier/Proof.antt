@@ -1,6 +1,6 @@
 -- At the loop's head the card is compared with the earlier ones below n that are not redundant; n is the next of them,
--- or past the card.
-use Prim.Native.Nat.{_+_, _-_, _<_, _≤_}
+-- or past the card. Once it covers one that is not redundant, that one has said of the others what it could say.
+use Prim.Native.Nat.{_+_, _-_, _<_}
 use native.Mathlib.Omega.{arith}
 use borrow.Author.Needs.{needs}
 use denote.Ref.{now}
@@ -12,19 +12,19 @@ use Rattle.book.proofs.Forms.{count-most}
 use Rattle.book.proofs.Selections.{cards-preorder}
 use Rattle.book.specs.Form.{mostCards}
 use Rattle.book_selection.specs.Comparing.{ComparedTo, Paired}
-use Rattle.book_selection.specs.Standing.{LowTable}
-use Rattle.book_selection.proofs.Comparisons.{pair-compared, paired, row-ended, row-next, row-stopped}
+use Rattle.book_selection.specs.Standing.{OwnTable}
+use Rattle.book_selection.proofs.Comparisons.{pair-compared, paired, earlier-ended, earlier-next, earlier-stopped}
 use Rattle.book_selection.proofs.Standings.{stands-checkable}
-use Rattle.book_selection.proofs.compare.compare_row.Statement.{statement}
-use Rattle.book_selection.proofs.compare.compare_row.Tie as tie
+use Rattle.book_selection.proofs.compare.compare_earlier.Statement.{statement}
+use Rattle.book_selection.proofs.compare.compare_earlier.Tie as tie
 
 abbrev Inv-loop : tie.InvT-loop
-Inv-loop book limits tables spans covering low redundant work₀ m links word₀ n₀ work word n =
-    ((n < low .card → (has covering n ≡ true) × (has word n ≡ false)) × ComparedTo limits book covering (low .card) n word)
-    × LowTable limits book tables work low links
+Inv-loop book limits tables spans covering own redundant work₀ m links word₀ n₀ work word n =
+    ((n < own .card → (has covering n ≡ true) × (has word n ≡ false)) × ComparedTo limits book covering (own .card) n word)
+    × OwnTable limits book tables work own links
 
 abbrev μ-loop : tie.MeasureT-loop
-μ-loop book limits tables spans covering low redundant work₀ m links word₀ n₀ work word n = low .card - n
+μ-loop book limits tables spans covering own redundant work₀ m links word₀ n₀ work word n = own .card - n
 
 link-table-requires : tie.Need-link-table-requires Inv-loop μ-loop
 link-table-requires c κs =
@@ -38,7 +38,7 @@ next-card-requires : tie.Need-next-card-requires Inv-loop μ-loop
 next-card-requires c κs = omega arith
 
 -- a card of the book is one of 32
-small : (c : tie.Start Inv-loop μ-loop) → c .args .low .card < mostCards
+small : (c : tie.Start Inv-loop μ-loop) → c .args .own .card < mostCards
 small c = omega (arith, c .pre .below, count-most (now (c .args .book)))
 
 loop-holds : tie.Need-loop-holds Inv-loop μ-loop
@@ -46,7 +46,7 @@ loop-holds c =
     let start = c .before .before .before .before .before .before .before .before in
     let a = start .args in
     let pre = start .pre in (
-      row-next (a .limits) (now (a .book)) (a .covering) (a .low .card) (a .redundant) (c .before .without .result) 0 (c .next-card .result)
+      earlier-next (a .limits) (now (a .book)) (a .covering) (a .own .card) (a .redundant) (c .before .without .result) 0 (c .next-card .result)
           (c .before .without .ensures) (c .next-card .ensures) (small start) (pre .compared),
       record {
         stands = pre .stands;
@@ -63,8 +63,8 @@ compare-pair-requires c κs =
     record {
       bounded = pre .bounded;
       cached = pre .cached;
-      low-table = c .before .before .before .loop .inv .1;
-      low-below = pre .below;
+      own-table = c .before .before .before .loop .inv .1;
+      own-below = pre .below;
       below = omega (arith, c .before .before .loop-test .taken, pre .below);
     }
 
@@ -75,7 +75,7 @@ entry c = c .before .before .before .before .before .before .before .before .bef
 abbrev head : (c : tie.After-compare-pair Inv-loop μ-loop) → tie.At-loop Inv-loop μ-loop
 head c = c .before .before .before .before
 
-less : (c : tie.After-compare-pair Inv-loop μ-loop) → head c .loop .n < entry c .args .low .card
+less : (c : tie.After-compare-pair Inv-loop μ-loop) → head c .loop .n < entry c .args .own .card
 less c = c .before .before .before .loop-test .taken
 
 mark-passed-requires : tie.Need-mark-passed-requires Inv-loop μ-loop
@@ -85,12 +85,12 @@ mark-passed-requires c κs =
 
 -- the two that were compared, as they are marked
 marked : (c : tie.After-mark-passed Inv-loop μ-loop) → let pair = c .before .before .before in let a = entry pair .args in
-    Paired (a .limits) (now (a .book)) (a .low .card) (head pair .loop .n) (head pair .loop .word) (c .mark-passed .result)
+    Paired (a .limits) (now (a .book)) (a .own .card) (head pair .loop .n) (head pair .loop .word) (c .mark-passed .result)
 marked c =
     let pair = c .before .before .before in
     let a = entry pair .args in
     let l = head pair .loop in
-    paired (a .limits) (now (a .book)) (a .low .card) (l .n) (l .word) (c .mark-passed .result) (pair .compare-pair .result) (pair .compare-pair .ensures .0)
+    paired (a .limits) (now (a .book)) (a .own .card) (l .n) (l .word) (c .mark-passed .result) (pair .compare-pair .result) (pair .compare-pair .ensures .0)
     (c .mark-passed .ensures)
 
 same-length : tie.Need-same-length Inv-loop μ-loop
@@ -104,7 +104,7 @@ returns c =
     let a = start .args in
     let l = head pair .loop in
     let here = l .inv .0 .0 (less pair) in (
-      row-stopped (a .limits) (now (a .book)) (a .covering) (a .low .card) (l .word) (l .n) (c .before .mark-passed .result) (l .inv .0 .1) (less pair)
+      earlier-stopped (a .limits) (now (a .book)) (a .covering) (a .own .card) (l .word) (l .n) (c .before .mark-passed .result) (l .inv .0 .1) (less pair)
           (start .pre .below) (start .pre .covers) (here .0) (marked (c .before))
           (cards-preorder (a .limits) (now (a .book)) (start .pre .cached .taken .readable))
           (sym (pair .compare-pair .ensures .0 .0) ∙ c .if1 .taken) (here .1),
@@ -131,9 +131,9 @@ loop-again c =
     let l = head pair .loop in
     let word = c .before .before .before .mark-passed .result in
     let here = l .inv .0 .0 (less pair) in (
-      row-next (a .limits) (now (a .book)) (a .covering) (a .low .card) word (c .before .without2 .result) (l .n + 1) (c .next-card2 .result)
+      earlier-next (a .limits) (now (a .book)) (a .covering) (a .own .card) word (c .before .without2 .result) (l .n + 1) (c .next-card2 .result)
           (c .before .without2 .ensures) (c .next-card2 .ensures) (small start)
-          (pair-compared (a .limits) (now (a .book)) (a .covering) (a .low .card) (l .word) (l .n) word (l .inv .0 .1) (less pair) (start .pre .below)
+          (pair-compared (a .limits) (now (a .book)) (a .covering) (a .own .card) (l .word) (l .n) word (l .inv .0 .1) (less pair) (start .pre .below)
           (start .pre .covers) (here .0) (marked (c .before .before .before))),
       pair .compare-pair .ensures .1,
     )
@@ -147,12 +147,12 @@ returns-2 c =
     let start = c .before .before .before .before .before .before .before .before .before .before in
     let a = start .args in
     let l = c .before .loop in (
-      row-ended (a .limits) (now (a .book)) (a .covering) (a .low .card) (l .word) (l .n) (omega (arith, c .loop-test .left)) (l .inv .0 .1),
+      earlier-ended (a .limits) (now (a .book)) (a .covering) (a .own .card) (l .word) (l .n) (omega (arith, c .loop-test .left)) (l .inv .0 .1),
       l .inv .1 .long ∙ sym (start .pre .long),
     )
 
-pub compare-row-spec : {M : Type 1} → statement M
-compare-row-spec =
+pub compare-earlier-spec : {M : Type 1} → statement M
+compare-earlier-spec =
     tie.close
     (tie.spec
     Inv-loop
