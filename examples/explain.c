@@ -71,7 +71,7 @@ static int subsumes(const struct book *book, unsigned int card, unsigned int oth
     return is_yes(&answer);
 }
 
-/* Two cards that subsume each other have the same instances. */
+/* Of two cards that are found, one subsumes the other only if they have the same instances. */
 static void print_most_specific(const struct book *book, unsigned int card)
 {
     const char *before = ", with the same instances as";
@@ -79,8 +79,7 @@ static void print_most_specific(const struct book *book, unsigned int card)
 
     printf("; most specific");
     for (other = 0; other < book->count; other++)
-        if (other != card && is_most_specific(book, other) && subsumes(book, card, other) &&
-            subsumes(book, other, card)) {
+        if (other != card && is_most_specific(book, other) && subsumes(book, card, other)) {
             printf("%s card %u", before, other);
             before = " and";
         }

@@ -47,7 +47,8 @@ module _ (limits : Limits) (book : List ℕ)
     reflexive = λ i l. card-exactly i i l l .0 (covers-itself limits (card book i));
     transitive = λ i j k p q r a b.
         card-exactly i k p r .0
-        (covers-through limits (card book i) (card book j) (card book k) (card-exactly i j p q .1 a) (card-exactly j k q r .1 b));
+        (covers-through limits (card book i) (card book j) (card book k) (card-exactly i j p q .1 a)
+        (card-exactly j k q r .1 b));
   }
 
 module _ (limits : Limits) (case book : List ℕ) where
@@ -174,6 +175,7 @@ module _ (limits : Limits) (case book : List ℕ) where
     covers-case = c;
     not-passed-over = λ p.
         only (p .another) (p .other-in-book)
-        (λ e. p .not-in-return (subst (λ (k : ℕ). Covers limits (card book k) (card book n)) (sym e) (covers-itself limits (card book n))))
+        (λ e. p .not-in-return (subst (λ (k : ℕ). Covers limits (card book k) (card book n)) (sym e)
+        (covers-itself limits (card book n))))
         (p .other-covers);
   }

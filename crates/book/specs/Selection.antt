@@ -1,11 +1,13 @@
--- 01, "Nearest cards for a case ... The answer is a 32-bit word, bit n for card n", with the rule of 02, U2: "A covering card is passed over exactly when
--- it covers another covering card that does not cover it in return." In the field's terms: the most specific subsumers of a description.
---   PassedOver        card n is passed over, with covering by meaning (meaning, specs/Covering: `Covers`); the card that it covers is another one, for each
---                     covers itself
+-- 01, "Nearest cards for a case ... The answer is a 32-bit word, bit n for card n", with the rule of 02, U2: "A covering
+-- card is passed over exactly when it covers another covering card that does not cover it in return." In the field's
+-- terms: the most specific subsumers of a description.
+--   PassedOver        card n is passed over, with covering by meaning (meaning, specs/Covering: `Covers`). The card that
+--                     it covers is another one, since each covers itself
 --   MostSpecific      card n is nearest: it covers the case and is not passed over
 --   cardCovers        card k covers card j, by the test that decides it (`covers`)
 --   caseCovered       card k covers the case
---   mostSpecific      card k is nearest, by these tests (order, specs/Preorder: `minimal`; proofs/Selections: `most-specific-exactly`)
+--   mostSpecific      card k is nearest, by these tests (order, specs/Preorder: `minimal`; proofs/Selections:
+--                     `most-specific-exactly`)
 --   cardWord          the cards below n that pass a test, card k as the bit of weight 2^k
 --   mostSpecificCards the answer
 use Prim.Native.Nat.{ℕ, zero, suc, _+_, _^_, _<_}

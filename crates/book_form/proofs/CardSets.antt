@@ -59,5 +59,6 @@ module _ (word k : ℕ) where
   pub with-none : (test : Bool) → test ≡ false → With word k test word
   with-none test fails i = rw (fails, and-none (eqb i k)) (sym (or-none (has word i)))
 
-pub with-each : (word m : ℕ) (test : Bool) (more n : ℕ) (other : Bool) (r : ℕ) → With word m test more → With more n other r → WithEach word m test n other r
+pub with-each : (word m : ℕ) (test : Bool) (more n : ℕ) (other : Bool) (r : ℕ) → With word m test more →
+    With more n other r → WithEach word m test n other r
 with-each word m test more n other r p q i = q i ∙ ap (λ (b : Bool). b || (eqb i n && other)) (p i)

@@ -1,14 +1,15 @@
 -- Laws of the word of the redundant cards, those that are passed over, as pairs of covering cards are compared.
---   none-compared                no pair yet
---   cards-left                    cards that do not cover the case
---   earlier-next                     card m: the next card to compare it with; those that are redundant, or do not cover the case, are left out
---   earlier-ended                    with all earlier ones
---   paired                       the word that has the one of two cards that covers the other strictly
---   pair-compared                one pair more
---   earlier-stopped                  card m covers an earlier card that is not redundant: no other pair of its row says anything new
---   all-compared                 then the word has exactly the covering cards that are passed over
---   selected-bits                and what is left of the covering cards are the others
---   cleared                      a work space cleared from its first byte to its last
+--   none-compared     no pair yet
+--   cards-left        cards that do not cover the case
+--   earlier-next      card m: the next card to compare it with; those that are redundant, or do not cover the case, are
+--                     left out
+--   earlier-ended     with all earlier ones
+--   paired            the word that has the one of two cards that covers the other strictly
+--   pair-compared     one pair more
+--   earlier-stopped   card m covers an earlier card that is not redundant: no other earlier one says anything new
+--   all-compared      then the word has exactly the covering cards that are passed over
+--   selected-bits     and what is left of the covering cards are the others
+--   cleared           a work space cleared from its first byte to its last
 use Prim.Native.Nat.{_+_, _-_, _<_, _≤_, ℕ}
 use borrow.Author.Tests.{eq-eqb, eqb-true, not-true}
 use lib.Dec.{eqb}
@@ -54,7 +55,8 @@ pub paired : (limits : Limits) (book : List ℕ) (m n word r : ℕ) (order : Ord
     Paired limits book m n word r
 paired limits book m n word r order is marked =
     let (a, b) = is in
-    subst (λ (x : Bool). WithEach word m (x && not (cardCovers limits book n m)) n (cardCovers limits book n m && not x) r) a
+    subst (λ (x : Bool). WithEach word m (x && not (cardCovers limits book n m)) n (cardCovers limits book n m && not x)
+    r) a
     (subst (λ (y : Bool). WithEach word m (order .over && not y) n (y && not (order .over)) r) b marked)
 
 left-card : (covering redundant left n : ℕ) → ((k : ℕ) → has left k ≡ (has covering k && not (has redundant k))) →
@@ -101,7 +103,8 @@ module _ (limits : Limits) (book : List ℕ) (covering : ℕ) where
       earlier i j a l (inr (s, x)) = absurd (omega (arith, x))
 
   module _ (m redundant : ℕ) where
-    pub earlier-ended : (n : ℕ) → m ≤ n → ComparedTo limits book covering m n redundant → Compared limits book covering (m + 1) redundant
+    pub earlier-ended : (n : ℕ) → m ≤ n → ComparedTo limits book covering m n redundant →
+        Compared limits book covering (m + 1) redundant
     earlier-ended n past so = earlier-compared m n (m + 1) 0 redundant earlier so
       where
         earlier : (i j : ℕ) → has covering i ≡ true → j < i → Earlier (m + 1) 0 i j → Earlier m n i j
@@ -118,7 +121,8 @@ module _ (limits : Limits) (book : List ℕ) (covering : ℕ) where
         record {
           sound = so .sound;
           decided = λ i j a b l e c.
-              ⊎-elim {C = OneOf redundant i j} (λ x. so .decided i j a b l x c) (λ x. inr (shown j b (x .0) (x .1))) (parted i j e);
+              ⊎-elim {C = OneOf redundant i j} (λ x. so .decided i j a b l x c) (λ x. inr (shown j b (x .0) (x .1)))
+              (parted i j e);
         }
       where
         shown : (j : ℕ) → has covering j ≡ true → n ≤ j → j < next → has redundant j ≡ true
@@ -134,15 +138,18 @@ module _ (limits : Limits) (book : List ℕ) (covering : ℕ) where
         ]
 
     -- the next card that m is to be compared with
-    pub earlier-next : (left n next : ℕ) → ((k : ℕ) → has left k ≡ (has covering k && not (has redundant k))) → NextCard left n next →
+    pub earlier-next : (left n next : ℕ) → ((k : ℕ) → has left k ≡ (has covering k && not (has redundant k))) →
+        NextCard left n next →
         m < mostCards → ComparedTo limits book covering m n redundant →
-        (next < m → (has covering next ≡ true) × (has redundant next ≡ false)) × ComparedTo limits book covering m next redundant
+        (next < m → (has covering next ≡ true) × (has redundant next ≡ false))
+        × ComparedTo limits book covering m next redundant
     earlier-next left n next is found small so = (
       λ l. left-card covering redundant left next is (found .there (omega (arith, l, small))),
       earlier-skipped left n next is (found .none) so,
     )
 
-    module _ (n r : ℕ) (so : ComparedTo limits book covering m n redundant) (before : n < m) (inside : m < cardCount book)
+    module _ (n r : ℕ) (so : ComparedTo limits book covering m n redundant) (before : n < m)
+        (inside : m < cardCount book)
         (covers-case : has covering m ≡ true) (other-covers : has covering n ≡ true)
         (pair : Paired limits book m n redundant r) where
       kept : (i : ℕ) → has redundant i ≡ true → has r i ≡ true
@@ -155,7 +162,8 @@ module _ (limits : Limits) (book : List ℕ) (covering : ℕ) where
       of-m c =
           pair m
           ∙ or-left (has redundant m || (eqb m m && strict over m n)) (eqb m n && strict over n m)
-          (or-right (has redundant m) (eqb m m && strict over m n) (and-true (eqb m m) (strict over m n) (eq-eqb m m refl) c))
+          (or-right (has redundant m) (eqb m m && strict over m n) (and-true (eqb m m) (strict over m n)
+          (eq-eqb m m refl) c))
 
       of-n : strict over n m ≡ true → has r n ≡ true
       of-n c =
@@ -202,11 +210,13 @@ module _ (limits : Limits) (book : List ℕ) (covering : ℕ) where
           record {
             sound = new-sound;
             decided = λ i j a b l e c.
-                ⊎-elim {C = OneOf r i j} (λ x. still i j (so .decided i j a b l x c)) (λ x. of-pair i j (x .0) (x .1) c) (parted i j e);
+                ⊎-elim {C = OneOf r i j} (λ x. still i j (so .decided i j a b l x c)) (λ x. of-pair i j (x .0) (x .1) c)
+                (parted i j e);
           }
 
       -- m covers n, which is not redundant: n has said what m could say of the cards below m
-      module _ (order : Preorder over (cardCount book)) (m-covers : over m n ≡ true) (n-kept : has redundant n ≡ false) where
+      module _ (order : Preorder over (cardCount book)) (m-covers : over m n ≡ true)
+          (n-kept : has redundant n ≡ false) where
         other-decided : (j : ℕ) → j < m → has covering j ≡ true → Apart n j → has redundant j ≡ true
         other-decided j l b c =
             elim (decLt j n) [
@@ -226,7 +236,8 @@ module _ (limits : Limits) (book : List ℕ) (covering : ℕ) where
         as-n same j l (inl y) =
             inl (over-strict over (cardCount book) order n m j (omega arith) inside (omega (arith, l, inside)) same y)
         as-n same j l (inr y) =
-            inr (strict-under over (cardCount book) order j m n (omega (arith, l, inside)) inside (omega arith) y m-covers)
+            inr (strict-under over (cardCount book) order j m n (omega (arith, l, inside)) inside (omega arith) y
+            m-covers)
 
         stopped : (j : ℕ) → j < m → has covering j ≡ true → Apart m j → OneOf r m j
         stopped j l b c =
@@ -240,7 +251,8 @@ module _ (limits : Limits) (book : List ℕ) (covering : ℕ) where
               decided = λ i j a b l e c. elim (decLt i m) [
                 | yes x ↦ still i j (so .decided i j a b l (inl x) c)
                 | no x ↦
-                    let is : i ≡ m = ⊎-elim {C = i ≡ m} (λ y. omega (arith, y, x)) (λ y. absurd (omega (arith, y .1))) e in
+                    let is : i ≡ m = ⊎-elim {C = i ≡ m} (λ y. omega (arith, y, x)) (λ y. absurd (omega (arith, y .1)))
+                    e in
                     subst (λ k. OneOf r k j) (sym is) (stopped j (omega (arith, l, is)) b (subst (λ k. Apart k j) is c))
               ];
             }
@@ -267,7 +279,8 @@ module _ (limits : Limits) (book : List ℕ) (covering : ℕ) where
       found p =
           let (j, _, least, c) = strict-minimal over (cardCount book) (has covering) order i (inside i a) p in
           let (b, kept) = minimal-is over (cardCount book) (has covering) j least in
-          ⊎-elim {C = has redundant i ≡ true} (λ x. x) (λ x. absurd (false≢true (sym kept ∙ so .sound j x))) (by-place j b c)
+          ⊎-elim {C = has redundant i ≡ true} (λ x. x) (λ x. absurd (false≢true (sym kept ∙ so .sound j x)))
+          (by-place j b c)
 
 -- ---- the end: the covering cards without the redundant ones, and the work space cleared
 
@@ -278,7 +291,8 @@ pub selected-bits : (limits : Limits) (book : List ℕ) (covering m redundant r 
     (k : ℕ) → has r k ≡ (has covering k && not (passedOver (cardCovers limits book) (cardCount book) (has covering) k))
 selected-bits limits book covering m redundant r order past inside so is k =
     is k
-    ∙ and-same (has covering k) (not (has redundant k)) (not (passedOver (cardCovers limits book) (cardCount book) (has covering) k))
+    ∙ and-same (has covering k) (not (has redundant k))
+    (not (passedOver (cardCovers limits book) (cardCount book) (has covering) k))
     (λ a. ap not (all-compared limits book covering m redundant order past inside so k a))
 
 pub cleared : (d end : List ℕ) (n size : ℕ) → n ≡ length d → length d ≡ size → end ≡ put d 0 (zeros (n - 0)) → end ≡ zeros size

@@ -3,7 +3,7 @@
 --   part-long          the part of the work space that is lent to make one
 --   made-before, made-long   what stands before it stays; and so does the length
 --   made-stands        one that is made in the work space, from a byte on
---   stands-kept        one in the work space stays where the tables changes
+--   stands-kept        one in the work space stays when the kept tables change
 --   stands-whole       and it is there whole
 --   stands-start       at the start of the work space it is the table that is cached
 --   stands-checkable   it has all that a search needs
@@ -41,9 +41,15 @@ use Rattle.normal_writer.specs.Tables.{Tabled, tableRows}
 
 -- ---- where it is found
 
-pub cached-stands : (limits : Limits) (book tables spans : List ℕ) (at : ℕ) → Bounded limits → Cached limits book tables spans at →
+pub cached-stands : (limits : Limits) (book tables spans : List ℕ) (at : ℕ) → Bounded limits →
+    Cached limits book tables spans at →
     (work : List ℕ) (k : ℕ) → k < mostCards → (getD spans (mostCards + k) 0 ≡ 0 → ⊥) →
-    Stands limits book tables work (record { card = k; cached = true; start = getD spans k 0; rows = getD spans (mostCards + k) 0 })
+    Stands limits book tables work (record {
+      card = k;
+      cached = true;
+      start = getD spans k 0;
+      rows = getD spans (mostCards + k) 0;
+    })
 cached-stands limits book tables spans at bounded so work k l some =
     let there = so .each k l some in
     let fits = table-few (there .table) in
@@ -69,18 +75,33 @@ module _ (work : List ℕ) (from : ℕ) (end : List ℕ) (inside : from ≤ leng
   made-before = ap (take from) (put-upper from work end) ∙ take-at (take from work) end from front
 
   pub made-long : length end ≡ length work - from → length new ≡ length work
-  made-long same = ap length (put-upper from work end) ∙ length-append (take from work) end ∙ omega (arith, front, same, inside)
+  made-long same =
+      ap length (put-upper from work end)
+      ∙ length-append (take from work) end
+      ∙ omega (arith, front, same, inside)
 
 module _ (limits : Limits) (book tables work : List ℕ) (from k r : ℕ) (end : List ℕ) (bounded : Bounded limits)
     (few : mergedCount limits (card book k) ≤ limits .rows) (room : from + pictureSize limits ≤ length work)
     (tabled : Tabled limits (card book k) (midOf from (length work - from) work) r end) where
-  pub made-stands : Stands limits book tables (new work from end (omega (arith, room))) (record { card = k; cached = false; start = from; rows = r })
+  pub made-stands : Stands limits book tables (new work from end (omega (arith, room)))
+      (record { card = k; cached = false; start = from; rows = r })
   made-stands =
       let inside : from ≤ length work = omega (arith, room) in
       let part = part-long work from in
-      let there = tabled-there limits (card book k) (midOf from (length work - from) work) r end bounded tabled few (omega (arith, part, room)) in
+      let there = tabled-there limits (card book k) (midOf from (length work - from) work) r end bounded tabled few
+      (omega (arith, part, room)) in
       record {
-        inside = record { few = there .0; ends = omega (arith, there .1, made-long work from end inside (tabled .same ∙ part), tabled .same, part, room) };
+        inside = record {
+          few = there .0;
+          ends = omega (
+            arith,
+            there .1,
+            made-long work from end inside (tabled .same ∙ part),
+            tabled .same,
+            part,
+            room,
+          );
+        };
         table = subst (λ d. TableAt limits (card book k) d r) (sym (from-there work from end inside))
             (tabled-at limits (card book k) (midOf from (length work - from) work) r end tabled few);
       }
@@ -88,7 +109,8 @@ module _ (limits : Limits) (book tables work : List ℕ) (from k r : ℕ) (end :
 -- ---- where it is
 
 module _ (limits : Limits) (book work : List ℕ) (spot : Spot) where
-  pub stands-kept : (tables tables₂ : List ℕ) → spot .cached ≡ false → Stands limits book tables work spot → Stands limits book tables₂ work spot
+  pub stands-kept : (tables tables₂ : List ℕ) → spot .cached ≡ false → Stands limits book tables work spot →
+      Stands limits book tables₂ work spot
   stands-kept tables tables₂ outside so =
       let same : areaOf tables work spot ≡ areaOf tables₂ work spot = rw outside in
       record {
@@ -96,7 +118,8 @@ module _ (limits : Limits) (book work : List ℕ) (spot : Spot) where
           few = so .inside .few;
           ends = subst (λ d. spot .start + place (spot .rows) endSize ≤ length d) same (so .inside .ends);
         };
-        table = subst (λ d. TableAt limits (card book (spot .card)) (drop (spot .start) d) (spot .rows)) same (so .table);
+        table = subst (λ d. TableAt limits (card book (spot .card)) (drop (spot .start) d) (spot .rows)) same
+            (so .table);
       }
 
   pub stands-start : (tables : List ℕ) → spot .cached ≡ false → spot .start ≡ 0 → Stands limits book tables work spot →
@@ -105,7 +128,8 @@ module _ (limits : Limits) (book work : List ℕ) (spot : Spot) where
       let is : drop (spot .start) (areaOf tables work spot) ≡ work = rw (outside, first) in
       subst (λ d. TableAt limits (card book (spot .card)) d (spot .rows)) is (so .table)
 
-  pub stands-whole : (tables : List ℕ) → spot .cached ≡ false → Stands limits book tables work spot → place (spot .rows) endSize ≤ length work
+  pub stands-whole : (tables : List ℕ) → spot .cached ≡ false → Stands limits book tables work spot →
+      place (spot .rows) endSize ≤ length work
   stands-whole tables outside so =
       let area : areaOf tables work spot ≡ work = rw outside in omega (arith, ap length area, so .inside .ends)
 
@@ -116,7 +140,8 @@ module _ {limits : Limits} {book tables work : List ℕ} {spot : Spot} (bounded 
   pub stands-checkable : Checkable tables work spot
   stands-checkable =
       let s = card book (spot .card) in
-      let whole = readable-checked limits (normalFile limits s) (tableRows limits s) (normal-reads limits s (so .table .few) bounded) bounded in
+      let whole = readable-checked limits (normalFile limits s) (tableRows limits s)
+      (normal-reads limits s (so .table .few) bounded) bounded in
       record {
         inside = so .inside;
         checked =
@@ -167,6 +192,8 @@ module _ {limits : Limits} {book : List ℕ} (taken : BookTaken limits book) (bo
       order .under ≡ rowMaps (tableAt tables work own) (tableAt tables work other) (limits .depth) 0 0 →
       Ordered limits book (own .card) (other .card) order
   spots-order order over under = (
-    over ∙ covers-is (tableAt tables work other) (tableAt tables work own) (other .card) (own .card) (b .table .is) (a .table .is) h l,
-    under ∙ covers-is (tableAt tables work own) (tableAt tables work other) (own .card) (other .card) (a .table .is) (b .table .is) l h,
+    over ∙ covers-is (tableAt tables work other) (tableAt tables work own) (other .card) (own .card) (b .table .is)
+        (a .table .is) h l,
+    under ∙ covers-is (tableAt tables work own) (tableAt tables work other) (own .card) (other .card) (a .table .is)
+        (b .table .is) l h,
   )

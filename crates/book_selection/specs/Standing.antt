@@ -75,7 +75,8 @@ pub record Placeable (limits : Limits) (book : List ℕ) (k : ℕ) (tables spans
   pub below : k < cardCount book
   pub room : from + pictureSize limits ≤ length work
 
-pub record Found (limits : Limits) (book : List ℕ) (k : ℕ) (tables before : List ℕ) (from : ℕ) (spot : Spot) (work : List ℕ) :
+pub record Found (limits : Limits) (book : List ℕ) (k : ℕ) (tables before : List ℕ) (from : ℕ) (spot : Spot)
+    (work : List ℕ) :
     Type 0 where
   pub stands : Stands limits book tables work spot
   pub card-is : spot .card ≡ k

@@ -42,7 +42,8 @@ tabled-at limits s out r end tabled few =
       is = tabled .file few;
     }
 
-pub none-cached : (limits : Limits) (book tables spans : List ℕ) → Zeros (mostCards + mostCards) spans → Cached limits book tables spans 0
+pub none-cached : (limits : Limits) (book tables spans : List ℕ) → Zeros (mostCards + mostCards) spans →
+    Cached limits book tables spans 0
 none-cached limits book tables spans blank =
     record {
       long = omega arith;

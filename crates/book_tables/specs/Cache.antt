@@ -63,7 +63,8 @@ pub record CachedAt (limits : Limits) (s tables : List ℕ) (start rows at : ℕ
 pub record Cached (limits : Limits) (book tables spans : List ℕ) (at : ℕ) : Type 0 where
   pub long : at ≤ length tables
   pub spanned : length spans ≡ mostCards + mostCards
-  pub each : (j : ℕ) → j < mostCards → (getD spans (mostCards + j) 0 ≡ 0 → ⊥) → CachedAt limits (card book j) tables (getD spans j 0) (getD spans (mostCards + j) 0) at
+  pub each : (j : ℕ) → j < mostCards → (getD spans (mostCards + j) 0 ≡ 0 → ⊥) →
+      CachedAt limits (card book j) tables (getD spans j 0) (getD spans (mostCards + j) 0) at
 
 abbrev pub withSpan : List ℕ → ℕ → ℕ → ℕ → List ℕ
 withSpan spans k start rows = set (set spans k start) (mostCards + k) rows

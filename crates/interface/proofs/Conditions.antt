@@ -334,7 +334,8 @@ module _ (limits : Limits) (bounded : Bounded limits) where
 
     -- where a word is given, the book is accepted, and it is the word of the definition
     cards-shown : (work : List ℕ) → outcome (mostSpecificGiven limits case book work) ≡ outcomeYes →
-        AcceptableBook limits case book × (value (mostSpecificGiven limits case book work) ≡ mostSpecificCards limits case book)
+        AcceptableBook limits case book × (value (mostSpecificGiven limits case book work) ≡ mostSpecificCards limits
+        case book)
     cards-shown work h =
         let g = result-shown _ _ _ _ (cards-answers work) (omega (arith, h)) in (g .passes .2, g .value-is)
 

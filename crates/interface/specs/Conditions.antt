@@ -190,7 +190,8 @@ pub record MostSpecificWords (limits : Limits) (case book : List ℕ) : Type 0 w
   -- each covering card covers a nearest one
   pub below-each : (work : List ℕ) → outcome (mostSpecificGiven limits case book work) ≡ outcomeYes →
       (k : ℕ) → k < cardCount book → Covers limits (card book k) case →
-      (n : ℕ) × (has (value (mostSpecificGiven limits case book work)) n ≡ true) × Covers limits (card book k) (card book n)
+      (n : ℕ) × (has (value (mostSpecificGiven limits case book work)) n ≡ true)
+      × Covers limits (card book k) (card book n)
   -- cards of one meaning are nearest together or not at all
   pub together : (work : List ℕ) → outcome (mostSpecificGiven limits case book work) ≡ outcomeYes →
       (m n : ℕ) → m < cardCount book → n < cardCount book →

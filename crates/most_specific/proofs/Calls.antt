@@ -96,9 +96,11 @@ module _ (limits : Limits) (case book : List ℕ) (count covering : ℕ) (counte
       some-same (λ j. has covering j && strict (cardCovers limits book) k j)
       (λ j. caseCovered limits case book j && strict (cardCovers limits book) k j) (cardCount book) 0
       (λ j a b. ap (λ (t : Bool). t && strict (cardCovers limits book) k j)
-      (covering-has j ∙ ap (λ (t : Bool). t && caseCovered limits case book j) (lt-ltb j count (omega (arith, counted)))))
+      (covering-has j ∙ ap (λ (t : Bool). t && caseCovered limits case book j)
+      (lt-ltb j count (omega (arith, counted)))))
 
-  pub selected-word : (r : ℕ) → ((k : ℕ) → has r k ≡ (has covering k && not (passed (has covering) k))) → r ≡ mostSpecificCards limits case book
+  pub selected-word : (r : ℕ) → ((k : ℕ) → has r k ≡ (has covering k && not (passed (has covering) k))) →
+      r ≡ mostSpecificCards limits case book
   unfolding mostSpecificCards mostSpecific minimal
   selected-word r bits =
       word-is (mostSpecific limits case book) r (cardCount book)
@@ -153,7 +155,8 @@ module _ (limits : Limits) (case book : List ℕ) (cards : Cards) (so : CardsRea
 
       pub found-taken : BookTaken limits book
       found-taken =
-          let cards-merged = and-yes (mergedAsked limits First case) (askedFrom (cardMerged limits book) (cards .count) 0) .0 (parts .0) .1 in
+          let cards-merged = and-yes (mergedAsked limits First case)
+          (askedFrom (cardMerged limits book) (cards .count) 0) .0 (parts .0) .1 in
           let counted = so .places-are .counted in
           record {
             readable = λ k l. so .readable k (omega (arith, l, counted));

@@ -1,10 +1,18 @@
 -- The questions that are left at each step of the call. Nobody has to believe these.
 --   afterCards   those after 2 to 13 of the cards
 --   afterCase    those after 2 to 13 of the case
-use Prim.Native.Nat.{ℕ}
+--   BookRoom     what asking about the book needs
+--   CardsRoom    what selecting cards needs
+use Prim.Native.Nat.{ℕ, _≤_}
+use lib.ListN.{length}
 use mathlib.Core.List.{List}
 use Rattle.table.specs.declared.layout.Limits.{Limits}
+use Rattle.table.specs.Bounds.{Bounded}
 use Rattle.picture.specs.Asked.{andThen, askedFrom}
+use Rattle.picture.specs.Readable.{Readable}
+use Rattle.workspace.specs.Prepare.{workSize}
+use Rattle.book_form.specs.declared.form.Cards.{Cards}
+use Rattle.book_tables.specs.Tables.{CardsRead}
 use Rattle.picture.specs.declared.answer.Input.the-variants.{First}
 use Rattle.normal.specs.Call.{mergedAsked}
 use Rattle.book.specs.Call.{cardMerged, cardRead, formAsked}
@@ -16,3 +24,14 @@ afterCards limits case book = andThen (mergedAsked limits First case) (askedFrom
 
 abbrev pub afterCase : Limits → List ℕ → List ℕ → Asked
 afterCase limits case book = andThen (formAsked book) (andThen (askedFrom (cardRead limits book) (cardCount book) 0) (afterCards limits case book))
+
+pub record BookRoom (limits : Limits) (case work : List ℕ) : Type 0 where
+  pub bounded : Bounded limits
+  pub readable : Readable limits case
+  pub room : workSize limits ≤ length work
+
+pub record CardsRoom (limits : Limits) (case book : List ℕ) (cards : Cards) (work : List ℕ) : Type 0 where
+  pub bounded : Bounded limits
+  pub readable : Readable limits case
+  pub cards-read : CardsRead limits book cards
+  pub room : workSize limits ≤ length work

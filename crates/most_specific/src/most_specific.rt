@@ -17,17 +17,15 @@ use picture_reader::read::read;
 use prepare_pair::prepare::half_size;
 use table::layout::Limits;
 ghost use mathlib.Core.Path.{_≡_};
-ghost use Prim.Native.Nat.{_≤_};
 ghost use lib.ListN.{length};
 ghost use Rattle.table.specs.Bounds.{Bounded};
 ghost use Rattle.table.specs.Put.{put, zeros};
-ghost use Rattle.picture.specs.Readable.{Readable};
 ghost use Rattle.workspace.specs.Prepare.{workSize};
 ghost use Rattle.picture.specs.Asked.{askedFrom, kept};
 ghost use Rattle.book.specs.Call.{cardRead, mostSpecificAnswer, mostSpecificWork};
 ghost use Rattle.book.specs.Selection.{mostSpecificCards};
-ghost use Rattle.book_tables.specs.Tables.{CardsRead, selectedOn};
-ghost use Rattle.most_specific.specs.Asking.{afterCase, afterCards};
+ghost use Rattle.book_tables.specs.Tables.{selectedOn};
+ghost use Rattle.most_specific.specs.Asking.{BookRoom, CardsRoom, afterCase, afterCards};
 ghost use Rattle.book_form.specs.Places.{Placed};
 
 // 2 to 13 of each card in turn.
@@ -51,7 +49,7 @@ fn read_cards(book: &[u8], cards: Cards, limits: Limits) -> Asked
 
 // 14 of the case and of each card; then the word.
 fn select(case: &[u8], book: &[u8], cards: Cards, limits: Limits, work: &mut [u8]) -> Selected
-    requires { ⌜ (Bounded limits) × ((Readable limits (now case)) × ((CardsRead limits (now book) cards) × (workSize limits ≤ length (now work)))) ⌝ }
+    requires { ⌜ CardsRoom limits (now case) (now book) cards (now work) ⌝ }
     ensures { λ r. ⌜ (r ≡ selectedOn (afterCards limits (now (case .entry)) (now (book .entry)))
         (mostSpecificCards limits (now (case .entry)) (now (book .entry))))
         × (now (work .exit) ≡ kept (afterCards limits (now (case .entry)) (now (book .entry)))
@@ -78,7 +76,7 @@ fn select(case: &[u8], book: &[u8], cards: Cards, limits: Limits, work: &mut [u8
 
 // 24, the cards, and what comes after them.
 fn ask_book(case: &[u8], book: &[u8], limits: Limits, work: &mut [u8]) -> Selected
-    requires { ⌜ (Bounded limits) × ((Readable limits (now case)) × (workSize limits ≤ length (now work))) ⌝ }
+    requires { ⌜ BookRoom limits (now case) (now work) ⌝ }
     ensures { λ r. ⌜ (r ≡ selectedOn (afterCase limits (now (case .entry)) (now (book .entry)))
         (mostSpecificCards limits (now (case .entry)) (now (book .entry))))
         × (now (work .exit) ≡ kept (afterCase limits (now (case .entry)) (now (book .entry)))

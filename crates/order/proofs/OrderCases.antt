@@ -1,4 +1,4 @@
--- A worked case, computed: the numbers 1, 2, 2, 3, 6, 12, 4 by divisibility, number i covering number j if it divides it.
+-- A worked case, computed: the numbers 1, 2, 2, 3, 6, 12, 4 by divisibility; number i covers number j if it divides it.
 use Prim.Native.Nat.{ℕ, _%_}
 use lib.Dec.{eqb}
 use lib.ListN.{getD}

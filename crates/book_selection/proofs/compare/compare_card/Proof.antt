@@ -37,7 +37,8 @@ cache-table-requires c κs =
     record {
       few = stands .inside .few;
       first = find .ensures .first;
-      whole = λ outside. stands-whole (a .limits) (now (a .book)) (find .last .1 .1 .1 .1 .1 .0) (find .result) (now (a .tables)) outside stands;
+      whole = λ outside. stands-whole (a .limits) (now (a .book)) (find .last .1 .1 .1 .1 .1 .0) (find .result)
+          (now (a .tables)) outside stands;
       below = omega (arith, find .ensures .card-is, pre .below, count-most (now (a .book)));
       inside = pre .cached .long;
       spanned = pre .cached .spanned;
@@ -49,11 +50,13 @@ kept : (c : tie.After-cache-table) →
     let a = entry found .args in
     let tables = c .cache-table .last .1 .1 .1 .0 in
     (Cached (a .limits) (now (a .book)) tables (c .cache-table .last .1 .1 .1 .1 .0) (c .cache-table .result))
-    × (Stands (a .limits) (now (a .book)) tables (found .find-table .last .1 .1 .1 .1 .1 .0) (found .find-table .result))
+    × (Stands (a .limits) (now (a .book)) tables (found .find-table .last .1 .1 .1 .1 .1 .0)
+    (found .find-table .result))
 kept c =
     let found = c .before .before .before .before .before .before in
     let a = entry found .args in
-    c .cache-table .ensures .0 (a .limits) (now (a .book)) (entry found .pre .cached) (found .find-table .ensures .stands)
+    c .cache-table .ensures .0 (a .limits) (now (a .book)) (entry found .pre .cached)
+    (found .find-table .ensures .stands)
 
 compare-earlier-requires : tie.Need-compare-earlier-requires
 compare-earlier-requires c κs =
@@ -69,7 +72,8 @@ compare-earlier-requires c κs =
       first = found .find-table .ensures .first;
       below = omega (arith, is, pre .below);
       covers = ap (has (a .covering)) is ∙ pre .covers;
-      compared = subst (λ k. Compared (a .limits) (now (a .book)) (a .covering) k (a .progress .redundant)) (sym is) (pre .compared);
+      compared = subst (λ k. Compared (a .limits) (now (a .book)) (a .covering) k (a .progress .redundant)) (sym is)
+          (pre .compared);
       long = found .find-table .ensures .same ∙ pre .long;
     }
 
@@ -87,7 +91,8 @@ returns c =
     let a = entry found .args in
     let is = found .find-table .ensures .card-is in (
       (
-        subst (λ k. Compared (a .limits) (now (a .book)) (a .covering) (k + 1) (compared .compare-earlier .result)) is (compared .compare-earlier .ensures .0),
+        subst (λ k. Compared (a .limits) (now (a .book)) (a .covering) (k + 1) (compared .compare-earlier .result)) is
+            (compared .compare-earlier .ensures .0),
         kept stored .0,
       ),
       (stored .cache-table .ensures .1, compared .compare-earlier .ensures .1 ∙ found .find-table .ensures .same),

@@ -35,7 +35,8 @@ loop-holds c =
       (
         next .ensures .there,
         (
-          cards-left (a .limits) (now (a .book)) (a .covering) 0 (next .result) 0 (next .ensures .none) (none-compared (a .limits) (now (a .book)) (a .covering)),
+          cards-left (a .limits) (now (a .book)) (a .covering) 0 (next .result) 0 (next .ensures .none)
+              (none-compared (a .limits) (now (a .book)) (a .covering)),
           start .pre .cached,
         ),
       ),
@@ -86,7 +87,8 @@ loop-again c =
       (
         next .ensures .there,
         (
-          cards-left (a .limits) (now (a .book)) (a .covering) (head card .loop .m + 1) (next .result) (card .compare-card .result .redundant)
+          cards-left (a .limits) (now (a .book)) (a .covering) (head card .loop .m + 1) (next .result)
+              (card .compare-card .result .redundant)
               (next .ensures .none) (done .0 .0),
           done .0 .1,
         ),

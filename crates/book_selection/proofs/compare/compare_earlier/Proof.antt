@@ -20,7 +20,8 @@ use Rattle.book_selection.proofs.compare.compare_earlier.Tie as tie
 
 abbrev Inv-loop : tie.InvT-loop
 Inv-loop book limits tables spans covering own redundant work₀ m links word₀ n₀ work word n =
-    ((n < own .card → (has covering n ≡ true) × (has word n ≡ false)) × ComparedTo limits book covering (own .card) n word)
+    ((n < own .card → (has covering n ≡ true) × (has word n ≡ false))
+    × ComparedTo limits book covering (own .card) n word)
     × OwnTable limits book tables work own links
 
 abbrev μ-loop : tie.MeasureT-loop
@@ -46,7 +47,8 @@ loop-holds c =
     let start = c .before .before .before .before .before .before .before .before in
     let a = start .args in
     let pre = start .pre in (
-      earlier-next (a .limits) (now (a .book)) (a .covering) (a .own .card) (a .redundant) (c .before .without .result) 0 (c .next-card .result)
+      earlier-next (a .limits) (now (a .book)) (a .covering) (a .own .card) (a .redundant) (c .before .without .result)
+          0 (c .next-card .result)
           (c .before .without .ensures) (c .next-card .ensures) (small start) (pre .compared),
       record {
         stands = pre .stands;
@@ -84,13 +86,16 @@ mark-passed-requires c κs =
     (small (entry pair), omega (arith, less pair, small (entry pair)))
 
 -- the two that were compared, as they are marked
-marked : (c : tie.After-mark-passed Inv-loop μ-loop) → let pair = c .before .before .before in let a = entry pair .args in
-    Paired (a .limits) (now (a .book)) (a .own .card) (head pair .loop .n) (head pair .loop .word) (c .mark-passed .result)
+marked : (c : tie.After-mark-passed Inv-loop μ-loop) →
+    let pair = c .before .before .before in let a = entry pair .args in
+    Paired (a .limits) (now (a .book)) (a .own .card) (head pair .loop .n) (head pair .loop .word)
+    (c .mark-passed .result)
 marked c =
     let pair = c .before .before .before in
     let a = entry pair .args in
     let l = head pair .loop in
-    paired (a .limits) (now (a .book)) (a .own .card) (l .n) (l .word) (c .mark-passed .result) (pair .compare-pair .result) (pair .compare-pair .ensures .0)
+    paired (a .limits) (now (a .book)) (a .own .card) (l .n) (l .word) (c .mark-passed .result)
+    (pair .compare-pair .result) (pair .compare-pair .ensures .0)
     (c .mark-passed .ensures)
 
 same-length : tie.Need-same-length Inv-loop μ-loop
@@ -104,7 +109,8 @@ returns c =
     let a = start .args in
     let l = head pair .loop in
     let here = l .inv .0 .0 (less pair) in (
-      earlier-stopped (a .limits) (now (a .book)) (a .covering) (a .own .card) (l .word) (l .n) (c .before .mark-passed .result) (l .inv .0 .1) (less pair)
+      earlier-stopped (a .limits) (now (a .book)) (a .covering) (a .own .card) (l .word) (l .n)
+          (c .before .mark-passed .result) (l .inv .0 .1) (less pair)
           (start .pre .below) (start .pre .covers) (here .0) (marked (c .before))
           (cards-preorder (a .limits) (now (a .book)) (start .pre .cached .taken .readable))
           (sym (pair .compare-pair .ensures .0 .0) ∙ c .if1 .taken) (here .1),
@@ -118,7 +124,8 @@ add-next-card : tie.Need-add-next-card Inv-loop μ-loop
 add-next-card c = let pair = c .before .before .before .before .before in omega (arith, less pair, small (entry pair))
 
 next-card-requires-2 : tie.Need-next-card-requires-2 Inv-loop μ-loop
-next-card-requires-2 c κs = let pair = c .before .before .before .before .before in omega (arith, less pair, small (entry pair))
+next-card-requires-2 c κs =
+    let pair = c .before .before .before .before .before in omega (arith, less pair, small (entry pair))
 
 loop-less : tie.Need-loop-less Inv-loop μ-loop
 loop-less c = omega (arith, c .next-card2 .ensures .later, less (c .before .before .before .before .before .before))
@@ -131,23 +138,27 @@ loop-again c =
     let l = head pair .loop in
     let word = c .before .before .before .mark-passed .result in
     let here = l .inv .0 .0 (less pair) in (
-      earlier-next (a .limits) (now (a .book)) (a .covering) (a .own .card) word (c .before .without2 .result) (l .n + 1) (c .next-card2 .result)
+      earlier-next (a .limits) (now (a .book)) (a .covering) (a .own .card) word (c .before .without2 .result)
+          (l .n + 1) (c .next-card2 .result)
           (c .before .without2 .ensures) (c .next-card2 .ensures) (small start)
-          (pair-compared (a .limits) (now (a .book)) (a .covering) (a .own .card) (l .word) (l .n) word (l .inv .0 .1) (less pair) (start .pre .below)
+          (pair-compared (a .limits) (now (a .book)) (a .covering) (a .own .card) (l .word) (l .n) word (l .inv .0 .1)
+          (less pair) (start .pre .below)
           (start .pre .covers) (here .0) (marked (c .before .before .before))),
       pair .compare-pair .ensures .1,
     )
 
 same-length-2 : tie.Need-same-length-2 Inv-loop μ-loop
 same-length-2 c =
-    c .before .loop .inv .1 .long ∙ sym (c .before .before .before .before .before .before .before .before .before .before .pre .long)
+    c .before .loop .inv .1 .long ∙ sym (c .before .before .before .before .before .before .before .before .before
+    .before .pre .long)
 
 returns-2 : tie.Need-returns-2 Inv-loop μ-loop
 returns-2 c =
     let start = c .before .before .before .before .before .before .before .before .before .before in
     let a = start .args in
     let l = c .before .loop in (
-      earlier-ended (a .limits) (now (a .book)) (a .covering) (a .own .card) (l .word) (l .n) (omega (arith, c .loop-test .left)) (l .inv .0 .1),
+      earlier-ended (a .limits) (now (a .book)) (a .covering) (a .own .card) (l .word) (l .n)
+          (omega (arith, c .loop-test .left)) (l .inv .0 .1),
       l .inv .1 .long ∙ sym (start .pre .long),
     )
 

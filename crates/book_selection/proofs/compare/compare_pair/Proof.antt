@@ -27,11 +27,13 @@ abbrev entry : (c : tie.After-find-table) → tie.Start
 entry c = c .before .before .before .before .before .before
 
 kept : (c : tie.After-find-table) → let a = entry c .args in
-    OwnTable (a .limits) (now (a .book)) (now (a .tables)) (c .find-table .last .1 .1 .1 .1 .1 .0) (a .own) (now (a .links))
+    OwnTable (a .limits) (now (a .book)) (now (a .tables)) (c .find-table .last .1 .1 .1 .1 .1 .0) (a .own)
+    (now (a .links))
 kept c =
     let find = c .find-table in
     let half = c .before .before .half-size in
-    own-kept (entry c .pre .own-table) (find .last .1 .1 .1 .1 .1 .0) (half .result) (half .ensures) (find .ensures .front) (find .ensures .same)
+    own-kept (entry c .pre .own-table) (find .last .1 .1 .1 .1 .1 .0) (half .result) (half .ensures)
+    (find .ensures .front) (find .ensures .same)
 
 compare-spots-requires : tie.Need-compare-spots-requires
 compare-spots-requires c κs =
@@ -55,7 +57,8 @@ returns c =
     let is = find .ensures .card-is in
     let order = c .compare-spots in (
       subst (λ k. Ordered (a .limits) (now (a .book)) (a .own .card) k (order .result)) is
-          (spots-order (pre .cached .taken) (pre .bounded) (pre .own-below) (omega (arith, is, pre .below)) (kept found .stands) (find .ensures .stands)
+          (spots-order (pre .cached .taken) (pre .bounded) (pre .own-below) (omega (arith, is, pre .below))
+          (kept found .stands) (find .ensures .stands)
           (order .result) (order .ensures .0) (order .ensures .1)),
       kept found,
     )

@@ -10,7 +10,8 @@ use Rattle.book_selection.proofs.compare.compare_spots.Statement.{state
 use Rattle.book_selection.proofs.compare.compare_spots.Tie as tie
 
 same-search : {s t u v : List ℕ} → s ≡ t → u ≡ v → (depth : ℕ) → rowMaps s u depth 0 0 ≡ rowMaps t v depth 0 0
-same-search {s} {t} {u} {v} e f depth = ap (λ (x : List ℕ). rowMaps x u depth 0 0) e ∙ ap (λ (x : List ℕ). rowMaps t x depth 0 0) f
+same-search {s} {t} {u} {v} e f depth =
+    ap (λ (x : List ℕ). rowMaps x u depth 0 0) e ∙ ap (λ (x : List ℕ). rowMaps t x depth 0 0) f
 
 link-table-requires : tie.Need-link-table-requires
 link-table-requires c κs = (c .before .before .before .pre .other-table, blank 512 512 refl)
@@ -26,13 +27,15 @@ own-linked : (c : tie.After-spot-table2) → let a = c .before .before .before .
     LinkedTable (now (c .before .spot-table .result)) (a .own .rows) (now (a .links))
 own-linked c =
     let start = c .before .before .before .before .before .before in
-    subst (λ t. LinkedTable t (start .args .own .rows) (now (start .args .links))) (sym (c .before .spot-table .ensures)) (start .pre .linked)
+    subst (λ t. LinkedTable t (start .args .own .rows) (now (start .args .links)))
+    (sym (c .before .spot-table .ensures)) (start .pre .linked)
 
 other-linked : (c : tie.After-spot-table2) → let a = c .before .before .before .before .before .before .args in
     LinkedTable (now (c .spot-table2 .result)) (a .other .rows) (c .before .before .link-table .last .1 .1 .1 .0)
 other-linked c =
     let a = c .before .before .before .before .before .before .args in
-    subst (λ t. LinkedTable t (a .other .rows) (c .before .before .link-table .last .1 .1 .1 .0)) (sym (c .spot-table2 .ensures)) (c .before .before .link-table .ensures)
+    subst (λ t. LinkedTable t (a .other .rows) (c .before .before .link-table .last .1 .1 .1 .0))
+    (sym (c .spot-table2 .ensures)) (c .before .before .link-table .ensures)
 
 table-covers-requires : tie.Need-table-covers-requires
 table-covers-requires c κs = (other-linked (c .before), own-linked (c .before))
@@ -44,8 +47,10 @@ returns : tie.Need-returns
 returns c =
     let both = c .before .before .before .before in
     let a = both .before .before .before .before .before .before .args in
-    let own : now (both .before .spot-table .result) ≡ tableAt (now (a .tables)) (now (a .work)) (a .own) = both .before .spot-table .ensures in
-    let other : now (both .spot-table2 .result) ≡ tableAt (now (a .tables)) (now (a .work)) (a .other) = both .spot-table2 .ensures in (
+    let own : now (both .before .spot-table .result) ≡ tableAt (now (a .tables)) (now (a .work)) (a .own) = both .before
+    .spot-table .ensures in
+    let other : now (both .spot-table2 .result) ≡ tableAt (now (a .tables)) (now (a .work)) (a .other) = both
+    .spot-table2 .ensures in (
       c .before .before .table-covers .ensures ∙ same-search other own (a .depth),
       c .table-covers2 .ensures ∙ same-search own other (a .depth),
     )

@@ -12,7 +12,14 @@ store-requires : tie.Need-store-requires
 store-requires c κs =
     let pre = c .before .before .before .before .before .pre in
     let outside = c .before .before .if1 .left in
-    record { few = pre .few; whole = pre .whole outside; below = pre .below; inside = pre .inside; spanned = pre .spanned }
+    record {
+      few = pre .few;
+      whole = pre .whole outside;
+      below = pre .below;
+      inside = pre .inside;
+      spanned = pre
+          .spanned;
+    }
 
 same-length : tie.Need-same-length
 same-length c = search needs
@@ -24,7 +31,8 @@ returns-2 c =
     let outside = c .before .before .before .before .before .if1 .left in
     let store = c .before .before .store in (
       (λ limits book so stands. (
-        store .ensures .0 limits book so (stands-start limits book (now (a .work)) (a .spot) (now (a .tables)) outside (start .pre .first outside) stands),
+        store .ensures .0 limits book so (stands-start limits book (now (a .work)) (a .spot) (now (a .tables)) outside
+            (start .pre .first outside) stands),
         stands-kept limits book (now (a .work)) (a .spot) (now (a .tables)) _ outside stands,
       )),
       store .ensures .1,

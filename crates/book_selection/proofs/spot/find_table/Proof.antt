@@ -22,7 +22,12 @@ mul-rows : tie.Need-mul-rows
 mul-rows c = omega (arith, small (c .before .before .before))
 
 element-copy-out-rows : tie.Need-element-copy-out-rows
-element-copy-out-rows c = omega (arith, small (c .before .before .before), c .before .before .before .pre .cached .cache-is .spanned)
+element-copy-out-rows c = omega (
+  arith,
+  small (c .before .before .before),
+  c .before .before .before .pre .cached
+      .cache-is .spanned,
+)
 
 sub-make-table : tie.Need-sub-make-table
 sub-make-table c = search needs
@@ -71,7 +76,12 @@ mul-start : tie.Need-mul-start
 mul-start c = omega (arith, small (c .before .before .before .before .before))
 
 element-copy-out-start : tie.Need-element-copy-out-start
-element-copy-out-start c = omega (arith, small (c .before .before .before .before .before), c .before .before .before .before .before .pre .cached .cache-is .spanned)
+element-copy-out-start c = omega (
+  arith,
+  small (c .before .before .before .before .before),
+  c .before .before .before
+      .before .before .pre .cached .cache-is .spanned,
+)
 
 returns-2 : tie.Need-returns-2
 returns-2 c =

@@ -14,7 +14,15 @@ find-cards-requires c κs = search needs
 
 card-requires : tie.Need-card-requires
 card-requires c κs =
-    let placed = c .find-cards .ensures in (placed, omega (arith, placed .counted, c .before .before .before .pre .below))
+    let placed = c .find-cards .ensures in (
+      placed,
+      omega (
+        arith,
+        placed .counted,
+        c .before .before .before .pre
+            .below,
+      ),
+    )
 
 normal-table-requires : tie.Need-normal-table-requires
 normal-table-requires c κs =
@@ -23,7 +31,8 @@ normal-table-requires c κs =
     let pre = start .pre in
     record {
       bounded = pre .bounded;
-      readable = subst (λ s. Readable (a .limits) s) (sym (c .before .card .ensures)) (pre .taken .readable (a .k) (pre .below));
+      readable = subst (λ s. Readable (a .limits) s) (sym (c .before .card .ensures))
+          (pre .taken .readable (a .k) (pre .below));
       space = pre .space;
     }
 
@@ -34,7 +43,8 @@ returns : tie.Need-returns
 returns c =
     let a = c .before .before .before .before .before .before .before .before .args in
     let made = c .before .before .normal-table in
-    subst (λ s. Tabled (a .limits) s (now (a .out)) (made .result) (made .last .1 .1 .0)) (c .before .before .before .before .card .ensures) (made .ensures)
+    subst (λ s. Tabled (a .limits) s (now (a .out)) (made .result) (made .last .1 .1 .0))
+    (c .before .before .before .before .card .ensures) (made .ensures)
 
 pub make-table-spec : {M : Type 1} → statement M
 make-table-spec =

@@ -17,7 +17,13 @@ returns : tie.Need-returns
 returns c =
     let a = c .before .args in
     let none = ap (λ (b : Bool). pick b (2 ^ (a .k)) 0) (not-true (a .covers) (c .if1 .taken)) in
-    record { word-is = omega (arith, none); later = omega arith; early = c .before .pre .early; cached = λ _ _ _ _ so _. so }
+    record {
+      word-is = omega (arith, none);
+      later = omega arith;
+      early = c .before .pre .early;
+      cached = λ _ _ _ _ so _.
+          so;
+    }
 
 bit-requires : tie.Need-bit-requires
 bit-requires c κs = search needs
@@ -42,7 +48,13 @@ word-is c =
 returns-2 : tie.Need-returns-2
 returns-2 c =
     let start = c .before .before .before .before .before in
-    record { word-is = word-is (c .before .before .before); later = omega arith; early = start .pre .early; cached = λ _ _ _ _ so _. so }
+    record {
+      word-is = word-is (c .before .before .before);
+      later = omega arith;
+      early = start .pre .early;
+      cached =
+          λ _ _ _ _ so _. so;
+    }
 
 keep-span-requires : tie.Need-keep-span-requires
 keep-span-requires c κs = search needs

@@ -61,7 +61,8 @@ table-at-requires c κs =
 cut-checked : (c : tie.After-table-at) →
     Checked (now (c .table-at .result)) (c .before .before .before .before .before .normal-table .result)
 cut-checked c =
-    subst (λ t. Checked t (c .before .before .before .before .before .normal-table .result)) (sym (c .table-at .ensures))
+    subst (λ t. Checked t (c .before .before .before .before .before .normal-table .result))
+    (sym (c .table-at .ensures))
     (checked (c .before .before))
 
 fill-links-requires : tie.Need-fill-links-requires

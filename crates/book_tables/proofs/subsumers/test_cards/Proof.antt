@@ -1,4 +1,5 @@
--- At the loop's head the cards below k are tested. The table of card k is made behind those that are kept; where 14 is answered yes, the search on both tables says whether it covers the case.
+-- At the loop's head the cards below k are tested. The table of card k is made behind those that are kept; where 14 is
+-- answered yes, the search on both tables says whether it covers the case.
 use Prim.Native.Nat.{_+_, _-_}
 use native.Mathlib.Omega.{arith}
 use borrow.Author.Needs.{needs}
@@ -120,7 +121,8 @@ loop-again c =
     (c .before .before .before .before .if2 .left) (c .before .before .covers-case .ensures) (c .add-card .ensures)
 
 same-length-2 : tie.Need-same-length-2 Inv-loop μ-loop
-same-length-2 c = c .before .before .loop .inv .long ∙ sym (c .before .before .before .before .before .before .pre .long)
+same-length-2 c = c .before .before .loop .inv .long ∙ sym (c .before .before .before .before .before .before .pre
+    .long)
 
 returns-2 : tie.Need-returns-2 Inv-loop μ-loop
 returns-2 c = test-all (c .before .before .loop .inv) (c .if1 .left)

@@ -29,7 +29,14 @@ ask-book-requires c κs =
     let half-size = c .before .before .before .before .before .half-size in
     let if1 = c .before .before .before .before .if1 in
     let read = c .before .before .before .read in
-    (c .before .before .before .before .before .before .before .before .before .pre, (case-readable (args .limits) (now (args .case)) (now (args .book)) (now (args .work)) (omega (arith, half-size .ensures, if1 .left)) (read .result) (read .ensures) (c .before .enum-told .given .0 .0) (c .before .enum-told .given .1), omega (arith, half-size .ensures, if1 .left)))
+    record {
+      bounded = c .before .before .before .before .before .before .before .before .before .pre;
+      readable =
+          case-readable (args .limits) (now (args .case)) (now (args .book)) (now (args .work))
+          (omega (arith, half-size .ensures, if1 .left)) (read .result) (read .ensures)
+          (c .before .enum-told .given .0 .0) (c .before .enum-told .given .1);
+      room = omega (arith, half-size .ensures, if1 .left);
+    }
 
 enum-known-refusal : tie.Need-enum-known-refusal
 enum-known-refusal c = search needs

@@ -22,7 +22,7 @@ slice-aggregate-find-subsumers c = search needs
 find-subsumers-requires : tie.Need-find-subsumers-requires
 find-subsumers-requires c κs =
     let pre = c .before .before .before .before .before .pre in
-    record { bounded = pre .0; readable = pre .1 .0; cards-read = pre .1 .1 .0; long = refl; blank = blank 64 64 refl }
+    record { bounded = pre .bounded; readable = pre .readable; cards-read = pre .cards-read; long = refl; blank = blank 64 64 refl }
 
 enum-known-covering : tie.Need-enum-known-covering
 enum-known-covering c = search needs
@@ -42,7 +42,7 @@ slice-relend-prefix-select-cards c = search needs
 slice-aggregate-select-cards-2 : tie.Need-slice-aggregate-select-cards-2
 slice-aggregate-select-cards-2 c =
     let half-size = c .before .before .before .half-size in
-    sym (length-take-le (half-size .result + half-size .result) (now (c .before .before .before .before .before .before .before .before .before .before .before .before .before .before .args .work)) (omega (arith, half-size .ensures, c .before .before .before .before .before .before .before .before .before .before .before .before .before .before .pre .1 .1 .1)))
+    sym (length-take-le (half-size .result + half-size .result) (now (c .before .before .before .before .before .before .before .before .before .before .before .before .before .before .args .work)) (omega (arith, half-size .ensures, c .before .before .before .before .before .before .before .before .before .before .before .before .before .before .pre .room)))
 
 select-cards-requires : tie.Need-select-cards-requires
 select-cards-requires c κs =
@@ -51,18 +51,21 @@ select-cards-requires c κs =
     let find-subsumers = c .before .before .before .before .before .before .before .before .find-subsumers in
     let covering = c .before .before .before .before .before .covering in
     let half-size = c .before .before .before .half-size in
-    let lent = length-take-le (half-size .result + half-size .result) (now (args .work)) (omega (arith, half-size .ensures, pre .1 .1 .1)) in
+    let lent = length-take-le (half-size .result + half-size .result) (now (args .work)) (omega (arith, half-size .ensures, pre .room)) in
     let found = find-subsumers .result in
     let found-is-asked = find-subsumers .ensures .0 in
     record {
-      bounded = pre .0;
-      taken = found-taken (args .limits) (now (args .case)) (now (args .book)) (args .cards) (pre .1 .1 .0)
+      bounded = pre .bounded;
+      taken = found-taken (args .limits) (now (args .case)) (now (args .book)) (args .cards) (pre .cards-read)
           found found-is-asked (covering .given .0 .0) (covering .given .1);
-      cached = subst (λ r. CachedAfter r (args .limits) (now (args .book)) (find-subsumers .last .1 .1 .1 .1 .0) (find-subsumers .last .1 .1 .1 .1 .1 .0))
+      cached = subst (λ r. CachedAfter r (args .limits) (now (args .book)) (find-subsumers .last .1 .1 .1 .1 .0)
+          (find-subsumers .last .1 .1 .1 .1 .1 .0))
           (covering .given .1) (find-subsumers .ensures .1);
-      inside = covering-inside (args .limits) (now (args .case)) (now (args .book)) (args .cards .count) (covering .given .0 .0)
-          (pre .1 .1 .0 .places-are .counted)
-          (found-is (args .limits) (now (args .case)) (now (args .book)) (args .cards) (pre .1 .1 .0) found found-is-asked
+      inside = covering-inside (args .limits) (now (args .case)) (now (args .book)) (args .cards .count)
+          (covering .given .0 .0)
+          (pre .cards-read .places-are .counted)
+          (found-is (args .limits) (now (args .case)) (now (args .book)) (args .cards) (pre .cards-read) found
+          found-is-asked
           (covering .given .0 .0) (covering .given .1));
       long = lent ∙ omega (arith, half-size .ensures);
     }
@@ -75,23 +78,26 @@ same-length c = search needs
 
 returns : tie.Need-returns
 returns c =
-    let args = c .before .before .before .before .before .before .before .before .before .before .before .before .before .before .before .before .before .before .args in
-    let pre = c .before .before .before .before .before .before .before .before .before .before .before .before .before .before .before .before .before .before .pre in
-    let find-subsumers = c .before .before .before .before .before .before .before .before .before .before .before .before .find-subsumers in
+    let args = c .before .before .before .before .before .before .before .before .before .before .before .before .before
+    .before .before .before .before .before .args in
+    let pre = c .before .before .before .before .before .before .before .before .before .before .before .before .before
+    .before .before .before .before .before .pre in
+    let find-subsumers = c .before .before .before .before .before .before .before .before .before .before .before
+    .before .find-subsumers in
     let covering = c .before .before .before .before .before .before .before .before .before .covering in
     let half-size = c .before .before .before .before .before .before .before .half-size in
     let select-cards = c .before .before .before .select-cards in
-    let is = found-is (args .limits) (now (args .case)) (now (args .book)) (args .cards) (pre .1 .1 .0) (find-subsumers .result) (find-subsumers .ensures .0) (covering .given .0 .0) (covering .given .1) in
+    let is = found-is (args .limits) (now (args .case)) (now (args .book)) (args .cards) (pre .cards-read) (find-subsumers .result) (find-subsumers .ensures .0) (covering .given .0 .0) (covering .given .1) in
     done (args .limits) (mostSpecificCards (args .limits) (now (args .case)) (now (args .book))) (now (args .work)) (afterCards (args .limits) (now (args .case)) (now (args .book)))
-    (found-all (args .limits) (now (args .case)) (now (args .book)) (args .cards) (pre .1 .1 .0) (find-subsumers .result) (find-subsumers .ensures .0) (covering .given .0 .0) (covering .given .1))
-    (select-cards .result) _ (selected-word (args .limits) (now (args .case)) (now (args .book)) (args .cards .count) (covering .given .0 .0) (pre .1 .1 .0 .places-are .counted) is (select-cards .result) (select-cards .ensures .0))
+    (found-all (args .limits) (now (args .case)) (now (args .book)) (args .cards) (pre .cards-read) (find-subsumers .result) (find-subsumers .ensures .0) (covering .given .0 .0) (covering .given .1))
+    (select-cards .result) _ (selected-word (args .limits) (now (args .case)) (now (args .book)) (args .cards .count) (covering .given .0 .0) (pre .cards-read .places-are .counted) is (select-cards .result) (select-cards .ensures .0))
     (ap (λ l. l ++ drop (half-size .result + half-size .result) (now (args .work))) (select-cards .ensures .1) ∙ cleared-part (now (args .work)) (workSize (args .limits)) (half-size .result + half-size .result) (omega (arith, half-size .ensures)))
 
 returns-2 : tie.Need-returns-2
 returns-2 c =
     let args = c .before .before .before .before .before .before .before .before .before .before .args in
     let find-subsumers = c .before .before .before .before .find-subsumers in
-    let no-is = found-refused (args .limits) (now (args .case)) (now (args .book)) (args .cards) (c .before .before .before .before .before .before .before .before .before .before .pre .1 .1 .0) (find-subsumers .result) (find-subsumers .ensures .0) (c .before .refusal .given .0 .0) (c .before .refusal .given .1) in
+    let no-is = found-refused (args .limits) (now (args .case)) (now (args .book)) (args .cards) (c .before .before .before .before .before .before .before .before .before .before .pre .cards-read) (find-subsumers .result) (find-subsumers .ensures .0) (c .before .refusal .given .0 .0) (c .before .refusal .given .1) in
     stopped (args .limits) (mostSpecificCards (args .limits) (now (args .case)) (now (args .book))) (now (args .work)) (afterCards (args .limits) (now (args .case)) (now (args .book))) (c .before .refusal .given .0 .0) no-is
 
 pub select-spec : {M : Type 1} → statement M
