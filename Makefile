@@ -13,9 +13,10 @@
 # make fuzz       fuzz all calls with libFuzzer, each for a minute; or CALL=lcs SECONDS=600
 # make valgrind   run the calls, the fuzz targets and the smaller C tests under valgrind
 # make shared     link the built library as build/shared/libzuvaropy.so
-# make install    put the built library, its header and manual page and the verdict program below PREFIX
+# make install    put the built library, its headers, manual pages and examples and the verdict program below PREFIX
 # make uninstall  remove what make install put there
 # make clean      remove what the others made
+# make help       print this
 
 CC = gcc
 CFLAGS = -std=c99 -O2 -Wall -Wextra -Wpedantic -Werror
@@ -30,9 +31,11 @@ INCLUDEDIR = $(PREFIX)/include
 LIBDIR = $(PREFIX)/lib
 PKGCONFIGDIR = $(LIBDIR)/pkgconfig
 MANDIR = $(PREFIX)/share/man
+DOCDIR = $(PREFIX)/share/doc/zuvaropy
 INSTALL = install
 
-.PHONY: all library program quick test gate demo bench counts fuzz valgrind shared install uninstall clean tools
+.PHONY: all library program quick test gate demo bench counts fuzz valgrind shared install uninstall clean help \
+        tools
 
 all: library program
 
@@ -109,10 +112,10 @@ $(LIBRARY) $(PROGRAM):
 
 # The header has the version.
 version_number = $(shell sed -n 's/^.define ZUVAROPY_VERSION_$(1) *//p' include/zuvaropy.h)
-MAJOR := $(call version_number,MAJOR)
-VERSION := $(MAJOR).$(call version_number,MINOR).$(call version_number,PATCH)
+COMPATIBLE := $(call version_number,MAJOR).$(call version_number,MINOR)
+VERSION := $(COMPATIBLE).$(call version_number,PATCH)
 LINK_NAME = libzuvaropy.so
-SONAME = $(LINK_NAME).$(MAJOR)
+SONAME = $(LINK_NAME).$(COMPATIBLE)
 SHARED_NAME = $(LINK_NAME).$(VERSION)
 
 # link_shared FOLDER: the names by which programs and linkers find the shared library.
@@ -127,33 +130,62 @@ $(SHARED)/$(SHARED_NAME): $(LIBRARY) package/zuvaropy.map
 	    -Wl,-z,defs,-z,relro,-z,now -Wl,--whole-archive $(LIBRARY) -Wl,--no-whole-archive -o $@
 	@$(call link_shared,$(@D))
 
+# The date of the version is that of its entry in the changelog, so that what is installed depends on the sources alone.
+DATE := $(shell sed -n 's/^.. $(VERSION) (\(.*\))$$/\1/p' CHANGELOG.md)
+
 # below_prefix PATH: as the pkg-config file says it, so that the prefix can be changed there.
 below_prefix = $(patsubst $(PREFIX)/%,$${prefix}/%,$(1))
-CALLS = $(shell sh package/calls.sh)
+fill = sed -e 's|@PREFIX@|$(PREFIX)|' -e 's|@INCLUDEDIR@|$(call below_prefix,$(INCLUDEDIR))|' \
+    -e 's|@LIBDIR@|$(call below_prefix,$(LIBDIR))|' -e 's|@VERSION@|$(VERSION)|' -e 's|@DATE@|$(DATE)|' \
+    -e 's|@EXAMPLES@|$(EXAMPLES)|' -e 's|@EXAMPLE_PARTS@|$(notdir $(EXAMPLE_PARTS))|'
+
+HEADERS = $(notdir $(wildcard include/*.h))
+FUNCTIONS = $(shell sh package/functions.sh)
+EXAMPLE_FILES = $(wildcard examples/*.[ch])
+SAMPLE_FILES = $(wildcard samples/*)
+
+# Every file that is installed, and the folders that have no other.
+INSTALLED = $(BINDIR)/zuvaropy-verdict $(addprefix $(INCLUDEDIR)/,$(HEADERS)) \
+    $(addprefix $(LIBDIR)/,libzuvaropy.a $(LINK_NAME) $(SONAME) $(SHARED_NAME)) $(PKGCONFIGDIR)/zuvaropy.pc \
+    $(patsubst %,$(MANDIR)/man3/%.3,zuvaropy $(FUNCTIONS)) $(MANDIR)/man5/zuvaropy.5 \
+    $(MANDIR)/man1/zuvaropy-verdict.1 \
+    $(addprefix $(DOCDIR)/,README.md CHANGELOG.md $(EXAMPLE_FILES) examples/Makefile $(SAMPLE_FILES))
+OWN_FOLDERS = $(DOCDIR)/examples $(DOCDIR)/samples $(DOCDIR)
 installed = '$(DESTDIR)$(1)'
+all_installed = $(foreach path,$(1),$(call installed,$(path)))
+
+# fill_in SOURCE,PATH: the source with what stands between @ filled in.
+fill_in = $(fill) $(1) >$(call installed,$(2)) && chmod 644 $(call installed,$(2))
 
 install: $(LIBRARY) $(PROGRAM) shared
-	$(INSTALL) -d $(foreach folder,$(BINDIR) $(INCLUDEDIR) $(LIBDIR) $(PKGCONFIGDIR) $(MANDIR)/man3,\
-	    $(call installed,$(folder)))
-	$(INSTALL) -m 644 include/zuvaropy.h $(call installed,$(INCLUDEDIR)/zuvaropy.h)
+	$(INSTALL) -d $(call all_installed,$(sort $(dir $(INSTALLED))))
+	$(INSTALL) -m 644 $(addprefix include/,$(HEADERS)) $(call installed,$(INCLUDEDIR))
 	$(INSTALL) -m 644 $(LIBRARY) $(call installed,$(LIBDIR)/libzuvaropy.a)
 	$(INSTALL) -m 755 $(SHARED)/$(SHARED_NAME) $(call installed,$(LIBDIR)/$(SHARED_NAME))
 	$(call link_shared,$(DESTDIR)$(LIBDIR))
-	sed -e 's|@PREFIX@|$(PREFIX)|' -e 's|@INCLUDEDIR@|$(call below_prefix,$(INCLUDEDIR))|' \
-	    -e 's|@LIBDIR@|$(call below_prefix,$(LIBDIR))|' -e 's|@VERSION@|$(VERSION)|' package/zuvaropy.pc.in \
-	    >$(call installed,$(PKGCONFIGDIR)/zuvaropy.pc)
-	chmod 644 $(call installed,$(PKGCONFIGDIR)/zuvaropy.pc)
-	$(INSTALL) -m 644 docs/zuvaropy.3 $(call installed,$(MANDIR)/man3/zuvaropy.3)
-	for call in $(CALLS); do ln -sf zuvaropy.3 $(call installed,$(MANDIR)/man3)/$$call.3; done
-	$(INSTALL) -m 755 $(PROGRAM) $(call installed,$(BINDIR)/verdict)
+	$(call fill_in,package/zuvaropy.pc.in,$(PKGCONFIGDIR)/zuvaropy.pc)
+	$(call fill_in,docs/zuvaropy.3,$(MANDIR)/man3/zuvaropy.3)
+	for name in $(FUNCTIONS); do ln -sf zuvaropy.3 $(call installed,$(MANDIR)/man3)/$$name.3; done
+	$(call fill_in,docs/zuvaropy.5,$(MANDIR)/man5/zuvaropy.5)
+	$(call fill_in,docs/zuvaropy-verdict.1,$(MANDIR)/man1/zuvaropy-verdict.1)
+	$(INSTALL) -m 755 $(PROGRAM) $(call installed,$(BINDIR)/zuvaropy-verdict)
+	$(INSTALL) -m 644 README.md CHANGELOG.md $(call installed,$(DOCDIR))
+	$(INSTALL) -m 644 $(EXAMPLE_FILES) $(call installed,$(DOCDIR)/examples)
+	$(call fill_in,package/examples.mk.in,$(DOCDIR)/examples/Makefile)
+	$(INSTALL) -m 644 $(SAMPLE_FILES) $(call installed,$(DOCDIR)/samples)
 
+# A folder in which somebody has put files of his own stays.
 uninstall:
-	rm -f $(foreach file,$(INCLUDEDIR)/zuvaropy.h $(LIBDIR)/libzuvaropy.a \
-	    $(addprefix $(LIBDIR)/,$(LINK_NAME) $(SONAME) $(SHARED_NAME)) $(PKGCONFIGDIR)/zuvaropy.pc \
-	    $(patsubst %,$(MANDIR)/man3/%.3,zuvaropy $(CALLS)) $(BINDIR)/verdict,$(call installed,$(file)))
+	rm -f $(call all_installed,$(INSTALLED))
+	for folder in $(call all_installed,$(OWN_FOLDERS)); do \
+	    [ ! -d "$$folder" ] || rmdir --ignore-fail-on-non-empty "$$folder" || exit; \
+	done
 
 clean:
 	rm -rf build target
+
+help:
+	@sed -n '/^#/!q; s/^# //p' Makefile
 
 # A missing tool stops make with one line.
 need = $(if $(shell command -v $(1) 2>/dev/null),,$(error $(1) is not on the PATH: it is $(2)))

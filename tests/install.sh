@@ -1,5 +1,6 @@
 #!/bin/sh
-# Installs what was built into folders of its own, links an example as pkg-config says and runs it, and uninstalls.
+# Installs what was built into folders of its own, links a program as pkg-config says and runs it, builds the installed
+# examples, runs the example of the verdict program's page, and uninstalls.
 #
 #   sh tests/install.sh ARCHIVE PROGRAM SHARED
 #
@@ -21,7 +22,8 @@ room=$(mktemp -d) || exit 2
 trap 'rm -rf "$room"' EXIT
 version=$(echo ZUVAROPY_VERSION_MAJOR.ZUVAROPY_VERSION_MINOR.ZUVAROPY_VERSION_PATCH |
     $cc -E -P -include include/zuvaropy.h - | tail -n 1 | tr -d ' ')
-soname=libzuvaropy.so.${version%%.*}
+soname=libzuvaropy.so.${version%.*}
+date=$(sed -n "s/^## $version (\(.*\))$/\1/p" CHANGELOG.md)
 
 # Installing proves nothing: this is the rt that would be called.
 mkdir "$room/tools"
@@ -36,16 +38,19 @@ packaged() {
 
 pages() {
     echo zuvaropy
-    sh package/calls.sh
+    sh package/functions.sh
 }
 
-# What should be installed below $root: $bin, $include, $lib and $man are the folders.
+# What should be installed below $root: $bin, $include, $lib, $man and $doc are the folders.
 expected() {
-    echo "$bin/verdict"
-    echo "$include/zuvaropy.h"
+    echo "$bin/zuvaropy-verdict"
+    ls include | sed "s|^|$include/|"
     printf '%s\n' "$lib/libzuvaropy.a" "$lib/libzuvaropy.so" "$lib/$soname" "$lib/libzuvaropy.so.$version"
     echo "$lib/pkgconfig/zuvaropy.pc"
     pages | sed "s|.*|$man/man3/&.3|"
+    printf '%s\n' "$man/man1/zuvaropy-verdict.1" "$man/man5/zuvaropy.5"
+    ls README.md CHANGELOG.md examples/*.[ch] samples/* | sed "s|^|$doc/|"
+    echo "$doc/examples/Makefile"
 }
 
 # What is.
@@ -57,16 +62,41 @@ listed() {
     expected | sort >"$room/expected" && files | sort | diff "$room/expected" -
 }
 
+# same FOLDER FILE..: the files are there, as they are here.
+same() {
+    folder=$1
+    shift
+    for file; do
+        cmp "$file" "$root$folder/$(basename "$file")" || return
+    done
+}
+
+# filled PAGE INSTALLED: with version and date.
+filled() {
+    sed "s/@VERSION@/$version/; s/@DATE@/$date/" "docs/$1" | cmp - "$root$man/$2"
+}
+
 # They are what was built, and links lead to it.
 copied() {
-    cmp "$program" "$root$bin/verdict" && cmp include/zuvaropy.h "$root$include/zuvaropy.h" &&
-        cmp "$archive" "$root$lib/libzuvaropy.a" &&
+    cmp "$program" "$root$bin/zuvaropy-verdict" && cmp "$archive" "$root$lib/libzuvaropy.a" &&
+        same "$include" include/*.h && same "$doc" README.md CHANGELOG.md &&
+        same "$doc/examples" examples/*.[ch] && same "$doc/samples" samples/* &&
         for name in libzuvaropy.so "$soname" "libzuvaropy.so.$version"; do
             cmp "$shared/libzuvaropy.so.$version" "$root$lib/$name" || return
-        done &&
-        for page in $(pages); do
-            cmp docs/zuvaropy.3 "$root$man/man3/$page.3" || return
         done
+}
+
+# So are the pages, by every name.
+paged() {
+    [ -n "$date" ] && filled zuvaropy.5 man5/zuvaropy.5 && filled zuvaropy-verdict.1 man1/zuvaropy-verdict.1 &&
+        for page in $(pages); do
+            filled zuvaropy.3 "man3/$page.3" || return
+        done
+}
+
+# Of what was filled in nothing is left to fill in.
+whole_text() {
+    ! grep '@[A-Z_]*@' "$root$lib/pkgconfig/zuvaropy.pc" "$root$doc/examples/Makefile" "$root$man"/man*/*
 }
 
 # asked OPTION..: what pkg-config says.
@@ -102,22 +132,52 @@ linked_shared() {
     linked && mkdir -p "$room/loaded" && cp "$root$lib/$soname" "$room/loaded" && prints "$room/loaded"
 }
 
+# The examples build in an empty folder as their Makefile says, and one prints of the installed samples what it should.
+examples() {
+    rm -rf "$room/examples" && mkdir "$room/examples" &&
+        (cd "$room/examples" && PKG_CONFIG_SYSROOT_DIR=$root PKG_CONFIG_LIBDIR=$root$lib/pkgconfig MAKEFLAGS='' \
+            make -s CC="$cc" -f "$root$doc/examples/Makefile") &&
+        (cd "$root$doc" && LD_LIBRARY_PATH=$root$lib "$room/examples/validate" samples/*.pic) |
+        diff samples/validate.stdout -
+}
+
+# The example of the verdict program's page: its lines after a prompt, run on the samples, print its other lines.
+session() {
+    rm -rf "$room/session" && cp -R "$root$doc/samples" "$room/session" &&
+        sed -n '/^\.EX$/,/^\.EE$/p' "$root$man/man1/zuvaropy-verdict.1" | sed '1d; $d; s/\\-/-/g' >"$room/shown" &&
+        sed -n 's/^\$ //p' "$room/shown" >"$room/typed" && [ -s "$room/typed" ] &&
+        (cd "$room/session" && PATH=$root$bin:$PATH sh "$room/typed") >"$room/printed" &&
+        grep -v '^\$ ' "$room/shown" | diff - "$room/printed"
+}
+
+# After it: the program ends by 0 also with an argument, which is ignored, and where nothing can be written.
+ends_well() {
+    (cd "$room/session" && "$root$bin/zuvaropy-verdict" >/dev/full && "$root$bin/zuvaropy-verdict" --help) \
+        >"$room/printed" && tail -n 1 "$room/shown" | diff - "$room/printed"
+}
+
 # whole VARIABLE..: an installation with these variables, from beginning to end.
 whole() {
     check "install $*" packaged install "$@"
     check "install $*: files" listed
     check "install $*: contents" copied
+    check "install $*: pages" paged
+    check "install $*: filled in" whole_text
+    check "install $*: verdict" session
+    check "install $*: verdict ends" ends_well
     if command -v pkg-config >/dev/null; then
         check "install $*: version" says "$version" --modversion
         check "install $*: cflags" says "-I$root$include" --cflags
         check "install $*: libs" says "-L$root$lib -lzuvaropy" --libs
         check "install $*: static" linked_static
         check "install $*: shared" linked_shared
+        check "install $*: examples" examples
     else
         echo "install $*: not linked, no pkg-config"
     fi
     check "uninstall $*" packaged uninstall "$@"
     check "uninstall $*: files" [ -z "$(files)" ]
+    check "uninstall $*: folder" [ ! -e "$root$doc" ]
 }
 
 # What is not built is not installed.
@@ -126,16 +186,31 @@ unbuilt() {
         grep -qx "$room/none is not there: run make first" "$room/said" && [ ! -e "$room/unbuilt" ]
 }
 
+# A file that somebody else put beside the examples stays, with its folder.
+stranger() {
+    folder=$room/stranger/usr/local/share/doc/zuvaropy/examples
+    packaged install DESTDIR="$room/stranger" && echo mine >"$folder/mine" &&
+        packaged uninstall DESTDIR="$room/stranger" && [ "$(ls "$folder")" = mine ]
+}
+
+# The README's program in another language loads the shared library by its soname.
+readme_soname() {
+    [ "$(sed -n 's/.*CDLL("\([^"]*\)").*/\1/p' README.md)" = "$soname" ]
+}
+
 root=$room/root bin=/usr/local/bin include=/usr/local/include lib=/usr/local/lib man=/usr/local/share/man
+doc=/usr/local/share/doc/zuvaropy
 whole DESTDIR="$root"
-bin=/opt/tools include=/opt/headers lib=/opt/z/lib64 man=/opt/manual
-whole DESTDIR="$root" PREFIX=/opt/z BINDIR="$bin" INCLUDEDIR="$include" LIBDIR="$lib" MANDIR="$man"
+bin=/opt/tools include=/opt/headers lib=/opt/z/lib64 man=/opt/manual doc=/opt/papers
+whole DESTDIR="$root" PREFIX=/opt/z BINDIR="$bin" INCLUDEDIR="$include" LIBDIR="$lib" MANDIR="$man" DOCDIR="$doc"
 root='' prefix=$room/prefix
-bin=$prefix/bin include=$prefix/include lib=$prefix/lib man=$prefix/share/man
+bin=$prefix/bin include=$prefix/include lib=$prefix/lib man=$prefix/share/man doc=$prefix/share/doc/zuvaropy
 whole PREFIX="$prefix"
 
 check 'install without the library' unbuilt LIBRARY
 check 'install without the program' unbuilt PROGRAM
+check 'uninstall beside others' stranger
 check 'install proves nothing' [ ! -e "$room/proved" ]
+check 'soname in the README' readme_soname
 
 summary install
