@@ -14,7 +14,14 @@
  * length says. The pointer may be NULL where the length is 0. A buffer lent for
  * writing overlaps no other buffer of its call.
  *
- * Contents: version, sizes, codes, the answer word, calls.
+ * Every call's word and every byte that it writes are proved, for every input.
+ * What this header does by itself, its inline functions and its sizes of stack,
+ * is tested.
+ *
+ * zuvaropy_parts.h, beside this header, builds pictures and books and reads tables
+ * and evidence.
+ *
+ * Contents: version, pictures and sizes, codes, the answer word, calls.
  */
 
 #ifndef ZUVAROPY_H
@@ -30,28 +37,18 @@ extern "C" {
 /*
  * Version
  *
- * The major number changes whenever a program that was compiled with an earlier
- * header has to be compiled again or changed, the minor one when something is
- * added.
- *
- * 3.0: of cards that have the same instances zuvaropy_most_specific finds all or
- * none. Before, they hid each other: none of them was found, and the value could
- * be 0 although cards subsumed the case. A program that takes any two cards that
- * are found to differ in their instances has to be changed; any other has only to
- * be linked again.
- *
- * 2.0: bits 31..0 of a refusal by question 2 to 13, which were 0, hold a row and a
- * byte. Programs have to be compiled again; one that compares whole words of
- * refusals has to compare their parts. New: zuvaropy_has_place, zuvaropy_row,
- * zuvaropy_byte, zuvaropy_question_text, zuvaropy_input_text.
+ * Until the first release the major number stays 3, and the minor one rises with
+ * each version, any of which may ask for programs to be compiled again or changed:
+ * CHANGELOG.md says which. So the soname of the shared library has both numbers.
  */
 
 #define ZUVAROPY_VERSION_MAJOR  3
-#define ZUVAROPY_VERSION_MINOR  0
+#define ZUVAROPY_VERSION_MINOR  1
 #define ZUVAROPY_VERSION_PATCH  0
+#define ZUVAROPY_VERSION_STRING "3.1.0"
 
 /*
- * Sizes
+ * Pictures and sizes
  *
  * A picture is a sequence of fields: tag, length of the value, value. Numbers
  * have the high byte first. There is a field for each row, the root first, and
@@ -69,6 +66,24 @@ extern "C" {
  *
  * Names and roles are numbered from 0. In a set, name n is the bit of weight
  * 2^n of the one number that its bytes are.
+ *
+ * What a picture means: an interpretation is a finite set of individuals, each of
+ * which has some of the names and reaches some individuals, perhaps itself, by
+ * roles. A row's successors are the rows whose parent it is. An individual is an
+ * instance of a row if
+ *
+ *   - the row is not marked impossible,
+ *   - the individual has all wanted names and no excluded one,
+ *   - for each successor of kind some, it reaches an instance of the successor by
+ *     the successor's role, and
+ *   - for each successor of kind all, every individual that it reaches by the
+ *     successor's role is an instance of the successor.
+ *
+ * An instance of a picture is one of its row 0.
+ *
+ * One picture subsumes another if in every interpretation every instance of the
+ * other is an instance of it. Two have the same instances if each subsumes the
+ * other.
  */
 
 #define ZUVAROPY_NAMES      64  /* concept names */
@@ -109,6 +124,8 @@ extern "C" {
  * The work space of a call on two pictures or on a book, in bytes. A call on two
  * that gets as far as their normal tables leaves the first from byte 0 and the
  * second from byte ZUVAROPY_SECOND_TABLE_AT, and zeros in the rest of each half.
+ * How many rows a table there has is told by zuvaropy_table_rows of
+ * zuvaropy_parts.h.
  */
 #define ZUVAROPY_WORK_BYTES       (2 * ZUVAROPY_MAX_PICTURE_BYTES)
 #define ZUVAROPY_SECOND_TABLE_AT  ZUVAROPY_MAX_PICTURE_BYTES
@@ -169,7 +186,10 @@ extern "C" {
 
 /*
  * The stack that each call takes at most, in bytes: measured on pictures as deep
- * as allowed, and rounded up. This is tested and not proved.
+ * as allowed, with the static library or with a shared one that is bound, and
+ * rounded up. This is tested and not proved. The first call through a shared
+ * library that is bound lazily takes some 3 KB more, which are the dynamic
+ * linker's.
  */
 #define ZUVAROPY_VALIDATE_STACK_BYTES       512
 #define ZUVAROPY_NORMALIZE_STACK_BYTES      (17 * 1024)
@@ -289,34 +309,40 @@ extern "C" {
 #define ZUVAROPY_ROW_SHIFT       16
 #define ZUVAROPY_BYTE_SHIFT       0
 
+/* Eight bits of a word, from this one on. */
+static inline unsigned int zuvaropy_word_part(uint64_t word, unsigned int shift)
+{
+    return word >> shift & 0xFFu;
+}
+
 /* The outcome: one of ZUVAROPY_OUTCOME_.... */
 static inline unsigned int zuvaropy_outcome(uint64_t word)
 {
-    return (unsigned int)(word >> ZUVAROPY_OUTCOME_SHIFT);
+    return zuvaropy_word_part(word, ZUVAROPY_OUTCOME_SHIFT);
 }
 
 /* Of an answer: the value, whose meaning each call gives. Of a refusal 0. */
 static inline uint32_t zuvaropy_value(uint64_t word)
 {
-    return zuvaropy_outcome(word) == ZUVAROPY_OUTCOME_REFUSAL ? 0 : (uint32_t)(word & 0xFFFFFFFFu);
+    return zuvaropy_outcome(word) == ZUVAROPY_OUTCOME_REFUSAL ? 0 : word & 0xFFFFFFFFu;
 }
 
 /* Of a refusal: the question whose answer was no, one of ZUVAROPY_QUESTION_.... */
 static inline unsigned int zuvaropy_question(uint64_t word)
 {
-    return (unsigned int)(word >> ZUVAROPY_QUESTION_SHIFT & 0xFFu);
+    return zuvaropy_word_part(word, ZUVAROPY_QUESTION_SHIFT);
 }
 
 /* Of a refusal: the input it concerns, one of ZUVAROPY_INPUT_.... */
 static inline unsigned int zuvaropy_input(uint64_t word)
 {
-    return (unsigned int)(word >> ZUVAROPY_INPUT_SHIFT & 0xFFu);
+    return zuvaropy_word_part(word, ZUVAROPY_INPUT_SHIFT);
 }
 
 /* Of a refusal that concerns a card: the card's number, from 0; else 0. */
 static inline unsigned int zuvaropy_card(uint64_t word)
 {
-    return (unsigned int)(word >> ZUVAROPY_CARD_SHIFT & 0xFFu);
+    return zuvaropy_word_part(word, ZUVAROPY_CARD_SHIFT);
 }
 
 /* Does the word say at which row and byte? Nonzero for a refusal by question 2 to 13, else 0. */
@@ -329,13 +355,13 @@ static inline int zuvaropy_has_place(uint64_t word)
 /* Of a refusal that has a place: the row being read, that is, how many were completed; else 0. */
 static inline unsigned int zuvaropy_row(uint64_t word)
 {
-    return zuvaropy_has_place(word) ? (unsigned int)(word >> ZUVAROPY_ROW_SHIFT & 0xFFFFu) : 0;
+    return zuvaropy_has_place(word) ? word >> ZUVAROPY_ROW_SHIFT & 0xFFFFu : 0;
 }
 
 /* Of a refusal that has a place: where the refused field begins, from the picture's first byte; else 0. */
 static inline unsigned int zuvaropy_byte(uint64_t word)
 {
-    return zuvaropy_has_place(word) ? (unsigned int)(word >> ZUVAROPY_BYTE_SHIFT & 0xFFFFu) : 0;
+    return zuvaropy_has_place(word) ? word >> ZUVAROPY_BYTE_SHIFT & 0xFFFFu : 0;
 }
 
 /*
@@ -427,26 +453,16 @@ static inline const char *zuvaropy_input_text(unsigned int input)
 /*
  * Calls
  *
- * The library's functions want a pointer that is not NULL even where the
- * length is 0. Each call is therefore also a macro of the same name that puts
- * zuvaropy_lent or zuvaropy_lent_writable around its pointers; every argument
- * is evaluated once. The function itself is reached by its address or as
- * (zuvaropy_validate)(..).
+ * Each word says whether there is a result at all: a call whose word is dropped
+ * is warned about, by compilers that can. NULL is taken where the length is 0: see
+ * the end of this header.
  */
 
-/* The pointer itself, or one to a byte that is never read where it is NULL. */
-static inline const uint8_t *zuvaropy_lent(const uint8_t *buffer)
-{
-    static const uint8_t unread = 0;
-    return buffer != NULL ? buffer : &unread;
-}
-
-/* The same for a buffer lent for writing: the byte is not written either. */
-static inline uint8_t *zuvaropy_lent_writable(uint8_t *buffer)
-{
-    static uint8_t unwritten = 0;
-    return buffer != NULL ? buffer : &unwritten;
-}
+#ifdef __GNUC__
+#define ZUVAROPY_MUST_USE __attribute__((warn_unused_result))
+#else
+#define ZUVAROPY_MUST_USE
+#endif
 
 /*
  * Test whether a buffer holds one whole picture.
@@ -461,9 +477,8 @@ static inline uint8_t *zuvaropy_lent_writable(uint8_t *buffer)
  * ZUVAROPY_QUESTION_HEAD, row 0, byte 0. The call takes at most
  * ZUVAROPY_VALIDATE_STACK_BYTES of stack.
  */
+ZUVAROPY_MUST_USE
 uint64_t zuvaropy_validate(const uint8_t *picture, size_t picture_len);
-#define zuvaropy_validate(picture, picture_len) \
-    zuvaropy_validate(zuvaropy_lent(picture), (picture_len))
 
 /*
  * Write the normal table of a picture: a picture with the same instances, in
@@ -502,9 +517,8 @@ uint64_t zuvaropy_validate(const uint8_t *picture, size_t picture_len);
  * table has the same instances, but need not be the same bytes, and its merged
  * table may be too large.
  */
+ZUVAROPY_MUST_USE
 uint64_t zuvaropy_normalize(const uint8_t *picture, size_t picture_len, uint8_t *result, size_t result_len);
-#define zuvaropy_normalize(picture, picture_len, result, result_len) \
-    zuvaropy_normalize(zuvaropy_lent(picture), (picture_len), zuvaropy_lent_writable(result), (result_len))
 
 /*
  * Say whether the second picture subsumes the first, that is, whether every
@@ -548,11 +562,10 @@ uint64_t zuvaropy_normalize(const uint8_t *picture, size_t picture_len, uint8_t 
  * is written without another search. A refutation has at most
  * ZUVAROPY_MAX_INDIVIDUALS individuals.
  */
+/* YES MEANS: every instance of the FIRST is one of the SECOND. It asks whether the second subsumes the first. */
+ZUVAROPY_MUST_USE
 uint64_t zuvaropy_subsumes(const uint8_t *first, size_t first_len, const uint8_t *second, size_t second_len,
                            uint8_t *work, size_t work_len, uint8_t *result, size_t result_len);
-#define zuvaropy_subsumes(first, first_len, second, second_len, work, work_len, result, result_len) \
-    zuvaropy_subsumes(zuvaropy_lent(first), (first_len), zuvaropy_lent(second), (second_len), \
-                      zuvaropy_lent_writable(work), (work_len), zuvaropy_lent_writable(result), (result_len))
 
 /*
  * Write the common picture of two pictures, their least common subsumer: it
@@ -603,11 +616,9 @@ uint64_t zuvaropy_subsumes(const uint8_t *first, size_t first_len, const uint8_t
  * has the picture's instances, but may have more rows, so that question 15 may
  * refuse it.
  */
+ZUVAROPY_MUST_USE
 uint64_t zuvaropy_lcs(const uint8_t *first, size_t first_len, const uint8_t *second, size_t second_len, uint8_t *work,
                       size_t work_len, uint8_t *result, size_t result_len);
-#define zuvaropy_lcs(first, first_len, second, second_len, work, work_len, result, result_len) \
-    zuvaropy_lcs(zuvaropy_lent(first), (first_len), zuvaropy_lent(second), (second_len), \
-                 zuvaropy_lent_writable(work), (work_len), zuvaropy_lent_writable(result), (result_len))
 
 /*
  * Check evidence that the second picture subsumes the first, or that it does
@@ -647,10 +658,8 @@ uint64_t zuvaropy_lcs(const uint8_t *first, size_t first_len, const uint8_t *sec
  * the row's, or if the parent's image is impossible and is the row's image too.
  * Several rows may have one image.
  *
- * In a refutation, an individual is an instance of a row that is not impossible
- * if it has all wanted names and no excluded one, if for each existential
- * restriction it reaches an instance of it by its role, and if for each value
- * restriction all that it reaches by its role are instances of it.
+ * A refutation is an interpretation: what its individuals have and reach is what it
+ * says, and no more.
  *
  * Any bytes of any length may be given as the pictures and as the evidence; the
  * work space may hold anything beforehand. It must not overlap any other
@@ -661,11 +670,10 @@ uint64_t zuvaropy_lcs(const uint8_t *first, size_t first_len, const uint8_t *sec
  * map, and as the individuals times the rows of both, for a refutation: an
  * individual meets a row at most once.
  */
+/* YES MEANS: every instance of the FIRST is one of the SECOND, as for zuvaropy_subsumes. */
+ZUVAROPY_MUST_USE
 uint64_t zuvaropy_verify(const uint8_t *first, size_t first_len, const uint8_t *second, size_t second_len,
                          const uint8_t *evidence, size_t evidence_len, uint8_t *work, size_t work_len);
-#define zuvaropy_verify(first, first_len, second, second_len, evidence, evidence_len, work, work_len) \
-    zuvaropy_verify(zuvaropy_lent(first), (first_len), zuvaropy_lent(second), (second_len), zuvaropy_lent(evidence), \
-                    (evidence_len), zuvaropy_lent_writable(work), (work_len))
 
 /*
  * Find the most specific cards of a book that subsume a picture, the case.
@@ -719,11 +727,88 @@ uint64_t zuvaropy_verify(const uint8_t *first, size_t first_len, const uint8_t *
  * where one is passed over already. Tables are kept as long as they fit into that
  * stack, those of 32 cards of 23 rows and of a case of 23; others are made again.
  */
+ZUVAROPY_MUST_USE
 uint64_t zuvaropy_most_specific(const uint8_t *case_picture, size_t case_picture_len, const uint8_t *book,
                                 size_t book_len, uint8_t *work, size_t work_len);
-#define zuvaropy_most_specific(case_picture, case_picture_len, book, book_len, work, work_len) \
-    zuvaropy_most_specific(zuvaropy_lent(case_picture), (case_picture_len), zuvaropy_lent(book), (book_len), \
-                           zuvaropy_lent_writable(work), (work_len))
+
+/*
+ * NULL where the length is 0
+ *
+ * The library's functions want a pointer that is not NULL even where the length is
+ * 0. So each call is also a macro of the same name for an inline function that
+ * puts another pointer in the place of NULL, and hands on any other. The library's
+ * function itself is reached by its address or as (zuvaropy_validate)(..).
+ */
+
+/* The pointer itself, or one to a byte that is never read where it is NULL. */
+static inline const uint8_t *zuvaropy_lent(const uint8_t *buffer)
+{
+    static const uint8_t unread = 0;
+    return buffer ? buffer : &unread;
+}
+
+/* The same for a buffer lent for writing: the byte is not written either. */
+static inline uint8_t *zuvaropy_lent_writable(uint8_t *buffer)
+{
+    static uint8_t unwritten = 0;
+    return buffer ? buffer : &unwritten;
+}
+
+ZUVAROPY_MUST_USE
+static inline uint64_t zuvaropy_validate_lent(const uint8_t *picture, size_t picture_len)
+{
+    return zuvaropy_validate(zuvaropy_lent(picture), picture_len);
+}
+#define zuvaropy_validate(...) zuvaropy_validate_lent(__VA_ARGS__)
+
+ZUVAROPY_MUST_USE
+static inline uint64_t zuvaropy_normalize_lent(const uint8_t *picture, size_t picture_len, uint8_t *result,
+                                               size_t result_len)
+{
+    return zuvaropy_normalize(zuvaropy_lent(picture), picture_len, zuvaropy_lent_writable(result), result_len);
+}
+#define zuvaropy_normalize(...) zuvaropy_normalize_lent(__VA_ARGS__)
+
+ZUVAROPY_MUST_USE
+static inline uint64_t zuvaropy_subsumes_lent(const uint8_t *first, size_t first_len, const uint8_t *second,
+                                              size_t second_len, uint8_t *work, size_t work_len, uint8_t *result,
+                                              size_t result_len)
+{
+    return zuvaropy_subsumes(zuvaropy_lent(first), first_len, zuvaropy_lent(second), second_len,
+                             zuvaropy_lent_writable(work), work_len, zuvaropy_lent_writable(result), result_len);
+}
+#define zuvaropy_subsumes(...) zuvaropy_subsumes_lent(__VA_ARGS__)
+
+ZUVAROPY_MUST_USE
+static inline uint64_t zuvaropy_lcs_lent(const uint8_t *first, size_t first_len, const uint8_t *second,
+                                         size_t second_len, uint8_t *work, size_t work_len, uint8_t *result,
+                                         size_t result_len)
+{
+    return zuvaropy_lcs(zuvaropy_lent(first), first_len, zuvaropy_lent(second), second_len,
+                        zuvaropy_lent_writable(work), work_len, zuvaropy_lent_writable(result), result_len);
+}
+#define zuvaropy_lcs(...) zuvaropy_lcs_lent(__VA_ARGS__)
+
+ZUVAROPY_MUST_USE
+static inline uint64_t zuvaropy_verify_lent(const uint8_t *first, size_t first_len, const uint8_t *second,
+                                            size_t second_len, const uint8_t *evidence, size_t evidence_len,
+                                            uint8_t *work, size_t work_len)
+{
+    return zuvaropy_verify(zuvaropy_lent(first), first_len, zuvaropy_lent(second), second_len, zuvaropy_lent(evidence),
+                           evidence_len, zuvaropy_lent_writable(work), work_len);
+}
+#define zuvaropy_verify(...) zuvaropy_verify_lent(__VA_ARGS__)
+
+ZUVAROPY_MUST_USE
+static inline uint64_t zuvaropy_most_specific_lent(const uint8_t *case_picture, size_t case_picture_len,
+                                                   const uint8_t *book, size_t book_len, uint8_t *work, size_t work_len)
+{
+    return zuvaropy_most_specific(zuvaropy_lent(case_picture), case_picture_len, zuvaropy_lent(book), book_len,
+                                  zuvaropy_lent_writable(work), work_len);
+}
+#define zuvaropy_most_specific(...) zuvaropy_most_specific_lent(__VA_ARGS__)
+
+#undef ZUVAROPY_MUST_USE
 
 #ifdef __cplusplus
 }

@@ -50,22 +50,49 @@ else
     left_out "random pairs against the Rust implementation" "no rustc"
 fi
 
-# alone COMPILER..: a unit of the header alone, and one that makes every call.
+# alone COMPILER..: no warning in a unit of each header alone, and in one that makes every call.
+strict="$warnings -Wconversion -Wsign-conversion -Wshadow -Wcast-qual"
 alone() {
-    echo '#include "zuvaropy.h"' | "$@" $warnings -Wconversion -Wshadow -Iinclude -c - -o "$out/alone" &&
-        "$@" $warnings -Wconversion -Wshadow -Iinclude -c tests/second_unit.c -o "$out/alone"
-}
-for standard in c99 c11 c17; do
-    one "header alone, $standard" alone ${CC:-gcc} -x c -std=$standard
-done
-if command -v "$cxx" >/dev/null; then
-    for standard in c++11 c++17 c++20; do
-        one "header alone, $standard" alone "$cxx" -x c++ -std=$standard
+    for header in zuvaropy.h zuvaropy_parts.h; do
+        echo "#include \"$header\"" | "$@" $strict -Iinclude -c - -o "$out/alone" || return
     done
+    "$@" $strict -Iinclude -c tests/second_unit.c -o "$out/alone"
+}
+# dropped COMPILER..: of each word that is dropped there is a warning, which can be an error.
+dropped() {
+    "$@" -Iinclude -c tests/dropped_words.c -o "$out/alone" 2>"$out/dropped.log" &&
+        [ "$(grep -c 'Wunused-result' "$out/dropped.log")" -eq 12 ] &&
+        ! "$@" -Werror -Iinclude -c tests/dropped_words.c -o "$out/alone" 2>"$out/dropped.log"
+}
+# headers COMPILER LANGUAGE STANDARD..
+headers() {
+    compiler=$1
+    language=$2
+    shift 2
+    for standard; do
+        one "headers alone, ${compiler%% *}, $standard" alone $compiler -x "$language" "-std=$standard"
+    done
+    one "dropped words, ${compiler%% *}, $1" dropped $compiler -x "$language" "-std=$1"
+}
+# cxx_headers COMPILER: C++ has more to warn about, and one of these warnings not every compiler has.
+cxx_headers() {
+    cast=-Wuseless-cast
+    $1 -Werror $cast -x c++ -fsyntax-only /dev/null 2>"$out/alone.log" || cast=
+    headers "$1 -Wold-style-cast -Wzero-as-null-pointer-constant $cast" c++ c++11 c++14 c++17 c++20
+}
+headers "${CC:-gcc}" c c99 c11 c17
+if command -v "$cxx" >/dev/null; then
+    cxx_headers "$cxx"
     program test_header_cxx "$cxx" -x c++ -std=c++11 $warnings -Iinclude tests/test_header.c tests/check.c \
         tests/second_unit.c -x none
 else
-    left_out "header as C++" "no $cxx"
+    left_out "headers as C++" "no $cxx"
+fi
+if command -v clang >/dev/null && command -v clang++ >/dev/null; then
+    headers clang c c99 c11 c17
+    cxx_headers clang++
+else
+    left_out "headers with clang" "not there"
 fi
 
 # Each fuzz target with its seeds, and so many inputs made from them.

@@ -9,6 +9,10 @@
 #include "check.h"
 #include "second_unit.h"
 
+#ifdef __cplusplus
+#include <array>
+#endif
+#include <stdio.h>
 #include <string.h>
 
 /* Sizes and codes are for the preprocessor too. */
@@ -21,6 +25,15 @@
 #if ZUVAROPY_MAX_CARDS != 32 || ZUVAROPY_MAX_BOOK_BYTES != 196803 || ZUVAROPY_TAG_CARD != 0x51
 #error "a size or a tag is not that of a book"
 #endif
+
+static void test_version(void)
+{
+    char version[32];
+
+    snprintf(version, sizeof version, "%d.%d.%d", ZUVAROPY_VERSION_MAJOR, ZUVAROPY_VERSION_MINOR,
+             ZUVAROPY_VERSION_PATCH);
+    CHECK(strcmp(ZUVAROPY_VERSION_STRING, version) == 0);
+}
 
 static void test_sizes(void)
 {
@@ -259,6 +272,7 @@ static void test_validate(void)
 {
     uint64_t (*function)(const uint8_t *, size_t) = zuvaropy_validate;
     const uint64_t one_row = (uint64_t)1 << 56 | 1;
+    const uint64_t no_head = (uint64_t)2 << 48 | (uint64_t)1 << 40;
     const uint8_t *next = bytes;
 
     make_picture();
@@ -267,8 +281,10 @@ static void test_validate(void)
     CHECK_WORD(function(bytes, sizeof bytes), one_row, 0);
     CHECK_WORD(second_unit_validate(bytes, sizeof bytes), one_row, 0);
 
-    /* The macro evaluates its argument once. */
-    zuvaropy_validate(next++, 0);
+    CHECK_WORD(zuvaropy_validate(NULL, 0), no_head, 0);
+
+    /* The macro evaluates its arguments once. */
+    CHECK_WORD(zuvaropy_validate(next++, 0), no_head, 0);
     CHECK(next == bytes + 1);
 }
 
@@ -292,7 +308,7 @@ static void test_normalize(void)
     CHECK_WORD(zuvaropy_normalize(NULL, 0, NULL, 0), no_buffer, 0);
 
     /* The macro evaluates its arguments once. */
-    zuvaropy_normalize(next++, 0, next_result++, 0);
+    CHECK_WORD(zuvaropy_normalize(next++, 0, next_result++, 0), no_buffer, 0);
     CHECK(next == bytes + 1);
     CHECK(next_result == result + 1);
 }
@@ -328,7 +344,7 @@ static void test_subsumes(void)
     CHECK_WORD(zuvaropy_subsumes(NULL, 0, NULL, 0, NULL, 0, NULL, 0), no_buffer, 0);
 
     /* The macro evaluates its arguments once. */
-    zuvaropy_subsumes(next++, 0, next_second++, 0, next_work++, 0, next_result++, 0);
+    CHECK_WORD(zuvaropy_subsumes(next++, 0, next_second++, 0, next_work++, 0, next_result++, 0), no_buffer, 0);
     CHECK(next == bytes + 1);
     CHECK(next_second == bytes + 1);
     CHECK(next_work == work + 1);
@@ -361,7 +377,7 @@ static void test_verify(void)
     CHECK_WORD(zuvaropy_verify(NULL, 0, NULL, 0, NULL, 0, NULL, 0), no_buffer, 0);
 
     /* The macro evaluates its arguments once. */
-    zuvaropy_verify(next++, 0, next_second++, 0, next_map++, 0, next_work++, 0);
+    CHECK_WORD(zuvaropy_verify(next++, 0, next_second++, 0, next_map++, 0, next_work++, 0), no_buffer, 0);
     CHECK(next == bytes + 1);
     CHECK(next_second == bytes + 1);
     CHECK(next_map == map + 1);
@@ -395,7 +411,7 @@ static void test_lcs(void)
     CHECK_WORD(zuvaropy_lcs(NULL, 0, NULL, 0, NULL, 0, NULL, 0), no_buffer, 0);
 
     /* The macro evaluates its arguments once. */
-    zuvaropy_lcs(next++, 0, next_second++, 0, next_work++, 0, next_result++, 0);
+    CHECK_WORD(zuvaropy_lcs(next++, 0, next_second++, 0, next_work++, 0, next_result++, 0), no_buffer, 0);
     CHECK(next == bytes + 1);
     CHECK(next_second == bytes + 1);
     CHECK(next_work == work + 1);
@@ -440,14 +456,53 @@ static void test_most_specific(void)
     CHECK_WORD(zuvaropy_most_specific(NULL, 0, NULL, 0, NULL, 0), no_buffer, 0);
 
     /* The macro evaluates its arguments once. */
-    zuvaropy_most_specific(next++, 0, next_book++, 0, next_work++, 0);
+    CHECK_WORD(zuvaropy_most_specific(next++, 0, next_book++, 0, next_work++, 0), no_buffer, 0);
     CHECK(next == bytes + 1);
     CHECK(next_book == book + 1);
     CHECK(next_work == work + 1);
 }
 
+/* An argument may have commas of its own: two bytes, the head of a row, cut off. They stand here in full, since a
+ * macro of the test would keep them together. */
+static void make_calls(uint64_t *words)
+{
+#ifdef __cplusplus
+    words[0] = zuvaropy_validate(std::array<uint8_t, 2>{{0x10, 0}}.data(), 2);
+    words[1] = zuvaropy_normalize(bytes, sizeof bytes, std::array<uint8_t, 2>{{0x10, 0}}.data(), 2);
+    words[2] = zuvaropy_subsumes(bytes, sizeof bytes, std::array<uint8_t, 2>{{0x10, 0}}.data(), 2, work, sizeof work,
+                                 evidence, sizeof evidence);
+    words[3] = zuvaropy_lcs(bytes, sizeof bytes, std::array<uint8_t, 2>{{0x10, 0}}.data(), 2, work, sizeof work, result,
+                            sizeof result);
+    words[4] = zuvaropy_verify(bytes, sizeof bytes, bytes, sizeof bytes, std::array<uint8_t, 2>{{0x10, 0}}.data(), 2,
+                               work, sizeof work);
+    words[5] = zuvaropy_most_specific(bytes, sizeof bytes, std::array<uint8_t, 2>{{0x10, 0}}.data(), 2, work,
+                                      sizeof work);
+#else
+    words[0] = zuvaropy_validate((uint8_t[]){0x10, 0}, 2);
+    words[1] = zuvaropy_normalize(bytes, sizeof bytes, (uint8_t[]){0x10, 0}, 2);
+    words[2] = zuvaropy_subsumes(bytes, sizeof bytes, (uint8_t[]){0x10, 0}, 2, work, sizeof work, evidence,
+                                 sizeof evidence);
+    words[3] = zuvaropy_lcs(bytes, sizeof bytes, (uint8_t[]){0x10, 0}, 2, work, sizeof work, result, sizeof result);
+    words[4] = zuvaropy_verify(bytes, sizeof bytes, bytes, sizeof bytes, (uint8_t[]){0x10, 0}, 2, work, sizeof work);
+    words[5] = zuvaropy_most_specific(bytes, sizeof bytes, (uint8_t[]){0x10, 0}, 2, work, sizeof work);
+#endif
+}
+
+static void test_commas(void)
+{
+    static const unsigned int question[] = {2, 1, 2, 2, 16, 24}, input[] = {1, 0, 2, 2, 3, 4};
+    uint64_t words[6];
+    unsigned int call;
+
+    make_picture();
+    make_calls(words);
+    for (call = 0; call < 6; call++)
+        CHECK_WORD(words[call], (uint64_t)question[call] << 48 | (uint64_t)input[call] << 40, call);
+}
+
 int main(void)
 {
+    test_version();
     test_sizes();
     test_book_sizes();
     test_codes();
@@ -464,6 +519,7 @@ int main(void)
     test_verify();
     test_lcs();
     test_most_specific();
+    test_commas();
 #ifdef __cplusplus
     return check_summary("header as C++");
 #else
