@@ -139,7 +139,7 @@ fill = sed -e 's|@PREFIX@|$(PREFIX)|' -e 's|@INCLUDEDIR@|$(call below_prefix,$(I
     -e 's|@LIBDIR@|$(call below_prefix,$(LIBDIR))|' -e 's|@VERSION@|$(VERSION)|' -e 's|@DATE@|$(DATE)|' \
     -e 's|@EXAMPLES@|$(EXAMPLES)|' -e 's|@EXAMPLE_PARTS@|$(notdir $(EXAMPLE_PARTS))|'
 
-HEADERS = $(notdir $(wildcard include/*.h))
+HEADERS = zuvaropy.h zuvaropy_parts.h
 FUNCTIONS = $(shell sh package/functions.sh)
 EXAMPLE_FILES = $(wildcard examples/*.[ch])
 SAMPLE_FILES = $(wildcard samples/*)

@@ -44,7 +44,7 @@ pages() {
 # What should be installed below $root: $bin, $include, $lib, $man and $doc are the folders.
 expected() {
     echo "$bin/zuvaropy-verdict"
-    ls include | sed "s|^|$include/|"
+    printf '%s\n' "$include/zuvaropy.h" "$include/zuvaropy_parts.h"
     printf '%s\n' "$lib/libzuvaropy.a" "$lib/libzuvaropy.so" "$lib/$soname" "$lib/libzuvaropy.so.$version"
     echo "$lib/pkgconfig/zuvaropy.pc"
     pages | sed "s|.*|$man/man3/&.3|"
