@@ -85,6 +85,7 @@ if command -v "$cxx" >/dev/null; then
     cxx_headers "$cxx"
     program test_header_cxx "$cxx" -x c++ -std=c++11 $warnings -Iinclude tests/test_header.c tests/check.c \
         tests/second_unit.c -x none
+    program test_parts_cxx "$cxx" -x c++ -std=c++11 $warnings -Iinclude tests/test_parts.c tests/check.c -x none
 else
     left_out "headers as C++" "no $cxx"
 fi
