@@ -58,8 +58,9 @@ gate: tools
 	@mkdir -p build
 	@CC='$(CC)' sh tests/gate.sh; echo $$? >build/gate.status
 
-EXAMPLES = bytes validate normalize subsumes verify lcs most_specific explain
-EXAMPLE_PARTS = examples/input.c examples/rows.c examples/evidence.c
+EXAMPLES = readout bytes validate normalize subsumes verify lcs most_specific explain
+EXAMPLE_PARTS = examples/show.c
+HEADING = printf '\n== %s\n'
 
 demo: library program
 	@mkdir -p build/examples
@@ -67,14 +68,25 @@ demo: library program
 	    $(CC) $(CFLAGS) -Iinclude examples/$$example.c $(EXAMPLE_PARTS) $(LIBRARY) -o build/examples/$$example || \
 	        exit; \
 	done
+	@$(HEADING) 'readout: a vehicle and three cards in words. Which cards subsume it, which are most specific, and why'
+	@build/examples/readout
+	@$(HEADING) 'bytes: a picture as bytes, and the same built row by row'
 	@build/examples/bytes
-	@build/examples/validate samples/*.pic
-	@build/examples/normalize samples/*.pic
+	@$(HEADING) 'validate: which files are pictures, and what is wrong with the others'
+	@sh samples/validate.sh build/examples/validate
+	@$(HEADING) 'normalize: the normal tables. Names and roles are numbers; samples/make.sh has the words'
+	@sh samples/normalize.sh build/examples/normalize
+	@$(HEADING) 'subsumes: is every instance of the first an instance of the second? With evidence, which is checked'
 	@sh samples/subsumes.sh build/examples/subsumes build/examples/verify
+	@$(HEADING) 'verify: is this evidence, which somebody else wrote, taken?'
 	@sh samples/verify.sh build/examples/verify
+	@$(HEADING) 'lcs: what two pictures have in common'
 	@sh samples/lcs.sh build/examples/lcs
+	@$(HEADING) 'most_specific: the most specific cards of a book that subsume a case'
 	@sh samples/most_specific.sh build/examples/most_specific
+	@$(HEADING) 'explain: the same with the reasons'
 	@sh samples/explain.sh build/examples/explain
+	@$(HEADING) 'verdict: a program that is proved too, on two files'
 	@sh samples/verdict.sh $(PROGRAM)
 
 # What the library is timed beside: the plain C, and the Rust of tests/rust.

@@ -9,13 +9,11 @@
  * it is most specific, and which others that are have the same instances; or else
  * for which of them it is passed over. Of those that are, also each row of the
  * card's normal table and the row of the case's that it goes to. Or "refused N,
- * ..": which question refused which input, and where. Exits 1 if a file cannot be
- * read or evidence is not taken.
+ * ..": which question refused which input, and where. Exits 1 if something is
+ * refused, evidence is not taken, or a file cannot be read.
  */
 
-#include "evidence.h"
-#include "input.h"
-#include "rows.h"
+#include "show.h"
 
 #include <stdio.h>
 
@@ -30,7 +28,7 @@ struct book {
     uint32_t most_specific; /* the set of those for the case */
 };
 
-/* Whether the second of two pictures subsumes the first. */
+/* Whether a card subsumes a case, which may be another card. */
 struct answer {
     uint64_t word;
     int taken;                         /* the evidence was */
@@ -41,13 +39,13 @@ struct answer {
 static int all_taken = 1;
 
 /* The case and the book were not refused, so neither picture is. */
-static void ask(struct answer *answer, const struct picture *first, const struct picture *second)
+static void ask(struct answer *answer, const struct picture *the_case, const struct picture *card)
 {
     uint64_t checked;
 
-    answer->word = zuvaropy_subsumes(first->bytes, first->length, second->bytes, second->length, answer->work,
+    answer->word = zuvaropy_subsumes(the_case->bytes, the_case->length, card->bytes, card->length, answer->work,
                                      sizeof answer->work, answer->evidence, sizeof answer->evidence);
-    checked = zuvaropy_verify(first->bytes, first->length, second->bytes, second->length, answer->evidence,
+    checked = zuvaropy_verify(the_case->bytes, the_case->length, card->bytes, card->length, answer->evidence,
                               zuvaropy_value(answer->word), answer->work, sizeof answer->work);
     answer->taken = zuvaropy_outcome(checked) == zuvaropy_outcome(answer->word);
     all_taken = all_taken && answer->taken;
@@ -100,23 +98,25 @@ static void print_passed_over(const struct book *book, unsigned int card)
 
 static void print_images(const struct answer *answer)
 {
+    const uint8_t *case_table = answer->work, *card_table = answer->work + ZUVAROPY_SECOND_TABLE_AT;
+    const size_t half = ZUVAROPY_MAX_PICTURE_BYTES, length = zuvaropy_value(answer->word);
     unsigned int row;
 
-    for (row = 0; row < evidence_images(answer->word); row++) {
+    for (row = 0; row < zuvaropy_map_images(answer->evidence, length); row++) {
         printf("  ");
-        rows_print_one(answer->work + ZUVAROPY_SECOND_TABLE_AT, row);
+        show_row(card_table, half, row);
         printf("    goes to ");
-        rows_print_one(answer->work, evidence_image(answer->evidence, row));
+        show_row(case_table, half, zuvaropy_map_image(answer->evidence, length, row));
     }
 }
 
-static void explain_card(const struct picture *case_picture, const struct book *book, unsigned int card)
+static void explain_card(const struct picture *the_case, const struct book *book, unsigned int card)
 {
     static struct answer answer;
 
-    ask(&answer, case_picture, &book->cards[card]);
+    ask(&answer, the_case, &book->cards[card]);
     printf("card %u: %s the case (", card, is_yes(&answer) ? "subsumes" : "does not subsume");
-    evidence_print_kind(answer.word);
+    show_evidence(answer.evidence, zuvaropy_value(answer.word));
     printf(answer.taken ? ", taken)" : ", not taken)");
     if (is_most_specific(book, card))
         print_most_specific(book, card);
@@ -127,22 +127,19 @@ static void explain_card(const struct picture *case_picture, const struct book *
         print_images(&answer);
 }
 
-/* Finds the cards of a book that was not refused; the end field is not one. */
-static void find_cards(struct book *book, const uint8_t *field)
+static void find_cards(struct book *book, const uint8_t *bytes, size_t length)
 {
-    for (book->count = 0; field[0] == ZUVAROPY_TAG_CARD; book->count++) {
-        struct picture *card = &book->cards[book->count];
+    unsigned int card;
 
-        card->bytes = field + ZUVAROPY_HEAD_BYTES;
-        card->length = input_number(field + ZUVAROPY_TAG_BYTES);
-        field += ZUVAROPY_CARD_BYTES(card->length);
-    }
+    book->count = zuvaropy_book_cards(bytes, length);
+    for (card = 0; card < book->count; card++)
+        book->cards[card].bytes = zuvaropy_book_card(bytes, length, card, &book->cards[card].length);
 }
 
 int main(int argc, char **argv)
 {
-    static uint8_t case_bytes[INPUT_PICTURE_ROOM], book_bytes[INPUT_BOOK_ROOM], work[ZUVAROPY_WORK_BYTES];
-    struct picture case_picture;
+    static uint8_t case_bytes[SHOW_PICTURE_ROOM], book_bytes[SHOW_BOOK_ROOM], work[ZUVAROPY_WORK_BYTES];
+    struct picture the_case;
     struct book book;
     size_t book_length;
     unsigned int card;
@@ -152,18 +149,16 @@ int main(int argc, char **argv)
         fprintf(stderr, "usage: %s CASE BOOK\n", argv[0]);
         return 2;
     }
-    case_picture.bytes = case_bytes;
-    if (input_read(argv[1], case_bytes, sizeof case_bytes, &case_picture.length) != 0 ||
-        input_read(argv[2], book_bytes, sizeof book_bytes, &book_length) != 0)
+    the_case.bytes = case_bytes;
+    if (show_read(argv[1], case_bytes, sizeof case_bytes, &the_case.length) != 0 ||
+        show_read(argv[2], book_bytes, sizeof book_bytes, &book_length) != 0)
         return 1;
-    word = zuvaropy_most_specific(case_bytes, case_picture.length, book_bytes, book_length, work, sizeof work);
-    if (zuvaropy_outcome(word) == ZUVAROPY_OUTCOME_REFUSAL) {
-        input_print_refusal(word);
-        return 0;
-    }
-    find_cards(&book, book_bytes);
+    word = zuvaropy_most_specific(case_bytes, the_case.length, book_bytes, book_length, work, sizeof work);
+    if (show_refused(word))
+        return 1;
+    find_cards(&book, book_bytes, book_length);
     book.most_specific = zuvaropy_value(word);
     for (card = 0; card < book.count; card++)
-        explain_card(&case_picture, &book, card);
+        explain_card(&the_case, &book, card);
     return !all_taken;
 }

@@ -4,11 +4,11 @@
  *   most_specific CASE BOOK
  *
  * Prints "no card", or "card" or "cards" and their numbers, or "refused N, ..":
- * which question refused which input, and where. Exits 1 if a file cannot be
- * read.
+ * which question refused which input, and where. Exits 1 if something is refused
+ * or a file cannot be read.
  */
 
-#include "input.h"
+#include "show.h"
 
 #include <stdio.h>
 
@@ -28,7 +28,7 @@ static void print_cards(uint32_t cards)
 
 int main(int argc, char **argv)
 {
-    static uint8_t case_picture[INPUT_PICTURE_ROOM], book[INPUT_BOOK_ROOM], work[ZUVAROPY_WORK_BYTES];
+    static uint8_t the_case[SHOW_PICTURE_ROOM], book[SHOW_BOOK_ROOM], work[ZUVAROPY_WORK_BYTES];
     size_t case_length, book_length;
     uint64_t word;
 
@@ -36,13 +36,12 @@ int main(int argc, char **argv)
         fprintf(stderr, "usage: %s CASE BOOK\n", argv[0]);
         return 2;
     }
-    if (input_read(argv[1], case_picture, sizeof case_picture, &case_length) != 0 ||
-        input_read(argv[2], book, sizeof book, &book_length) != 0)
+    if (show_read(argv[1], the_case, sizeof the_case, &case_length) != 0 ||
+        show_read(argv[2], book, sizeof book, &book_length) != 0)
         return 1;
-    word = zuvaropy_most_specific(case_picture, case_length, book, book_length, work, sizeof work);
-    if (zuvaropy_outcome(word) == ZUVAROPY_OUTCOME_REFUSAL)
-        input_print_refusal(word);
-    else
-        print_cards(zuvaropy_value(word));
+    word = zuvaropy_most_specific(the_case, case_length, book, book_length, work, sizeof work);
+    if (show_refused(word))
+        return 1;
+    print_cards(zuvaropy_value(word));
     return 0;
 }

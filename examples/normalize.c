@@ -4,37 +4,30 @@
  *
  *   normalize FILE..
  *
- * Exits 1 if a file cannot be read. A file that is refused was read.
+ * Prints "normal table of N rows" and the rows, or "refused N, ..": which question
+ * refused it, and where. Exits 1 if a file is refused or cannot be read.
  */
 
-#include "input.h"
-#include "rows.h"
+#include "show.h"
 
 #include <stdio.h>
 
-static void print_table(const uint8_t *table, size_t length)
-{
-    const unsigned int rows = (unsigned int)(length / ZUVAROPY_ROW_BYTES);
-
-    printf("normal table of %u row%s\n", rows, rows == 1 ? "" : "s");
-    rows_print(table, rows);
-}
-
-/* 0, or -1 if the file cannot be read. */
+/* Nonzero if the file is refused or cannot be read. */
 static int normalize_file(const char *name)
 {
-    uint8_t picture[INPUT_PICTURE_ROOM], table[ZUVAROPY_MAX_PICTURE_BYTES];
+    uint8_t picture[SHOW_PICTURE_ROOM], table[ZUVAROPY_MAX_PICTURE_BYTES];
     size_t length;
     uint64_t word;
 
-    if (input_read(name, picture, sizeof picture, &length) != 0)
-        return -1;
+    if (show_read(name, picture, sizeof picture, &length) != 0)
+        return 1;
     word = zuvaropy_normalize(picture, length, table, sizeof table);
     printf("%s: ", name);
-    if (zuvaropy_outcome(word) == ZUVAROPY_OUTCOME_REFUSAL)
-        input_print_refusal(word);
-    else
-        print_table(table, zuvaropy_value(word));
+    if (show_refused(word))
+        return 1;
+    show_count("normal table", zuvaropy_table_rows(table, zuvaropy_value(word)), "row");
+    printf("\n");
+    show_rows(table, zuvaropy_value(word));
     return 0;
 }
 
@@ -48,7 +41,7 @@ int main(int argc, char **argv)
         return 2;
     }
     for (i = 1; i < argc; i++)
-        if (normalize_file(argv[i]) != 0)
+        if (normalize_file(argv[i]))
             status = 1;
     return status;
 }

@@ -3,33 +3,29 @@
  *
  *   validate FILE..
  *
- * Exits 1 if a file cannot be read. A file that is refused was read.
+ * Prints "a picture of N rows" or "refused N, ..": which question refused it, and
+ * where. Exits 1 if a file is refused or cannot be read.
  */
 
-#include "input.h"
+#include "show.h"
 
 #include <stdio.h>
 
-static void print_word(uint64_t word)
-{
-    const unsigned int rows = zuvaropy_value(word);
-
-    if (zuvaropy_outcome(word) == ZUVAROPY_OUTCOME_REFUSAL)
-        input_print_refusal(word);
-    else
-        printf("a picture of %u row%s\n", rows, rows == 1 ? "" : "s");
-}
-
-/* 0, or -1 if the file cannot be read. */
+/* Nonzero if the file is refused or cannot be read. */
 static int validate_file(const char *name)
 {
-    uint8_t picture[INPUT_PICTURE_ROOM];
+    uint8_t picture[SHOW_PICTURE_ROOM];
     size_t length;
+    uint64_t word;
 
-    if (input_read(name, picture, sizeof picture, &length) != 0)
-        return -1;
+    if (show_read(name, picture, sizeof picture, &length) != 0)
+        return 1;
+    word = zuvaropy_validate(picture, length);
     printf("%s: ", name);
-    print_word(zuvaropy_validate(picture, length));
+    if (show_refused(word))
+        return 1;
+    show_count("a picture", zuvaropy_value(word), "row");
+    printf("\n");
     return 0;
 }
 
@@ -43,7 +39,7 @@ int main(int argc, char **argv)
         return 2;
     }
     for (i = 1; i < argc; i++)
-        if (validate_file(argv[i]) != 0)
+        if (validate_file(argv[i]))
             status = 1;
     return status;
 }

@@ -85,6 +85,7 @@ if command -v "$cxx" >/dev/null; then
     cxx_headers "$cxx"
     program test_header_cxx "$cxx" -x c++ -std=c++11 $warnings -Iinclude tests/test_header.c tests/check.c \
         tests/second_unit.c -x none
+    program test_parts_cxx "$cxx" -x c++ -std=c++11 $warnings -Iinclude tests/test_parts.c tests/check.c -x none
 else
     left_out "headers as C++" "no $cxx"
 fi
@@ -139,7 +140,7 @@ samples() {
 example() {
     example=$1
     shift
-    $c "examples/$example.c" examples/input.c examples/rows.c examples/evidence.c "$archive" -o "$out/$example" &&
+    $c "examples/$example.c" examples/show.c "$archive" -o "$out/$example" &&
         "$@" >"$out/$example.log" && diff "samples/$example.stdout" "$out/$example.log"
 }
 
@@ -208,8 +209,9 @@ count install sh tests/install.sh "$archive" "$verdict" "$PWD/$out/shared"
 count manual sh tests/manual.sh "$archive"
 one samples samples
 one 'example bytes' example bytes "$out/bytes"
-one 'example validate' example validate "$out/validate" samples/*.pic
-one 'example normalize' example normalize "$out/normalize" samples/*.pic
+one 'example readout' example readout "$out/readout"
+one 'example validate' example validate sh samples/validate.sh "$out/validate"
+one 'example normalize' example normalize sh samples/normalize.sh "$out/normalize"
 one 'example verify' example verify sh samples/verify.sh "$out/verify"
 one 'example subsumes' example subsumes sh samples/subsumes.sh "$out/subsumes" "$out/verify"
 one 'example lcs' example lcs sh samples/lcs.sh "$out/lcs"
