@@ -112,15 +112,16 @@ says() {
     [ "$said" = "$wanted" ] || { echo "pkg-config $*: '$said', not '$wanted'"; return 1; }
 }
 
-# linked OPTION..: an example, with options that come before the library.
+# linked OPTION..: a program of one file, alone in its folder, with options that come before the library.
 linked() {
-    $cc -std=c99 $(asked --cflags) examples/validate.c examples/input.c "$@" $(asked --libs) -Wl,-Bdynamic \
-        -o "$room/validate"
+    rm -rf "$room/alone" && mkdir "$room/alone" && cp examples/readout.c "$room/alone" &&
+        (cd "$room/alone" && $cc -std=c99 -Wall -Wextra -Wpedantic -Werror $(asked --cflags) readout.c "$@" \
+            $(asked --libs) -Wl,-Bdynamic -o readout)
 }
 
-# prints FOLDER: the example prints what it should, with the shared libraries of that folder.
+# prints FOLDER: it prints what it should, with the shared libraries of that folder.
 prints() {
-    LD_LIBRARY_PATH=$1 "$room/validate" samples/*.pic >"$room/printed" && diff samples/validate.stdout "$room/printed"
+    (cd "$room/alone" && LD_LIBRARY_PATH=$1 ./readout) >"$room/printed" && diff samples/readout.stdout "$room/printed"
 }
 
 linked_static() {
@@ -137,8 +138,8 @@ examples() {
     rm -rf "$room/examples" && mkdir "$room/examples" &&
         (cd "$room/examples" && PKG_CONFIG_SYSROOT_DIR=$root PKG_CONFIG_LIBDIR=$root$lib/pkgconfig MAKEFLAGS='' \
             make -s CC="$cc" -f "$root$doc/examples/Makefile") &&
-        (cd "$root$doc" && LD_LIBRARY_PATH=$root$lib "$room/examples/validate" samples/*.pic) |
-        diff samples/validate.stdout -
+        (cd "$root$doc" && LD_LIBRARY_PATH=$root$lib sh samples/validate.sh "$room/examples/validate") \
+            >"$room/printed" && diff samples/validate.stdout "$room/printed"
 }
 
 # The example of the verdict program's page: its lines after a prompt, run on the samples, print its other lines.
@@ -193,6 +194,11 @@ stranger() {
         packaged uninstall DESTDIR="$room/stranger" && [ "$(ls "$folder")" = mine ]
 }
 
+# A first program stays as short as one that somebody would write.
+short() {
+    [ "$(wc -l <examples/readout.c)" -le 110 ]
+}
+
 # The README's program in another language loads the shared library by its soname.
 readme_soname() {
     [ "$(sed -n 's/.*CDLL("\([^"]*\)").*/\1/p' README.md)" = "$soname" ]
@@ -212,5 +218,6 @@ check 'install without the program' unbuilt PROGRAM
 check 'uninstall beside others' stranger
 check 'install proves nothing' [ ! -e "$room/proved" ]
 check 'soname in the README' readme_soname
+check 'readout has at most 110 lines' short
 
 summary install
