@@ -122,12 +122,13 @@ valgrind: library
 $(LIBRARY) $(PROGRAM):
 	@echo '$@ is not there: run make first' >&2; false
 
-# The header has the version.
+# The header has the version. Any minor version may take other arguments than the one before, so the soname has both
+# numbers.
 version_number = $(shell sed -n 's/^.define ZUVAROPY_VERSION_$(1) *//p' include/zuvaropy.h)
-COMPATIBLE := $(call version_number,MAJOR).$(call version_number,MINOR)
-VERSION := $(COMPATIBLE).$(call version_number,PATCH)
+MINOR_VERSION := $(call version_number,MAJOR).$(call version_number,MINOR)
+VERSION := $(MINOR_VERSION).$(call version_number,PATCH)
 LINK_NAME = libzuvaropy.so
-SONAME = $(LINK_NAME).$(COMPATIBLE)
+SONAME = $(LINK_NAME).$(MINOR_VERSION)
 SHARED_NAME = $(LINK_NAME).$(VERSION)
 
 # link_shared FOLDER: the names by which programs and linkers find the shared library.
@@ -186,7 +187,7 @@ install: $(LIBRARY) $(PROGRAM) shared
 	$(call fill_in,package/examples.mk.in,$(DOCDIR)/examples/Makefile)
 	$(INSTALL) -m 644 $(SAMPLE_FILES) $(call installed,$(DOCDIR)/samples)
 
-# A folder in which somebody has put files of his own stays.
+# A folder stays in which somebody else has put a file.
 uninstall:
 	rm -f $(call all_installed,$(INSTALLED))
 	for folder in $(call all_installed,$(OWN_FOLDERS)); do \

@@ -194,6 +194,14 @@ stranger() {
         packaged uninstall DESTDIR="$room/stranger" && [ "$(ls "$folder")" = mine ]
 }
 
+# What make help says that make can do, it can.
+helped() {
+    packaged help | sed -n 's/^make \([a-z][a-z]*\) .*/\1/p' >"$room/goals" && grep -qx install "$room/goals" &&
+        while read -r goal; do
+            grep -q "^$goal:" Makefile || return
+        done <"$room/goals"
+}
+
 # A first program stays as short as one that somebody would write.
 short() {
     [ "$(wc -l <examples/readout.c)" -le 110 ]
@@ -217,6 +225,7 @@ check 'install without the library' unbuilt LIBRARY
 check 'install without the program' unbuilt PROGRAM
 check 'uninstall beside others' stranger
 check 'install proves nothing' [ ! -e "$room/proved" ]
+check 'make help' helped
 check 'soname in the README' readme_soname
 check 'readout has at most 110 lines' short
 
