@@ -69,8 +69,8 @@ extern "C" {
  *
  * What a picture means: an interpretation is a finite set of individuals, each of
  * which has some of the names and reaches some individuals, perhaps itself, by
- * roles. A row's successors are the rows whose parent it is. An individual is an
- * instance of a row if
+ * roles. A row's successors are the other rows whose parent it is. An individual
+ * is an instance of a row if
  *
  *   - the row is not marked impossible,
  *   - the individual has all wanted names and no excluded one,

@@ -160,6 +160,11 @@ block() {
     awk -v fence="\`\`\`$1" -v n="$2" '$0 == fence { at++; next } /^```$/ { if (at == n) exit } at == n' README.md
 }
 
+# shown PATTERN: the README's first block after the line that matches.
+shown() {
+    awk -v pattern="$1" '!at && $0 ~ pattern { at = 1; next } at && /^```/ { if (at++ == 2) exit; next } at == 2' README.md
+}
+
 # readme STATUS PRINTED ARGUMENT..: the README's one program in C builds, prints this and ends so. Others are in
 # examples/, and tested.
 readme() {
@@ -172,6 +177,14 @@ readme() {
     [ $? -eq "$ending" ] && [ "$printed" = "$expected" ]
 }
 
+# A file that cannot be read, and one that is a folder, are told.
+readme_unread() {
+    for unread in samples/none.such samples; do
+        ! "$out/readme" samples/both.pic $unread >"$out/readme.log" 2>&1 &&
+            grep -q "^$unread: " "$out/readme.log" && [ "$(wc -l <"$out/readme.log")" -eq 1 ] || return
+    done
+}
+
 readme_python() {
     block python 1 >"$out/readme.py" &&
         [ "$(LD_LIBRARY_PATH=$out/shared python3 "$out/readme.py")" = 'cards [2, 3, 4]' ]
@@ -179,18 +192,12 @@ readme_python() {
 
 # The lines about single cards in the README are among those of examples/explain.c.
 explained() {
-    grep '^card ' README.md >"$out/explained.log" && ! grep -vxFf samples/explain.stdout "$out/explained.log"
+    grep '^card [0-9]*:' README.md >"$out/explained.log" && ! grep -vxFf samples/explain.stdout "$out/explained.log"
 }
 
-# The README shows twelve lines of what make demo prints: two answers, a common picture and the cards of a case.
+# The README shows what make demo prints first.
 demo() {
-    awk '/^Twelve lines of what `make demo`/ { at = 1; next } at && /^```$/ { if (at++ == 2) exit; next } at == 2' \
-        README.md >"$out/demo.log" && [ "$(wc -l <"$out/demo.log")" -eq 12 ] &&
-        {
-            head -n 7 samples/subsumes.stdout
-            sed -n '/^both.pic each.pic:/,/row 2/p' samples/lcs.stdout
-            grep '^friend.pic cards.book:' samples/most_specific.stdout
-        } | diff - "$out/demo.log"
+    shown '^This is what `make demo` prints first' | diff samples/readout.stdout -
 }
 
 one 'shared library' shared
@@ -217,14 +224,10 @@ one 'example subsumes' example subsumes sh samples/subsumes.sh "$out/subsumes" "
 one 'example lcs' example lcs sh samples/lcs.sh "$out/lcs"
 one 'example most_specific' example most_specific sh samples/most_specific.sh "$out/most_specific"
 one 'example explain' example explain sh samples/explain.sh "$out/explain"
-one 'readme, yes' readme 0 'yes, with a map of 12 bytes
-  row 0 goes to row 0
-  row 1 goes to row 1
-  row 2 goes to row 1
-checked: taken' samples/both.pic samples/each.pic
-one 'readme, no' readme 0 'no, with a refutation of 45 bytes
-checked: taken' samples/each.pic samples/both.pic
-one 'readme, refused' readme 1 "$(grep '^refused 6,' README.md)" samples/top.pic samples/cut.pic
+one 'readme, yes' readme 0 "$(shown '^Of .samples/both.pic. and .samples/each.pic.')" samples/both.pic samples/each.pic
+one 'readme, no' readme 0 "$(shown '^of .samples/each.pic. and .samples/both.pic.')" samples/each.pic samples/both.pic
+one 'readme, refused' readme 1 "$(shown '^and of .samples/top.pic. and .samples/cut.pic.')" samples/top.pic samples/cut.pic
+one 'readme, unread' readme_unread
 one 'readme, card refused' grep -qxF "family.pic early.book: $(grep '^refused 11,' README.md)" \
     samples/most_specific.stdout
 one 'readme, explained' explained
