@@ -34,8 +34,7 @@ MANDIR = $(PREFIX)/share/man
 DOCDIR = $(PREFIX)/share/doc/zuvaropy
 INSTALL = install
 
-.PHONY: all library program quick test gate demo bench counts fuzz valgrind shared install uninstall clean help \
-        tools
+.PHONY: all library program quick test gate demo bench counts fuzz valgrind shared install uninstall clean tools
 
 all: library program
 
@@ -197,6 +196,7 @@ uninstall:
 clean:
 	rm -rf build target
 
+.PHONY: help
 help:
 	@sed -n '/^#/!q; s/^# //p' Makefile
 
