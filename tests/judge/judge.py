@@ -37,10 +37,10 @@ def arguments():
     return parser.parse_args()
 
 
-def judge_book(tally, library, seed, number):
+def judge_book(tally, library, seed, number, origin):
     """Draws a book and compares."""
     rng = random.Random(f"{seed} {number}")
-    book = compare.Book(rng, draw.draw_book(rng, number), library, f"SEED={seed} FIRST={number} BOOKS=1")
+    book = compare.Book(rng, draw.draw_book(rng, number), library, origin)
     order = fact.classify(book.classes())
     compare.compare_pairs(tally, order, book, compare.verdicts(library, book))
     compare.compare_cases(tally, library, order, book)
@@ -65,7 +65,11 @@ def judge(tally, given):
     known.compare_spoilt(tally)
     known.compare_known(tally, library)
     for number in range(given.first, given.first + given.books):
-        judge_book(tally, library, given.seed, number)
+        origin = f"SEED={given.seed} FIRST={number} BOOKS=1"
+        try:
+            judge_book(tally, library, given.seed, number, origin)
+        except fact.Unreadable as unreadable:
+            raise fact.Unreadable(f"{unreadable}\nto run it again: make judge {origin}") from unreadable
     if given.books >= ENOUGH_BOOKS:
         judge_shares(tally)
 

@@ -1,13 +1,13 @@
 """Writes KRSS, the Lisp-like format that FaCT++ reads.
 
-A file is a list of statements:
+A file is a list of statements, among them:
 
-    (defprimconcept n3)        n3 is a concept name
+    (defprimconcept n3)        n3 is a name of which nothing is known
+    (defconcept C0 CONCEPT)    C0 is a name for the instances of CONCEPT, in which others may stand
     (defprimrole r8)           r8 is a role
-    (defconcept C0 CONCEPT)    C0 has the instances of CONCEPT
+    (implies_r r8 r9)          what r8 reaches r9 reaches too; not used here
 
-A concept is *TOP*, *BOTTOM*, a name, (not C), (and C D ..), (some r8 C) or (all r8 C). Each name is declared before it
-is used; an (and) of nothing is no concept.
+A concept is *TOP*, *BOTTOM*, a name, (not C), (and C D ..), (some r8 C) or (all r8 C). An (and) of nothing is none.
 """
 
 from picture import EXISTS, NAMES, ROLES
