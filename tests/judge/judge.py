@@ -12,6 +12,7 @@ the yes have to.
 
 import argparse
 import random
+import signal
 import sys
 import time
 
@@ -86,6 +87,7 @@ def summary(tally, books, seconds):
 
 def main():
     given = arguments()
+    signal.signal(signal.SIGTERM, lambda *_: sys.exit(1))  # so that FaCT++'s folder is removed then too
     started = time.monotonic()
     tally = Tally(shown=10)
     try:
