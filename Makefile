@@ -12,6 +12,7 @@
 # make counts     print how many instructions each call takes on the same inputs, whatever else the machine does
 # make fuzz       fuzz all calls with libFuzzer, each for a minute; or CALL=lcs SECONDS=600
 # make valgrind   run the calls, the fuzz targets and the smaller C tests under valgrind
+# make judge      compare the library with the reasoner FaCT++ on random pictures; BOOKS=1000 SEED=7 FIRST=0
 # make shared     link the built library as build/shared/libzuvaropy.so
 # make install    put the built library, its header and manual page and the verdict program below PREFIX
 # make uninstall  remove what make install put there
@@ -32,7 +33,7 @@ PKGCONFIGDIR = $(LIBDIR)/pkgconfig
 MANDIR = $(PREFIX)/share/man
 INSTALL = install
 
-.PHONY: all library program quick test gate demo bench counts fuzz valgrind shared install uninstall clean tools
+.PHONY: all library program quick test gate demo bench counts fuzz valgrind judge shared install uninstall clean tools
 
 all: library program
 
@@ -102,6 +103,15 @@ fuzz: library
 
 valgrind: library
 	@CC='$(CC)' sh tests/valgrind/run.sh $(LIBRARY)
+
+# Each book has 32 pictures; FIRST is the number of the first book, to run one again.
+BOOKS = 1000
+SEED = 7
+FIRST = 0
+
+judge: library
+	@$(MAKE) -s shared
+	@python3 tests/judge/judge.py $(SHARED)/$(LINK_NAME) --books $(BOOKS) --seed $(SEED) --first $(FIRST)
 
 # What is built is taken as it is: shared and install prove nothing.
 $(LIBRARY) $(PROGRAM):
