@@ -67,6 +67,6 @@ END {
     for (i = 1; i <= many; i++)
         if (!(names[i] in still))
             show(names[i], "-", "-", "-", kept[names[i]], "-", "gone")
-    print grown + 0 " of " counted (grown == 1 ? " takes " : " take ") TOO_MUCH list
-    exit grown > 0
+    printf "%d of %d %s %s%s\n", grown, counted, grown == 1 ? "takes" : "take", TOO_MUCH, list
+    exit (grown > 0)
 }

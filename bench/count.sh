@@ -4,8 +4,8 @@
 #
 #   sh bench/count.sh BENCH [KEEP]
 #
-# Exits 1 if a call takes more than 2 % more than there. With KEEP, which may be any word, it exits 0 all the same and
-# writes that file anew.
+# Exits 1 if a call takes more than 2 % more than there, and 2 if it could not count or compare. With KEEP, which may be
+# any word, it writes that file anew and exits 0 where it would exit 1.
 #
 # The counts are the same on every run and under any load. memset and memcpy are kept from the instructions that repeat,
 # which cachegrind counts once for each byte. By where the stack begins they take a few more or fewer, and that is said
@@ -34,11 +34,11 @@ processes() {
 
 # made_with: what the counts depend on, as comments.
 made_with() {
-    version=$(sed -n 's/^.define ZUVAROPY_VERSION_[A-Z]* *//p' "$top/include/zuvaropy.h" | paste -sd.)
+    version=$(sed -nE 's/^.define ZUVAROPY_VERSION_(MAJOR|MINOR|PATCH) +//p' "$top/include/zuvaropy.h" | paste -sd. -)
     commit=$(git -C "$top" log -1 --format=%h -- crates)
     changed=$(git -C "$top" status --porcelain -- crates)
     echo "# zuvaropy $version, crates of ${commit:-no commit}${changed:+ and changes}, $(rt version)"
-    echo "# $("$valgrind" --version), $(getconf GNU_LIBC_VERSION), gcc $(${CC:-gcc} -dumpfullversion)," \
+    echo "# $("$valgrind" --version), $(getconf GNU_LIBC_VERSION), $(${CC:-gcc} --version | sed 1q)," \
         "$(rustc --version | cut -d ' ' -f 1,2)"
 }
 
@@ -48,6 +48,6 @@ status=0
 before=/dev/null
 [ ! -e "$kept" ] || before=$kept
 awk -f "$top/bench/compare.awk" "$before" "$counted" || status=$?
-[ -n "$keep" ] || exit "$status"
+[ -n "$keep" ] && [ "$status" -lt 2 ] || exit "$status"
 { made_with && cat "$counted"; } >"$room/kept"
 cp "$room/kept" "$kept"
