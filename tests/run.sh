@@ -185,6 +185,7 @@ else
 fi
 count install sh tests/install.sh "$archive" "$verdict" "$PWD/$out/shared"
 count manual sh tests/manual.sh "$archive"
+count instructions sh tests/instructions.sh
 one samples samples
 one 'example bytes' example bytes "$out/bytes"
 one 'example validate' example validate "$out/validate" samples/*.pic
