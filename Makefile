@@ -9,9 +9,11 @@
 #                 program
 # make bench      print one table of the time of each call beside the same call hand-written in Rust, three of them in
 #                 C too, and how it grows with the size
-# make counts     print how many instructions each call takes on the same inputs, whatever else the machine does
+# make count      print how many instructions each call takes, whatever else the machine does, beside C, Rust and what
+#                 is kept in bench/count.txt; fail if one takes more than 2 % more; KEEP=1 writes that file anew
 # make fuzz       fuzz all calls with libFuzzer, each for a minute; or CALL=lcs SECONDS=600
 # make valgrind   run the calls, the fuzz targets and the smaller C tests under valgrind
+# make judge      compare the library with the reasoner FaCT++ on random pictures; BOOKS=1000 SEED=7 FIRST=0
 # make shared     link the built library as build/shared/libzuvaropy.so
 # make install    put the built library, its header and manual page and the verdict program below PREFIX
 # make uninstall  remove what make install put there
@@ -32,7 +34,7 @@ PKGCONFIGDIR = $(LIBDIR)/pkgconfig
 MANDIR = $(PREFIX)/share/man
 INSTALL = install
 
-.PHONY: all library program quick test gate demo bench counts fuzz valgrind shared install uninstall clean tools
+.PHONY: all library program quick test gate demo bench count fuzz valgrind judge shared install uninstall clean tools
 
 all: library program
 
@@ -94,13 +96,18 @@ BENCH = build/bench/bench
 bench: $(BENCH)
 	@$(BENCH)
 
-counts: $(BENCH)
-	@sh bench/counts.sh $(BENCH)
+KEEP =
 
-.PHONY: $(BENCH)
-$(BENCH): library $(PLAIN)
+count: $(BENCH)
+	@CC='$(CC)' sh bench/count.sh $(BENCH) $(KEEP)
+
+.PHONY: $(BENCH) bench_tools
+$(BENCH): bench_tools library $(PLAIN)
 	@rustc --edition 2021 -O -C panic=abort -D warnings bench/bench.rs \
 	    $(patsubst %,-C link-arg=%,$(PLAIN) $(LIBRARY)) -o $@
+
+bench_tools:
+	@$(call need,rustc,the Rust compiler)
 
 build/bench/%.o: bench/%.c bench/%.h include/zuvaropy.h
 	@mkdir -p $(@D)
@@ -114,6 +121,15 @@ fuzz: library
 
 valgrind: library
 	@CC='$(CC)' sh tests/valgrind/run.sh $(LIBRARY)
+
+# Each book has 32 pictures; FIRST is the number of the first book, to run one again.
+BOOKS = 1000
+SEED = 7
+FIRST = 0
+
+judge: library
+	@$(MAKE) -s shared
+	@python3 tests/judge/judge.py $(SHARED)/$(LINK_NAME) --books $(BOOKS) --seed $(SEED) --first $(FIRST)
 
 # What is built is taken as it is: shared and install prove nothing.
 $(LIBRARY) $(PROGRAM):

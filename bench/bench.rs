@@ -4,12 +4,12 @@
 //! All sides answer alike before they are timed. A ratio above the goal is marked: 1.3, and 1.5 on full books of which
 //! every card subsumes the case.
 //!
-//! With the argument `counts`, what bench/counts.sh counts.
+//! With the argument `count`, what bench/count.sh counts.
 
 #[path = "../tests/rust/book.rs"]
 mod book;
 mod calls;
-mod counts;
+mod count;
 mod lcs_inputs;
 #[path = "../tests/rust/library.rs"]
 mod library;
@@ -107,9 +107,9 @@ fn sizes((call, name, _, sizes, make): &Growth) -> Vec<Race> {
 
 fn main() {
     let lines = LINES.iter().flat_map(|(call, lines)| lines.iter().map(move |line| (call, line)));
-    if env::args().nth(1).as_deref() == Some("counts") {
+    if env::args().nth(1).as_deref() == Some("count") {
         let counted = lines.filter(|(_, line)| line.0 != Sort::Other);
-        return counted.for_each(|(call, line)| counts::print(call, line, &draw(call, line)));
+        return counted.for_each(|(call, line)| count::print(call, line, &draw(call, line)));
     }
     let mut table: Vec<Timed> = lines.map(timed).collect();
     let mut growth: Vec<Vec<Race>> = GROWTH.iter().map(sizes).collect();

@@ -1,8 +1,8 @@
 #!/bin/sh
 # Builds the C tests against an archive of the library and runs them; compares it with the Rust
 # implementation of tests/rust, if there is a rustc; fuzzes the calls, a bounded number of times; makes
-# them under valgrind, if it is there; makes a shared library of it and installs both; runs the examples;
-# and tests the verdict program.
+# them under valgrind, if it is there; makes a shared library of it, compares that with FaCT++, if it is
+# there, and installs both; runs the examples; and tests the verdict program.
 #
 #   sh tests/run.sh ARCHIVE PROGRAM
 #
@@ -212,8 +212,15 @@ if command -v python3 >/dev/null; then
 else
     left_out "shared library from Python" "no python3"
 fi
+# With this seed a picture is drawn that question 14 refuses.
+if command -v FaCT++ >/dev/null && command -v python3 >/dev/null; then
+    count judge python3 tests/judge/judge.py "$out/shared/libzuvaropy.so" --books 42 --seed 2
+else
+    left_out "FaCT++ as a judge" "no FaCT++ or no python3"
+fi
 count install sh tests/install.sh "$archive" "$verdict" "$PWD/$out/shared"
 count manual sh tests/manual.sh "$archive"
+count instructions sh tests/instructions.sh
 one samples samples
 one 'example bytes' example bytes "$out/bytes"
 one 'example readout' example readout "$out/readout"

@@ -3,6 +3,7 @@
 #include "area.h"
 #include "check.h"
 #include "normalize.h"
+#include "rows.h"
 #include "verify.h"
 #include "verify_reference.h"
 #include "witness.h"
@@ -31,6 +32,32 @@ static uint64_t wanted_verdict(struct inputs *in)
     return (uint64_t)1 << 56 | in->evidence.length;
 }
 
+/* The names that the rows of a picture want or exclude. */
+static uint64_t mentioned(const struct picture *p)
+{
+    static struct row rows[ZUVAROPY_MAX_ROWS];
+    const unsigned int count = (unsigned int)(p->length / ZUVAROPY_ROW_BYTES);
+    uint64_t names = 0;
+    unsigned int i;
+
+    rows_read(rows, p->bytes, count);
+    for (i = 0; i < count; i++)
+        names |= rows[i].wanted | rows[i].excluded;
+    return names;
+}
+
+/* No individual has a name that neither picture mentions. */
+static void check_names(struct inputs *in)
+{
+    const uint64_t names = mentioned(&in->first) | mentioned(&in->second);
+    uint64_t held = 0;
+    unsigned int i;
+
+    for (i = 0; ZUVAROPY_REFUTATION_BYTES(i) < in->evidence.length; i++)
+        held |= rows_number(evidence_value(&in->evidence, i) + ZUVAROPY_INDIVIDUAL_NAMES_AT, ZUVAROPY_NAME_SET_BYTES);
+    CHECK((held & ~names) == 0);
+}
+
 /* A refutation that was written is what should be there. */
 static void take_refutation(struct inputs *in, size_t length)
 {
@@ -40,6 +67,7 @@ static void take_refutation(struct inputs *in, size_t length)
     in->evidence.length = length;
     memcpy(in->evidence.bytes, area_lent(&result), length);
     memcpy(area_wanted(&result), area_lent(&result), length);
+    check_names(in);
 }
 
 /* The evidence is taken, from the result buffer itself with the same work space, and by the reference. */

@@ -1,18 +1,12 @@
 -- Countermodels, computed: `countermodel d v` fits v and not d.
-use Prim.Native.Nat.{_-_, _^_}
 use mathlib.Core.Bool.{false, true}
 use mathlib.Core.Path.{_≡_, refl}
 use Rattle.table.specs.Bounds.{maxDepth, maxRows}
-use Rattle.table.specs.Layout.{nameCount}
 use Rattle.ale.specs.Countermodel.{countermodel, individual, maxIndividuals}
 use Rattle.ale.specs.ModelCheck.{fitsTest}
-use Rattle.ale.specs.PictureSignature.{NameSet}
 use Rattle.ale.specs.Tree.{Tree, bottomLabel, cons, exists, forAll, nil, node}
 use Rattle.ale.proofs.CasesMap.{k7-apart, k7-joined}
-use Rattle.ale.proofs.CasesTree.{Sig, excludes, five, leaf, names, none, single, three}
-
-abbrev everything : NameSet
-everything = names (2 ^ nameCount - 1) tt
+use Rattle.ale.proofs.CasesTree.{Sig, excludes, five, leaf, none, single, three, threeFive}
 
 -- an individual is a node with its names, no excluded ones, and not ⊥
 individual-node : individual Sig five nil ≡ leaf five
@@ -22,9 +16,13 @@ individual-node = refl
 counter-wanted : countermodel Sig (leaf three) (leaf five) ≡ individual Sig five nil
 counter-wanted = refl
 
--- a name that is not mentioned may hold: the node that excludes 3 does not subsume ⊤
-counter-excluded : countermodel Sig (node (excludes three) nil) (leaf none) ≡ individual Sig everything nil
+-- a name that is excluded may hold of ⊤, and no other does
+counter-excluded : countermodel Sig (node (excludes three) nil) (leaf none) ≡ individual Sig three nil
 counter-excluded = refl
+
+-- what is wanted holds too
+counter-more : countermodel Sig (node (excludes three) nil) (leaf five) ≡ individual Sig threeFive nil
+counter-more = refl
 
 -- K7: two individuals, one with each name
 abbrev pub k7-counter : Tree Sig
@@ -38,7 +36,7 @@ counter-k7-checked = (refl, refl)
 
 -- 3 may hold of the individual that some r {} asks for
 counter-some : countermodel Sig (single exists (node (excludes three) nil)) (single exists (leaf none)) ≡
-    individual Sig none (cons exists 8 (individual Sig everything nil) nil)
+    individual Sig none (cons exists 8 (individual Sig three nil) nil)
 counter-some = refl
 
 -- all r {5} does not subsume all r {3}: of an individual reached by r, 3 holds and 5 does not

@@ -80,7 +80,7 @@ module _ (S : Signature) where
         let h : List ℕ → Tree S = λ t. merged S p n t in
         edges-confined (byRole S (roleParts S p h s) (S .roles)) n
         (All-byRole-below S (ConfinedEdge n) (roleParts S p h s) (S .roles) (λ r b.
-        All-roleParts S p (ConfinedEdge n) h s r (λ k t. (b, merged-confined n t))))
+        All-roleParts S p (ConfinedEdge n) h s r (λ k t _. (b, merged-confined n t))))
 
     pub normal-confined : (n : ℕ) → Confined (normalTree S p n) n
     normal-confined n = tidy-confined (merged S p n (0 ∷ [])) n (merged-confined n (0 ∷ []))

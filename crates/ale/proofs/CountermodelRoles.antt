@@ -6,7 +6,7 @@ use Prim.Native.Nat.{_<_, ℕ}
 use lib.Dec.{eqb}
 use mathlib.Core.Bool.{_&&_, not}
 use Rattle.table.specs.Pick.{pick}
-use Rattle.ale.specs.Countermodel.{canonical, canonicalAll, countermodel, falsify, falsifyAll, individual, realize, valueOf}
+use Rattle.ale.specs.Countermodel.{canonical, canonicalAll, countermodel, falsify, falsifyAll, individual, realize, valueOf, widened}
 use Rattle.ale.specs.Encoding.{encoded}
 use Rattle.ale.specs.Homomorphism.{edgeServes, mapsTo}
 use Rattle.ale.specs.Normal.{normalTree}
@@ -50,11 +50,11 @@ module _ (S : Signature) where
     countermodel-rolesKnown (node l f) (node m g) a b =
         let plain = canonicalAll-rolesKnown g b in
         let changed = individual S (m .wanted) (falsifyAll S f g) in
-        let widened = individual S (S .complement (m .excluded)) (canonicalAll S g) in
+        let more = individual S (widened S l m) (canonicalAll S g) in
         let excluded = S .subset (l .excluded) (m .excluded) in
-        chosen (λ t. RolesKnown S t) (S .subset (l .wanted) (m .wanted) && not (l .bottom)) (pick excluded changed widened)
+        chosen (λ t. RolesKnown S t) (S .subset (l .wanted) (m .wanted) && not (l .bottom)) (pick excluded changed more)
         (individual S (m .wanted) (canonicalAll S g))
-        (λ _. chosen (λ t. RolesKnown S t) excluded changed widened (λ _. falsifyAll-rolesKnown f g a b) (λ _. plain)) (λ _. plain)
+        (λ _. chosen (λ t. RolesKnown S t) excluded changed more (λ _. falsifyAll-rolesKnown f g a b) (λ _. plain)) (λ _. plain)
 
     falsifyAll-rolesKnown : (f g : Forest S) → RolesKnownAll S f → RolesKnownAll S g → RolesKnownAll S (falsifyAll S f g)
     falsifyAll-rolesKnown nil g a b = canonicalAll-rolesKnown g b

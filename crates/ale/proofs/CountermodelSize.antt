@@ -7,7 +7,7 @@ use mathlib.Core.Bool.{Bool, _&&_, false, not, true}
 use native.Mathlib.Nat.{le-max-left, le-max-right, mul-le-mul-left, mul-le-mul-right}
 use native.Mathlib.Omega.{arith}
 use Rattle.table.specs.Pick.{pick}
-use Rattle.ale.specs.Countermodel.{canonical, canonicalAll, countermodel, falsify, falsifyAll, individual, realize, valueOf}
+use Rattle.ale.specs.Countermodel.{canonical, canonicalAll, countermodel, falsify, falsifyAll, individual, realize, valueOf, widened}
 use Rattle.ale.specs.Homomorphism.{edgeServes, mapsTo}
 use Rattle.ale.specs.Signature.{Signature}
 use Rattle.ale.specs.Tree.{Forest, Kind, Tree, any, cons, exists, forAll, height, heights, nil, node, size, sizes}
@@ -60,7 +60,7 @@ module _ (S : Signature) where
   mutual
     pub countermodel-size : (d v : Tree S) → size S (countermodel S d v) ≤ suc (height S d) * size S v
     countermodel-size (node l f) (node m g) =
-        node-size (S .subset (l .wanted) (m .wanted) && not (l .bottom)) (S .subset (l .excluded) (m .excluded)) (m .wanted) (S .complement (m .excluded))
+        node-size (S .subset (l .wanted) (m .wanted) && not (l .bottom)) (S .subset (l .excluded) (m .excluded)) (m .wanted) (widened S l m)
         (falsifyAll S f g) (canonicalAll S g) (suc (heights S f) * suc (sizes S g)) (falsifyAll-sizes f g) (omega (arith, canonical-sizes g))
 
     falsifyAll-sizes : (f g : Forest S) → suc (sizes S (falsifyAll S f g)) ≤ suc (heights S f) * suc (sizes S g)

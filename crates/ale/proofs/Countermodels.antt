@@ -13,14 +13,14 @@ use mathlib.Core.Bool.{Bool, _&&_, false, not, true}
 use mathlib.Core.Logic.{inl, inr, ⊎-elim}
 use mathlib.Core.Path.{_≡_, ap, refl, subst}
 use Rattle.table.specs.Pick.{pick}
-use Rattle.ale.specs.Countermodel.{canonical, canonicalAll, countermodel, falsify, falsifyAll, individual, realize, valueOf}
+use Rattle.ale.specs.Countermodel.{canonical, canonicalAll, countermodel, falsify, falsifyAll, individual, realize, valueOf, widened}
 use Rattle.ale.specs.Forest.{dropped, trivial}
 use Rattle.ale.specs.Homomorphism.{edgeServes, labelWithin, mapsAllTo, mapsTo}
 use Rattle.ale.specs.Theory.{IfExists, IfForAll, NodeSaturated, Propagated, Reduced, ReducedAll, Saturated, SaturatedAll}
 use Rattle.ale.specs.Signature.{Signature}
 use Rattle.ale.specs.Structure.{Fits, FitsAll, Restriction, Satisfies}
 use Rattle.ale.specs.Tree.{All, Forest, Kind, Label, Tree, any, cons, exists, forAll, labelOf, nil, node, top}
-use Rattle.ale.proofs.NameLaws.{complement-in, complement-out, subset-fails}
+use Rattle.ale.proofs.NameLaws.{complement-in, complement-out, intersection-intro, intersection-right, subset-fails, union-left, union-right}
 use Rattle.ale.proofs.NormalForms.{saturated-top, trivial-mapsTo, valueOf-elim}
 use Rattle.ale.proofs.Tests.{and-fails, clash, or-fails-left, or-fails-right, refute}
 use Rattle.ale.proofs.TreeStructure.{AllChildren, children-at, treeStructure}
@@ -95,14 +95,18 @@ module _ (S : Signature) where
       Satisfies S (treeStructure S) l (individual S (l .wanted) cs)
   satisfies-wanted l f cs t u = record { held = λ n p. p; free = λ n e p. t .consistent u n p e; possible = u }
 
-  -- and where exactly its excluded names do not
-  satisfies-complement : (l : Label S) (f cs : Forest S) → NodeSaturated S l f → T (not (l .bottom)) →
-      Satisfies S (treeStructure S) l (individual S (S .complement (l .excluded)) cs)
-  satisfies-complement l f cs t u = record {
-    held = λ n p. complement-in S (l .excluded) (l .wanted) n p (refute (S .has (l .excluded) n) (t .consistent u n p));
-    free = λ n e p. complement-out S (l .excluded) n p e;
-    possible = u;
-  }
+  -- and where names hold besides that it does not exclude
+  satisfies-widened : (k l : Label S) (f cs : Forest S) → NodeSaturated S l f → T (not (l .bottom)) →
+      Satisfies S (treeStructure S) l (individual S (widened S k l) cs)
+  satisfies-widened k l f cs t u =
+      let both = S .union (l .wanted) (k .excluded) in
+      let allowed = S .complement (l .excluded) in
+      record {
+        held = λ n p. intersection-intro S both allowed n (union-left S (l .wanted) (k .excluded) n p)
+            (complement-in S (l .excluded) (l .wanted) n p (refute (S .has (l .excluded) n) (t .consistent u n p)));
+        free = λ n e p. complement-out S (l .excluded) n (intersection-right S both allowed n p) e;
+        possible = u;
+      }
 
   fits-realize : (l : Label S) (g : Forest S) → NodeSaturated S l g → (h : ℕ → Tree S → Tree S) → FitsExists h g → SuccessorsFit g (realize S h g)
   fits-realize l g t h p s = fits-realized g s (realize S h g) (realize-realizes h g s p) (realize-fitsValues g h g p (t .into-exists))
@@ -215,7 +219,7 @@ module _ (S : Signature) where
     abbrev nodeModel : Bool → Bool → Tree S
     nodeModel a b =
         pick a
-        (pick b (individual S (m .wanted) cs) (individual S (S .complement (m .excluded)) (canonicalAll S g)))
+        (pick b (individual S (m .wanted) cs) (individual S (widened S l m) (canonicalAll S g)))
         (individual S (m .wanted) (canonicalAll S g))
 
     -- a name of the first set that is not in the second
@@ -239,8 +243,10 @@ module _ (S : Signature) where
         go true true true p q r x = ((satisfies-wanted m g cs t u, fs .0 (m .wanted)), λ fit. fs .1 x (m .wanted) (fit .1))
         go true false true p q r x =
             let (n, i, o) = q tt in (
-              (satisfies-complement m g (canonicalAll S g) t u, fits (S .complement (m .excluded))),
-              λ fit. fit .0 .free n i (complement-in S (m .excluded) (l .excluded) n i o),
+              (satisfies-widened l m g (canonicalAll S g) t u, fits (widened S l m)),
+              λ fit. fit .0 .free n i
+                  (intersection-intro S (S .union (m .wanted) (l .excluded)) (S .complement (m .excluded)) n
+                  (union-right S (m .wanted) (l .excluded) n i) (complement-in S (m .excluded) (l .excluded) n i o)),
             )
         go true b false p q r x = node-canonical (r tt)
         go false b c p q r x = let (n, i, o) = p tt in node-canonical (λ y. clash (S .has (m .wanted) n) (y .held n i) o)

@@ -37,6 +37,7 @@ pub mod TreeStructure
 pub mod Countermodels
 pub mod CountermodelSize
 pub mod CountermodelRoles
+pub mod CountermodelNames
 pub mod Bisimulations
 pub mod Individuals
 pub mod Encodings

@@ -1,4 +1,6 @@
 -- The roles of a table are those of its tree: if the one has only known roles, so has the other.
+--   EachRow             a fact of every row of a list
+--   append-each, row-at lists one after the other; the row at a place
 --   KnownRows           every row of a list has a known role
 --   rows-known          such a list is a table of known roles
 --   encoded-known       a tree of known roles, encoded, is a table of known roles
@@ -8,7 +10,8 @@ use Prim.Native.Nat.{_+_, _<_, suc, zero, ℕ}
 use lib.Dec.{T}
 use mathlib.Core.List.{List, [], _++_, _∷_}
 use native.Mathlib.Omega.{arith}
-use Rattle.ale.specs.Encoding.{Row, encode, encodeForest, encodeTree, encoded, tableOf}
+use lib.ListN.{getD, length}
+use Rattle.ale.specs.Encoding.{Row, encode, encodeForest, encodeTree, encoded, noRow, tableOf}
 use Rattle.ale.specs.Forest.{append}
 use Rattle.ale.specs.Rows.{filterBelow, member}
 use Rattle.ale.specs.Signature.{Signature}
@@ -17,18 +20,28 @@ use Rattle.ale.specs.Tree.{Forest, Kind, RolesKnown, RolesKnownAll, Tree
 use Rattle.ale.proofs.RowLists.{filterBelow-out, member-head, member-tail}
 
 module _ (S : Signature) where
-  abbrev pub KnownRows : List (Row S) → Type 0
-  KnownRows [] = Unit
-  KnownRows (w ∷ s) = (w .role < S .roles) × KnownRows s
+  module _ (P : Row S → Type 0) where
+    abbrev pub EachRow : List (Row S) → Type 0
+    EachRow [] = Unit
+    EachRow (w ∷ s) = P w × EachRow s
 
-  append-known : (s t : List (Row S)) → KnownRows s → KnownRows t → KnownRows (s ++ t)
-  append-known [] t a b = b
-  append-known (w ∷ s) t a b = (a .0, append-known s t (a .1) b)
+    pub append-each : (s t : List (Row S)) → EachRow s → EachRow t → EachRow (s ++ t)
+    append-each [] t a b = b
+    append-each (w ∷ s) t a b = (a .0, append-each s t (a .1) b)
+
+    pub row-at : (s : List (Row S)) → EachRow s → (i : ℕ) → i < length s → P (getD s i (noRow S))
+    row-at [] a i l = absurd (omega arith)
+    row-at (w ∷ s) a zero l = a .0
+    row-at (w ∷ s) a (suc i) l = row-at s (a .1) i (omega arith)
+
+  abbrev pub KnownRow : Row S → Type 0
+  KnownRow w = w .role < S .roles
+
+  abbrev pub KnownRows : List (Row S) → Type 0
+  KnownRows s = EachRow KnownRow s
 
   pub rows-known : (s : List (Row S)) → KnownRows s → KnownRoles S (tableOf S s)
-  rows-known [] a i l = absurd (omega arith)
-  rows-known (w ∷ s) a zero l = a .0
-  rows-known (w ∷ s) a (suc i) l = rows-known s (a .1) i (omega arith)
+  rows-known = row-at KnownRow
 
   mutual
     encodeTree-known : (t : Tree S) (p : ℕ) (k : Kind) (r o : ℕ) → r < S .roles → RolesKnown S t → KnownRows (encodeTree S t p k r o)
@@ -38,7 +51,7 @@ module _ (S : Signature) where
     encodeForest-known nil p o w = tt
     encodeForest-known (cons k r t f) p o w =
         let e = o + size S t in
-        append-known (encodeTree S t p k r o) (encodeForest S f p e) (encodeTree-known t p k r o (w .0) (w .1)) (encodeForest-known f p e (w .2))
+        append-each KnownRow (encodeTree S t p k r o) (encodeForest S f p e) (encodeTree-known t p k r o (w .0) (w .1)) (encodeForest-known f p e (w .2))
 
   pub encoded-known : 0 < S .roles → (t : Tree S) → RolesKnown S t → KnownRoles S (encoded S t)
   encoded-known z t w = rows-known (encode S t) (encodeTree-known t 0 exists 0 0 z w)

@@ -4,6 +4,7 @@
 --   realize                an individual for each some-successor
 --   canonical              003, Definition 36: the canonical model of a tree, where only its wanted names hold
 --   valueOf                the all-successor of a role, or ⊤
+--   widened                the names of an individual that breaks an exclusion
 --   falsify                successors that fit g and not one edge (k, r) of d, where h gives the countermodel of its end
 --   countermodel           individuals that fit v and not d; `countermodel d v`
 --   reached                01, "Evidence": each later individual is reached from its parent by its role, and no other pairs exist
@@ -20,7 +21,7 @@ use Rattle.ale.specs.Homomorphism.{edgeServes, mapsTo}
 use Rattle.ale.specs.Interpretation.{Interpretation}
 use Rattle.ale.specs.Signature.{Signature}
 use Rattle.ale.specs.Table.{Table, successorOf}
-use Rattle.ale.specs.Tree.{Forest, Kind, Tree, any, cons, exists, forAll, nil, node, top}
+use Rattle.ale.specs.Tree.{Forest, Kind, Label, Tree, any, cons, exists, forAll, nil, node, top}
 
 module _ (S : Signature) where
   abbrev pub valueOf : ℕ → Forest S → Tree S
@@ -49,6 +50,10 @@ module _ (S : Signature) where
   falsify exists r h g = realize (λ r′ c. pick (S .subrole r′ r) (h c) (canonical c)) g
   falsify forAll r h g = cons exists r (h (valueOf r g)) (canonicalAll g)
 
+  -- the names that m wants and those that l excludes, less those that m excludes
+  abbrev pub widened : Label S → Label S → S .Names
+  widened l m = S .intersection (S .union (m .wanted) (l .excluded)) (S .complement (m .excluded))
+
   -- nothing fits ⊥, and a wanted name that v does not want fails in the canonical model; an excluded name that v does not exclude may hold
   abbrev mutual
     pub countermodel : Tree S → Tree S → Tree S
@@ -56,7 +61,7 @@ module _ (S : Signature) where
         pick (S .subset (l .wanted) (m .wanted) && not (l .bottom))
         (pick (S .subset (l .excluded) (m .excluded))
         (individual (m .wanted) (falsifyAll f g))
-        (individual (S .complement (m .excluded)) (canonicalAll g)))
+        (individual (widened l m) (canonicalAll g)))
         (individual (m .wanted) (canonicalAll g))
 
     -- the first edge that does not map is the one not fitted; where d's label is carried and d does not map, there is one

@@ -3,6 +3,7 @@
 --   condition-1-words    condition 1
 --   condition-2-words    condition 2
 --   condition-3-words    condition 3, the writer's evidence by `writes-taken`
+--   refutation-words     which refutation is written
 --   normal-words         the normal table
 --   most-specific-words  the nearest cards
 --   conditions-bounded   all of them, at any limits that the code can hold
@@ -38,6 +39,7 @@ use Rattle.evidence.proofs.Soundness.{forms-apart, map-covers, refutation-fails
 use Rattle.evidence.specs.Call.{verifyWork}
 use Rattle.evidence.specs.Form.{mapForm}
 use Rattle.evidence.specs.Taken.{MapOf, RefutationOf}
+use Rattle.subsumption.proofs.Mentioned.{evidence-mentions}
 use Rattle.subsumption.proofs.Writers.{evidence-bytes, evidence-size, no-written, verdict-covers, verdict-fails, yes-written}
 use Rattle.subsumption.specs.Call.{subsumesResult, subsumesWork}
 use Rattle.subsumption.specs.Verdict.{evidenceOf, evidenceSize, verdictOf}
@@ -53,7 +55,7 @@ use Rattle.book.specs.Form.{card, cardCount}
 use Rattle.book.specs.Selection.{MostSpecific, mostSpecificCards}
 use Rattle.interface.specs.Answers.{Answers, EitherOutcome, Passes, buffers, lcsCall, mostSpecificCall, subsumesCall, verifyCall}
 use Rattle.interface.specs.Calls.{lcsWord}
-use Rattle.interface.specs.Conditions.{Condition1Words, Condition2Words, Condition3Words, Conditions, Lengths, MostSpecificWords, NormalWords, PaperNumbers, Taken, WritesTaken, checkGiven, commonGiven, evidenceWritten, mostSpecificGiven, normalGiven, pictureWritten, tableWritten, verdictGiven}
+use Rattle.interface.specs.Conditions.{Condition1Words, Condition2Words, Condition3Words, Conditions, Lengths, MostSpecificWords, NormalWords, PaperNumbers, RefutationWords, Taken, WritesTaken, checkGiven, commonGiven, evidenceWritten, mostSpecificGiven, normalGiven, pictureWritten, tableWritten, verdictGiven}
 use Rattle.interface.specs.StarredClaims.{WritesEvidence}
 use Rattle.interface.specs.Word.{commonWord, outcome, outcomeNo, outcomeYes, refused, value, valueWord}
 use Rattle.interface.proofs.Answers.{cards-shape, lcs-shape, normalize-shape, subsumes-shape, validate-shape, verify-shape}
@@ -299,6 +301,20 @@ module _ (limits : Limits) (bounded : Bounded limits) where
       writer = writes-taken;
     }
 
+  -- ---- the refutation
+
+  pub refutation-words : (first second : List ℕ) → RefutationWords limits first second
+  refutation-words first second = record {
+    mentioned = λ work result h k n.
+        let g = result-shown _ _ _ _ (verdict-answers first second work result) (omega (arith, h)) in
+        let (enough, long, pair) = g .passes in
+        let fails : Covers limits second first → ⊥ = ⊎-elim (λ (o, c). absurd (omega (arith, h, o))) (λ (o, u). u)
+        (g .outcome-is) in
+        let is = ap (λ (n : ℕ). take n (subsumesResult limits first second (length work) result)) (g .value-is)
+        ∙ g .leaves .result .holds in
+        rw is (evidence-mentions limits first second pair (verdict-fails limits first second bounded pair .1 fails) k n);
+  }
+
   -- ---- the normal table
 
   pub normal-words : (picture : List ℕ) → NormalWords limits picture
@@ -374,6 +390,7 @@ module _ (limits : Limits) (bounded : Bounded limits) where
     three-map = map-only;
     three-refutation = refutation-only;
     three = condition-3-words;
+    refutations = refutation-words;
     normal = normal-words;
     cards = most-specific-words;
     places = place-words limits bounded;

@@ -17,6 +17,7 @@
 --   pictureWritten                        what is written: the result buffer's bytes up to the length reported
 --   Condition2Words                       condition 2
 --   Taken, WritesTaken, Condition3Words   condition 3 (its first sentence in `Conditions`)
+--   RefutationWords                       which refutation is written
 --   NormalWords, MostSpecificWords        the normal table; the nearest cards
 --   PairAt, PlaceWords                    where a refused picture went bad (02, U1)
 --   Conditions, PaperNumbers              all of them; the numbers of paper 01
@@ -39,9 +40,11 @@ use Rattle.meaning.specs.Meaning.{pictureTable, pictureTree}
 use Rattle.meaning.specs.NormalTable.{normalFile}
 use Rattle.normal.specs.Call.{normalizeResult}
 use Rattle.workspace.specs.Prepare.{Acceptable, workSize}
-use Rattle.countermodel.specs.Individual.{refutationForm}
+use Rattle.countermodel.specs.Individual.{individualNames, refutationForm}
+use Rattle.countermodel.specs.Layout.{individualCount}
 use Rattle.evidence.specs.Form.{mapForm}
 use Rattle.subsumption.specs.Call.{subsumesResult}
+use Rattle.subsumption.specs.Mentions.{Mentions}
 use Rattle.subsumption.specs.Verdict.{evidenceSize}
 use Rattle.lcs.specs.Call.{lcsResult}
 use Rattle.lcs.specs.Description.{LeastCommon}
@@ -165,6 +168,14 @@ pub record Condition3Words (limits : Limits) (first second : List ℕ) : Type 0 
       WritesTaken limits first second (verdictGiven limits first second work result)
       (evidenceWritten limits first second work result)
 
+-- 01: "Only which refutation is written, and so its length, is left to the program". Ours can be read: no individual has
+-- a name that neither picture mentions
+pub record RefutationWords (limits : Limits) (first second : List ℕ) : Type 0 where
+  pub mentioned : (work result : List ℕ) → outcome (verdictGiven limits first second work result) ≡ outcomeNo →
+      (k n : ℕ) → k < individualCount (evidenceWritten limits first second work result) →
+      has (individualNames (evidenceWritten limits first second work result) k) n ≡ true →
+      Mentions first n ⊎ Mentions second n
+
 -- 01, "Write its normal table": the bytes written are a picture, and it means the same
 pub record NormalWords (limits : Limits) (picture : List ℕ) : Type 0 where
   pub readable : (result : List ℕ) → outcome (normalGiven limits picture result) ≡ outcomeYes →
@@ -237,6 +248,7 @@ pub record Conditions (limits : Limits) : Type 0 where
   pub three-refutation : (first second evidence work : List ℕ) →
       outcome (checkGiven limits first second evidence work) ≡ outcomeNo → Covers limits second first → ⊥
   pub three : (first second : List ℕ) → Acceptable limits first second → Condition3Words limits first second
+  pub refutations : (first second : List ℕ) → RefutationWords limits first second
   pub normal : (picture : List ℕ) → NormalWords limits picture
   pub cards : (case book : List ℕ) → MostSpecificWords limits case book
   pub places : PlaceWords limits

@@ -1,4 +1,5 @@
 -- The refutation is written depth first, along links: one individual and what hangs from it, one successor and the others, one turn of each loop.
+--   widened-none                                           of ⊤, an individual has the names that are excluded
 --   tree-room, tree-written, forest-room, forest-written   the same tree, the same successors
 --   tree-here                                              there is room for the individual of a tree
 --   Begun                                                  it is written: there is room for what hangs from it, and once that is written all is
@@ -11,8 +12,8 @@
 --   value-found, value-end                                 where it stops
 --   realized-start, realized-end                           before and after the walk along the some-successors (Walks)
 --   refutation-room, refutation-end                        the whole file
-use Prim.Native.Nat.{_+_, _-_, _<_, _≤_, suc, ℕ}
-use borrow.Author.Tests.{eq-eqb, ne-eqb}
+use Prim.Native.Nat.{_+_, _-_, _<_, _^_, _≤_, suc, ℕ}
+use borrow.Author.Tests.{eq-eqb, lt-ltb, ne-eqb}
 use lib.Dec.{eqb}
 use lib.ListN.{getD, length, length-append}
 use mathlib.Core.Bool.{Bool, false, true}
@@ -22,19 +23,20 @@ use mathlib.Core.Path.{_∙_, _≡_, ap, refl, subst, sym}
 use native.Mathlib.Omega.{arith}
 use Rattle.ale.proofs.Encodings.{encodeTree-length}
 use Rattle.row_sets.proofs.LinkLists.{OnChain, ahead, chain-next, chain-on-first, chain-on-next}
-use Rattle.ale.specs.Countermodel.{individual}
+use Rattle.ale.specs.Countermodel.{individual, widened}
 use Rattle.ale.specs.Encoding.{encode}
 use Rattle.ale.specs.PictureSignature.{NameSet, pictureSignature}
-use Rattle.ale.specs.Tree.{Forest, Tree, cons, exists, nil, node, size}
+use Rattle.ale.specs.Tree.{Forest, Tree, cons, emptyLabel, exists, nil, node, size}
 use Rattle.homomorphism_search.proofs.Labels.{Read, low-same}
 use Rattle.homomorphism_search.specs.Search.{LinkedTable}
-use Rattle.meaning.specs.Meaning.{setAt}
+use Rattle.meaning.specs.Meaning.{labelAt, setAt}
 use Rattle.table.proofs.Bools.{by-test}
+use Rattle.table.proofs.NameSets.{has-below, has-complement, has-intersection, has-none, has-union, set-ext}
 use Rattle.table.proofs.Puts.{put-put}
 use Rattle.table.specs.Bounds.{maxRows}
 use Rattle.table.specs.Fields.{endBytes, excludedOf, kindOf, parentOf, roleOf, wantedOf}
-use Rattle.table.specs.Layout.{endSize, kindForAll}
-use Rattle.table.specs.NameSet.{complement, none, subset}
+use Rattle.table.specs.Layout.{endSize, kindForAll, nameCount}
+use Rattle.table.specs.NameSet.{complement, has, intersection, none, subset, union}
 use Rattle.table.specs.Number.{beBytes}
 use Rattle.table.specs.Pick.{pick}
 use Rattle.table.specs.Put.{put}
@@ -47,6 +49,16 @@ use Rattle.refutation_writer.proofs.Refutings.{against-below, against-h
 use Rattle.refutation_writer.proofs.Walks.{WalkAt, walk-end, walk-start}
 use Rattle.countermodel.proofs.Writings.{length-individuals}
 use Rattle.refutation_writer.proofs.Writings.{room-here, room-left, room-node, room-right, room-same, written-append, written-node, written-none, written-same}
+
+-- ---- nothing is wanted and nothing excluded of ⊤
+
+widened-none : (a : ℕ) → a < 2 ^ nameCount → intersection (union none a) (complement none) ≡ a
+widened-none a l =
+    set-ext (intersection (union none a) (complement none)) a (λ n.
+    has-intersection (union none a) (complement none) n
+    ∙ rw (has-union none a n, has-complement none n (omega arith), has-none n) (by-test (has a n)
+    (λ e. rw (e, lt-ltb n nameCount (has-below a n l e)))
+    (λ e. rw e)))
 
 -- ---- the same individuals
 
@@ -105,12 +117,13 @@ module _ (s t : List ℕ) (d w u : ℕ) (out : List ℕ) (k parent role : ℕ) (
 
   module _ (h : r ≡ true) (lacks excludes : ℕ) (lacks-is : Read lacks (excludedOf s u)) (excludes-is : Read excludes (excludedOf t w)) (q : Bool)
       (at : q ≡ subset excludes lacks) where
-    pub begun-holds : q ≡ false → (set : ℕ) → set ≡ complement lacks → mid ≡ put out (individualPlace k 0) (individualBytes parent role set) →
+    pub begun-holds : q ≡ false → (set : ℕ) → set ≡ intersection (union has excludes) (complement lacks) →
+        mid ≡ put out (individualPlace k 0) (individualBytes parent role set) →
         Begun out k parent role (againstTree s t d w u) mid (canonicalBelow s d u)
     begun-holds g set set-is here =
-        begun out k parent role (againstTree s t d w u) (pictureSignature .complement (setAt (excludedOf s u))) (canonicalBelow s d u)
+        begun out k parent role (againstTree s t d w u) (widened pictureSignature (labelAt t w) (labelAt s u)) (canonicalBelow s d u)
         (against-holds s t d w u has has-is r is h lacks excludes lacks-is excludes-is q at g) room set
-        (ap complement (low-same lacks (excludedOf s u) lacks-is) ∙ sym set-is) mid here
+        (rw (low-same has (wantedOf s u) has-is, low-same excludes (excludedOf t w) excludes-is, low-same lacks (excludedOf s u) lacks-is) (sym set-is)) mid here
 
     pub begun-below : q ≡ true → mid ≡ put out (individualPlace k 0) (individualBytes parent role has) →
         Begun out k parent role (againstTree s t d w u) mid (falsifiedBelow s t d w u)
@@ -126,11 +139,13 @@ module _ (t : List ℕ) (d w : ℕ) (out : List ℕ) (k parent role : ℕ) (room
       begun out k parent role (againstTop t d w) (pictureSignature .none) nil (top-lacks t d w empty empty-is r is h) room empty (sym empty-is) mid here
 
   module _ (h : r ≡ true) (excludes : ℕ) (excludes-is : Read excludes (excludedOf t w)) (q : Bool) (at : q ≡ eqb excludes none) where
-    pub begun-top-holds : q ≡ false → (set : ℕ) → set ≡ complement empty → mid ≡ put out (individualPlace k 0) (individualBytes parent role set) →
+    pub begun-top-holds : q ≡ false → mid ≡ put out (individualPlace k 0) (individualBytes parent role excludes) →
         Begun out k parent role (againstTop t d w) mid nil
-    begun-top-holds g set set-is here =
-        begun out k parent role (againstTop t d w) (pictureSignature .complement (pictureSignature .none)) nil
-        (top-holds t d w empty empty-is r is h excludes excludes-is q at g) room set (sym (set-is ∙ ap complement empty-is)) mid here
+    begun-top-holds g here =
+        begun out k parent role (againstTop t d w) (widened pictureSignature (labelAt t w) (emptyLabel pictureSignature)) nil
+        (top-holds t d w empty empty-is r is h excludes excludes-is q at g) room excludes
+        (ap (λ x. intersection (union none x) (complement none)) (low-same excludes (excludedOf t w) excludes-is)
+        ∙ widened-none excludes (excludes-is .1)) mid here
 
     pub begun-top : q ≡ true → mid ≡ put out (individualPlace k 0) (individualBytes parent role empty) →
         Begun out k parent role (againstTop t d w) mid (topBelow t d w)

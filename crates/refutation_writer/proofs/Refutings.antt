@@ -26,15 +26,15 @@ use mathlib.Core.Path.{_∙_, _≡_, ap, ap₂, refl, sym}
 use Rattle.row_sets.proofs.LinkLists.{OnChain, ahead, chain-next, chain-on-first}
 use Rattle.ale.proofs.RowLists.{filterBelow-out, member-head, member-tail}
 use Rattle.ale.proofs.TableLaws.{successor-nonzero, treeOf-node}
-use Rattle.ale.specs.Countermodel.{canonical, canonicalAll, countermodel, falsify, falsifyAll, individual, realize, valueOf}
+use Rattle.ale.specs.Countermodel.{canonical, canonicalAll, countermodel, falsify, falsifyAll, individual, realize, valueOf, widened}
 use Rattle.ale.specs.Forest.{append}
 use Rattle.ale.specs.PictureSignature.{pictureSignature}
 use Rattle.ale.specs.Rows.{member}
 use Rattle.ale.specs.Table.{successorOf, successorRows, successors}
-use Rattle.ale.specs.Tree.{Forest, Kind, Tree, cons, exists, forAll, nil, successorsOf, top}
+use Rattle.ale.specs.Tree.{Forest, Kind, Tree, cons, emptyLabel, exists, forAll, nil, successorsOf, top}
 use Rattle.homomorphism_search.proofs.Labels.{Read, low-same}
 use Rattle.homomorphism_search.specs.Search.{LinkedTable, edgeServed, firstFailing, forestAt, labelCarried, treeAt, unservedRow}
-use Rattle.meaning.specs.Meaning.{kindAt, pictureTable, setAt}
+use Rattle.meaning.specs.Meaning.{kindAt, labelAt, pictureTable, setAt}
 use Rattle.table.proofs.Bools.{both, by-test}
 use Rattle.table.proofs.NameSets.{subset-none}
 use Rattle.table.specs.Bounds.{maxRows}
@@ -81,7 +81,7 @@ module _ (s t : List ℕ) (d w u : ℕ) where
       ≡ pick (wantedWithin t w (wantedOf s u % 2 ^ nameCount))
       (pick (subset (excludedOf t w % 2 ^ nameCount) (excludedOf s u % 2 ^ nameCount))
       (individual pictureSignature (setAt (wantedOf s u)) (falsifiedBelow s t d w u))
-      (individual pictureSignature (pictureSignature .complement (setAt (excludedOf s u))) (canonicalBelow s d u)))
+      (individual pictureSignature (widened pictureSignature (labelAt t w) (labelAt s u)) (canonicalBelow s d u)))
       (individual pictureSignature (setAt (wantedOf s u)) (canonicalBelow s d u))
   unfolding againstTree canonicalBelow falsifiedBelow wantedWithin
   against-names =
@@ -100,7 +100,7 @@ module _ (s t : List ℕ) (d w u : ℕ) where
       excluded-is = sym (subset-read excludes lacks (excludedOf t w) (excludedOf s u) q excludes-is lacks-is at)
 
       pub against-holds : q ≡ false →
-          againstTree s t d w u ≡ individual pictureSignature (pictureSignature .complement (setAt (excludedOf s u))) (canonicalBelow s d u)
+          againstTree s t d w u ≡ individual pictureSignature (widened pictureSignature (labelAt t w) (labelAt s u)) (canonicalBelow s d u)
       against-holds g = against-names ∙ rw (within-is ∙ h, excluded-is ∙ g)
 
       pub against-below : q ≡ true → againstTree s t d w u ≡ individual pictureSignature (setAt (wantedOf s u)) (falsifiedBelow s t d w u)
@@ -188,7 +188,7 @@ module _ (t : List ℕ) (d w : ℕ) where
       ≡ pick (wantedWithin t w none)
       (pick (subset (excludedOf t w % 2 ^ nameCount) none)
       (individual pictureSignature (pictureSignature .none) (topBelow t d w))
-      (individual pictureSignature (pictureSignature .complement (pictureSignature .none)) nil))
+      (individual pictureSignature (widened pictureSignature (labelAt t w) (emptyLabel pictureSignature)) nil))
       (individual pictureSignature (pictureSignature .none) nil)
   unfolding againstTop topBelow wantedWithin
   top-names = ap (λ x. countermodel pictureSignature x (top pictureSignature)) (treeOf-node pictureSignature (pictureTable t) d w)
@@ -201,7 +201,7 @@ module _ (t : List ℕ) (d w : ℕ) where
     top-lacks h = top-names ∙ rw (none-is ∙ h)
 
     module _ (h : r ≡ true) (excludes : ℕ) (excludes-is : Read excludes (excludedOf t w)) (q : Bool) (at : q ≡ eqb excludes none) where
-      pub top-holds : q ≡ false → againstTop t d w ≡ individual pictureSignature (pictureSignature .complement (pictureSignature .none)) nil
+      pub top-holds : q ≡ false → againstTop t d w ≡ individual pictureSignature (widened pictureSignature (labelAt t w) (emptyLabel pictureSignature)) nil
       top-holds g = top-names ∙ rw (none-is ∙ h, sym (none-read excludes (excludedOf t w) q excludes-is at) ∙ g)
 
       pub top-below : q ≡ true → againstTop t d w ≡ individual pictureSignature (pictureSignature .none) (topBelow t d w)

@@ -26,6 +26,7 @@ ghost use lib.ListN.{length};
 ghost use Rattle.table.specs.Fields.{kindOf, roleOf};
 ghost use Rattle.table_rows.specs.Rows.{HasRow};
 ghost use Rattle.table.specs.Layout.{kindExists, kindForAll};
+ghost use Rattle.table.specs.NameSet.{complement, intersection, union};
 ghost use Rattle.table.specs.NameValues.{setOf};
 ghost use Rattle.table.specs.Put.{put};
 ghost use Rattle.homomorphism_search.specs.Search.{LinkedTable, Missed, MissedBelow, labelCarried, sameEdge};
@@ -62,6 +63,15 @@ fn wanted_within(second: &[u8], w: usize, has: Names) -> bool
     wants.subset(has)
 }
 
+// The names that hold and those that another row excludes, less those that must not hold.
+fn widened(has: Names, excludes: Names, lacks: Names) -> Names
+    ensures { λ r. ⌜ setOf r ≡ intersection (union (setOf has) (setOf excludes)) (complement (setOf lacks)) ⌝ }
+{
+    let both = has.union(excludes);
+    let allowed = lacks.complement();
+    both.intersection(allowed)
+}
+
 // Individuals of which row w fails and nothing is asked.
 fn write_against_top(
     second: &[u8],
@@ -84,7 +94,7 @@ fn write_against_top(
     }
     let excludes = excluded(second, w);
     if !excludes.is_none() {
-        write_individual(out, k, parent, role, none.complement());
+        write_individual(out, k, parent, role, excludes);
         return k + 1;
     }
     write_individual(out, k, parent, role, none);
@@ -139,7 +149,7 @@ fn write_against(
     let lacks = excluded(first, u);
     let excludes = excluded(second, w);
     if !excludes.subset(lacks) {
-        write_individual(out, k, parent, role, lacks.complement());
+        write_individual(out, k, parent, role, widened(has, excludes, lacks));
         return write_canonical_below(first, n, links, u, depth, k, out, k + 1);
     }
     write_individual(out, k, parent, role, has);

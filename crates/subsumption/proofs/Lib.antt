@@ -2,6 +2,7 @@
 -- what is written is evidence
 pub mod EvidenceBytes
 pub mod Writers
+pub mod Mentioned
 pub mod Lowest
 -- worked cases, computed
 pub mod VerdictCases

@@ -108,10 +108,6 @@ alone = individual 0 0 0 ++ end
 abbrev also : List ℕ → List ℕ
 also others = individual 0 0 0 ++ (others ++ end)
 
--- individual 0 with all names but some of the lowest 8
-abbrev nearlyAll : ℕ → List ℕ
-nearlyAll held = 0x42 ∷ 0 ∷ 11 ∷ 0 ∷ 0 ∷ 0 ∷ 0xFF ∷ 0xFF ∷ 0xFF ∷ 0xFF ∷ 0xFF ∷ 0xFF ∷ 0xFF ∷ held ∷ end
-
 abbrev pub cases : List Case
 cases =
     -- K7, K8
@@ -130,11 +126,12 @@ cases =
     -- below a marked image the same one
     ∷ told impossible (below 2) (Yes 12) (map3 0 0)
     ∷ told noneReached allSome (Yes 12) (map3 1 1)
-    -- a name wanted, excluded; the mark
+    -- a name wanted, excluded; the mark. Of an individual that has an excluded name all wanted ones hold, and none that the first excludes
     ∷ told empty (wanting 32) (No 17) alone
     ∷ told (wanting 8) (wanting 40) (No 17) (individual 0 0 8 ++ end)
-    ∷ told empty (excluding 32) (No 17) (nearlyAll 0xFF)
-    ∷ told (excluding 8) (excluding 32) (No 17) (nearlyAll 0xF7)
+    ∷ told empty (excluding 32) (No 17) (individual 0 0 32 ++ end)
+    ∷ told (wanting 8) (excluding 32) (No 17) (individual 0 0 40 ++ end)
+    ∷ told (excluding 8) (excluding 40) (No 17) (individual 0 0 32 ++ end)
     ∷ told empty impossible (No 17) alone
     -- some: nobody, or not the one wanted, two levels down; what else the first asks is there
     ∷ told empty someReached (No 17) alone

@@ -40,11 +40,11 @@ use Rattle.refutation_writer.proofs.refute.write_realized.Kinds as writ
 use Rattle.refutation_writer.proofs.refute.+write_against+write_against_value+write_falsified+write_reached+write_realized.Lts-write_realized as write-realized-lts
 use Rattle.refutation_writer.proofs.refute.value_row.Reads as value-row-reads
 use Rattle.refutation_writer.proofs.refute.wanted_within.Reads as wanted-within-reads
+use Rattle.refutation_writer.proofs.refute.widened.Reads as widened-reads
 use Rattle.refutation_writer.proofs.refute.write_against_top.Reads as write-against-top-reads
 use Rattle.refutation_writer.proofs.writer.write_canonical.Reads as write-canonical-reads
 use Rattle.refutation_writer.proofs.writer.write_canonical_below.Reads as write-canonical-below-reads
 use Rattle.refutation_writer.proofs.writer.write_individual.Reads as write-individual-reads
-use Rattle.table.proofs.names.Names.complement.Reads as complement-reads
 use Rattle.table.proofs.names.Names.subset.Reads as subset-reads
 use Rattle.table.proofs.number.wide.Reads as wide-reads
 use Rattle.table_rows.proofs.row.excluded.Reads as excluded-reads
@@ -146,7 +146,7 @@ write-realized-below t =
     write-realized.Pre
 
 abbrev write-against-claims : ℕ → write-against-lts.Claims
-write-against-claims t = (wanted-reads.Asked, wanted-reads.Learnt, wanted-within-reads.Asked, wanted-within-reads.Learnt, write-individual-reads.Asked, write-individual-reads.Learnt, write-canonical-below-reads.Asked, write-canonical-below-reads.Learnt, excluded-reads.Asked, excluded-reads.Learnt, subset-reads.Asked, subset-reads.Learnt, complement-reads.Asked, complement-reads.Learnt, write-falsified-below t, write-falsified.Post)
+write-against-claims t = (wanted-reads.Asked, wanted-reads.Learnt, wanted-within-reads.Asked, wanted-within-reads.Learnt, write-individual-reads.Asked, write-individual-reads.Learnt, write-canonical-below-reads.Asked, write-canonical-below-reads.Learnt, excluded-reads.Asked, excluded-reads.Learnt, subset-reads.Asked, subset-reads.Learnt, widened-reads.Asked, widened-reads.Learnt, write-falsified-below t, write-falsified.Post)
 
 abbrev write-against-value-claims : ℕ → write-against-value-lts.Claims
 write-against-value-claims t = (role-reads.Asked, role-reads.Learnt, value-row-reads.Asked, value-row-reads.Learnt, write-against-top-reads.Asked, write-against-top-reads.Learnt, write-against-below t, write-against.Post)
@@ -234,8 +234,8 @@ write-against-excluded-requires-2 t c κs =
 write-against-subset-requires : (t : ℕ) → write-against-lts.Need-subset-requires (write-against-claims t) (write-against-at t) write-against.Post
 write-against-subset-requires t c κs = search needs
 
-write-against-complement-requires : (t : ℕ) → write-against-lts.Need-complement-requires (write-against-claims t) (write-against-at t) write-against.Post
-write-against-complement-requires t c κs = search needs
+write-against-widened-requires : (t : ℕ) → write-against-lts.Need-widened-requires (write-against-claims t) (write-against-at t) write-against.Post
+write-against-widened-requires t c κs = search needs
 
 write-against-write-individual-requires-2 : (t : ℕ) → write-against-lts.Need-write-individual-requires-2 (write-against-claims t) (write-against-at t) write-against.Post
 write-against-write-individual-requires-2 t c κs =
@@ -263,10 +263,10 @@ write-against-write-canonical-below-requires-2 t c κs =
     let excluded = c .before .before .before .before .before .before .before .before .before .excluded in
     let excluded2 = c .before .before .before .before .before .before .before .before .excluded2 in
     let subset = c .before .before .before .before .before .before .before .subset in
-    let complement = c .before .before .before .before .complement in
+    let widened = c .before .before .before .before .widened in
     let one = begun-holds (now (a .first)) (now (a .second)) (a .depth) (a .w) (a .u) (now (a .out)) (a .k) (a .parent) (a .role) (pre .1 .1 .1 .1) (write-individual2 .last .0)
     (setOf (wanted .result)) (wanted .ensures) (wanted-within .result) (wanted-within .ensures) (not-false _ (c .before .before .before .before .before .before .before .before .before .before .if1 .left))
-    (setOf (excluded .result)) (setOf (excluded2 .result)) (excluded .ensures) (excluded2 .ensures) (subset .result) (subset .ensures) (not-true _ (c .before .before .before .before .before .before .if2 .taken)) (setOf (complement .result)) (complement .ensures) (write-individual2 .ensures) in
+    (setOf (excluded .result)) (setOf (excluded2 .result)) (excluded .ensures) (excluded2 .ensures) (subset .result) (subset .ensures) (not-true _ (c .before .before .before .before .before .before .if2 .taken)) (setOf (widened .result)) (widened .ensures) (write-individual2 .ensures) in
     (pre .0, (pre .1 .1 .0 .1, one .room))
 
 write-against-same-length-2 : (t : ℕ) → write-against-lts.Need-same-length-2 (write-against-claims t) (write-against-at t) write-against.Post
@@ -283,11 +283,11 @@ write-against-returns-2 t c =
     let excluded = c .before .before .before .before .before .before .before .before .before .before .before .before .excluded in
     let excluded2 = c .before .before .before .before .before .before .before .before .before .before .before .excluded2 in
     let subset = c .before .before .before .before .before .before .before .before .before .before .subset in
-    let complement = c .before .before .before .before .before .before .before .complement in
+    let widened = c .before .before .before .before .before .before .before .widened in
     let write-canonical-below2 = c .before .before .write-canonical-below2 in
     let one = begun-holds (now (a .first)) (now (a .second)) (a .depth) (a .w) (a .u) (now (a .out)) (a .k) (a .parent) (a .role) (pre .1 .1 .1 .1) (write-individual2 .last .0)
     (setOf (wanted .result)) (wanted .ensures) (wanted-within .result) (wanted-within .ensures) (not-false _ (c .before .before .before .before .before .before .before .before .before .before .before .before .before .if1 .left))
-    (setOf (excluded .result)) (setOf (excluded2 .result)) (excluded .ensures) (excluded2 .ensures) (subset .result) (subset .ensures) (not-true _ (c .before .before .before .before .before .before .before .before .before .if2 .taken)) (setOf (complement .result)) (complement .ensures) (write-individual2 .ensures) in
+    (setOf (excluded .result)) (setOf (excluded2 .result)) (excluded .ensures) (excluded2 .ensures) (subset .result) (subset .ensures) (not-true _ (c .before .before .before .before .before .before .before .before .before .if2 .taken)) (setOf (widened .result)) (widened .ensures) (write-individual2 .ensures) in
     one .written (write-canonical-below2 .result) (write-canonical-below2 .last .1 .1 .1 .1 .1 .1 .0) (write-canonical-below2 .ensures)
 
 write-against-write-individual-requires-3 : (t : ℕ) → write-against-lts.Need-write-individual-requires-3 (write-against-claims t) (write-against-at t) write-against.Post
@@ -789,7 +789,7 @@ pub +write-against+write-against-value+write-falsified+write-reached+write-reali
     (write-against-excluded-requires t)
     (write-against-excluded-requires-2 t)
     (write-against-subset-requires t)
-    (write-against-complement-requires t)
+    (write-against-widened-requires t)
     (write-against-write-individual-requires-2 t)
     (write-against-add-write-canonical-below-2 t)
     (write-against-write-canonical-below-requires-2 t)

@@ -18,7 +18,6 @@ use Rattle.refutation_writer.proofs.refute.write_against_top.Kinds as w
 use Rattle.refutation_writer.proofs.refute.+write_against_top.Lts-write_against_top as write-against-top-lts
 use Rattle.refutation_writer.proofs.refute.wanted_within.Reads as wanted-within-reads
 use Rattle.refutation_writer.proofs.writer.write_individual.Reads as write-individual-reads
-use Rattle.table.proofs.names.Names.complement.Reads as complement-reads
 use Rattle.table.proofs.names.Names.is_none.Reads as is-none-reads
 use Rattle.table.proofs.names.Names.none.Reads as none-reads
 use Rattle.table.proofs.number.wide.Reads as wide-reads
@@ -48,7 +47,7 @@ write-against-top-below t =
     write-against-top.Pre
 
 abbrev write-against-top-claims : ℕ → write-against-top-lts.Claims
-write-against-top-claims t = (none-reads.Asked, none-reads.Learnt, wanted-within-reads.Asked, wanted-within-reads.Learnt, write-individual-reads.Asked, write-individual-reads.Learnt, excluded-reads.Asked, excluded-reads.Learnt, is-none-reads.Asked, is-none-reads.Learnt, complement-reads.Asked, complement-reads.Learnt, wide-reads.Asked, wide-reads.Learnt, kind-reads.Asked, kind-reads.Learnt, role-reads.Asked, role-reads.Learnt, write-against-top-below t, write-against-top.Post)
+write-against-top-claims t = (none-reads.Asked, none-reads.Learnt, wanted-within-reads.Asked, wanted-within-reads.Learnt, write-individual-reads.Asked, write-individual-reads.Learnt, excluded-reads.Asked, excluded-reads.Learnt, is-none-reads.Asked, is-none-reads.Learnt, wide-reads.Asked, wide-reads.Learnt, kind-reads.Asked, kind-reads.Learnt, role-reads.Asked, role-reads.Learnt, write-against-top-below t, write-against-top.Post)
 
 write-against-top-none-requires : (t : ℕ) → write-against-top-lts.Need-none-requires (write-against-top-claims t) (write-against-top-at t) write-against-top.Post
 write-against-top-none-requires t c κs = search needs
@@ -102,19 +101,16 @@ write-against-top-excluded-requires t c κs =
 write-against-top-is-none-requires : (t : ℕ) → write-against-top-lts.Need-is-none-requires (write-against-top-claims t) (write-against-top-at t) write-against-top.Post
 write-against-top-is-none-requires t c κs = search needs
 
-write-against-top-complement-requires : (t : ℕ) → write-against-top-lts.Need-complement-requires (write-against-top-claims t) (write-against-top-at t) write-against-top.Post
-write-against-top-complement-requires t c κs = search needs
-
 write-against-top-write-individual-requires-2 : (t : ℕ) → write-against-top-lts.Need-write-individual-requires-2 (write-against-top-claims t) (write-against-top-at t) write-against-top.Post
 write-against-top-write-individual-requires-2 t c κs =
-    let st = c .before .before .before .before .before .before .before .before .before .before in
+    let st = c .before .before .before .before .before .before .before .before .before in
     let a = st .args in
     let pre = st .pre .1 in
     tree-here (now (a .out)) (a .k) (a .parent) (a .role) (againstTop (now (a .second)) (a .depth) (a .w)) (pre .1 .1)
 
 write-against-top-add-result-2 : (t : ℕ) → write-against-top-lts.Need-add-result-2 (write-against-top-claims t) (write-against-top-at t) write-against-top.Post
 write-against-top-add-result-2 t c =
-    let st = c .before .before .before .before .before .before .before .before .before .before .before .before .before in
+    let st = c .before .before .before .before .before .before .before .before .before .before .before .before in
     let a = st .args in
     let pre = st .pre .1 in
     let room = tree-here (now (a .out)) (a .k) (a .parent) (a .role) (againstTop (now (a .second)) (a .depth) (a .w)) (pre .1 .1) in
@@ -125,21 +121,20 @@ write-against-top-same-length-2 t c = search needs
 
 write-against-top-returns-2 : (t : ℕ) → write-against-top-lts.Need-returns-2 (write-against-top-claims t) (write-against-top-at t) write-against-top.Post
 write-against-top-returns-2 t c =
-    let st = c .before .before .before .before .before .before .before .before .before .before .before .before .before in
+    let st = c .before .before .before .before .before .before .before .before .before .before .before .before in
     let a = st .args in
     let pre = st .pre .1 in
     let second = now (a .second) in
     let out = now (a .out) in
     let write-individual2 = c .before .before .write-individual2 in
-    let none = c .before .before .before .before .before .before .before .before .before .before .none in
-    let wanted-within = c .before .before .before .before .before .before .before .before .before .wanted-within in
-    let excluded = c .before .before .before .before .before .before .before .excluded in
-    let is-none = c .before .before .before .before .before .before .is-none in
-    let complement = c .before .before .before .complement in
+    let none = c .before .before .before .before .before .before .before .before .before .none in
+    let wanted-within = c .before .before .before .before .before .before .before .before .wanted-within in
+    let excluded = c .before .before .before .before .before .before .excluded in
+    let is-none = c .before .before .before .before .before .is-none in
     let one = begun-top-holds second (a .depth) (a .w) out (a .k) (a .parent) (a .role) (pre .1 .1) (write-individual2 .last .0)
-    (setOf (none .result)) (none .ensures) (wanted-within .result) (wanted-within .ensures) (not-false _ (c .before .before .before .before .before .before .before .before .if1 .left))
-    (setOf (excluded .result)) (excluded .ensures) (is-none .result) (is-none .ensures) (not-true _ (c .before .before .before .before .before .if2 .taken))
-    (setOf (complement .result)) (complement .ensures) (write-individual2 .ensures) in
+    (setOf (none .result)) (none .ensures) (wanted-within .result) (wanted-within .ensures) (not-false _ (c .before .before .before .before .before .before .before .if1 .left))
+    (setOf (excluded .result)) (excluded .ensures) (is-none .result) (is-none .ensures) (not-true _ (c .before .before .before .before .if2 .taken))
+    (write-individual2 .ensures) in
     leaf-written out (a .k) (a .parent) (a .role) (againstTop second (a .depth) (a .w)) (write-individual2 .last .0) nil one refl
 
 write-against-top-write-individual-requires-3 : (t : ℕ) → write-against-top-lts.Need-write-individual-requires-3 (write-against-top-claims t) (write-against-top-at t) write-against-top.Post
@@ -340,7 +335,6 @@ pub +write-against-top-spec : {M : Type 1} → statement M
     (write-against-top-returns t)
     (write-against-top-excluded-requires t)
     (write-against-top-is-none-requires t)
-    (write-against-top-complement-requires t)
     (write-against-top-write-individual-requires-2 t)
     (write-against-top-add-result-2 t)
     (write-against-top-same-length-2 t)

@@ -1,0 +1,102 @@
+#!/usr/bin/env python3
+"""Compares the library with FaCT++, a reasoner by other hands, on random books of pictures.
+
+    tests/judge/judge.py SHARED [--books N] [--seed N] [--first N]
+
+SHARED is the shared library. Of each book, all ordered pairs are compared, the most specific cards, the normal tables
+and some common pictures (compare.py). Prints each difference with its pictures and how to run it again, up to ten,
+then a line of counts, and last 'FaCT++ as a judge: P passed, F failed'; exits 1 if F is not 0. A yes tells something
+unless it is of the same picture, of an impossible first one, or of a second one that says nothing: at least a third of
+the yes have to.
+"""
+
+import argparse
+import random
+import signal
+import sys
+import time
+
+sys.dont_write_bytecode = True  # nothing is left in the folder
+
+import compare
+import draw
+import fact
+import known
+from library import Library
+from tally import Tally
+
+ENOUGH_BOOKS = 20  # for the shares to be asked
+TELLING, REFUSED = 1 / 3, 1 / 20  # of the yes, at least; of the pairs and of the common pictures, at most
+
+
+def arguments():
+    parser = argparse.ArgumentParser(description="Compares the library with FaCT++ on random books of pictures.")
+    parser.add_argument("shared", help="the shared library")
+    parser.add_argument("--books", type=int, default=42, help="how many books")
+    parser.add_argument("--seed", type=int, default=1, help="what they are drawn from")
+    parser.add_argument("--first", type=int, default=0, help="number of the first book")
+    return parser.parse_args()
+
+
+def judge_book(tally, library, seed, number, origin):
+    """Draws a book and compares."""
+    rng = random.Random(f"{seed} {number}")
+    book = compare.Book(rng, draw.draw_book(rng, number), library, origin)
+    order = fact.classify(book.classes())
+    compare.compare_pairs(tally, order, book, compare.verdicts(library, book))
+    compare.compare_cases(tally, library, order, book)
+    compare.compare_written(tally, library, rng, order, book)
+
+
+def share(tally, part, whole):
+    return tally.counts[part] / max(1, tally.counts[whole])
+
+
+def judge_shares(tally):
+    """Are the books worth comparing?"""
+    telling, refused = share(tally, "telling", "yes"), share(tally, "refused", "pairs")
+    not_joined = share(tally, "not joined", "joined")
+    tally.check(f"Of the yes {telling:.3f} are not trivial.", {"enough": telling >= TELLING, "ought": True})
+    tally.check(f"Of the pairs {refused:.3f} are refused.", {"few": refused <= REFUSED, "ought": True})
+    tally.check(f"Of the common pictures {not_joined:.3f} are refused.", {"few": not_joined <= REFUSED, "ought": True})
+
+
+def judge(tally, given):
+    library = Library(given.shared)
+    known.compare_spoilt(tally)
+    known.compare_known(tally, library)
+    for number in range(given.first, given.first + given.books):
+        origin = f"SEED={given.seed} FIRST={number} BOOKS=1"
+        try:
+            judge_book(tally, library, given.seed, number, origin)
+        except fact.Unreadable as unreadable:
+            raise fact.Unreadable(f"{unreadable}\nto run it again: make judge {origin}") from unreadable
+    if given.books >= ENOUGH_BOOKS:
+        judge_shares(tally)
+
+
+def summary(tally, books, seconds):
+    """Prints the counts and the last line; gives the number of failures."""
+    counts, failed = tally.counts, len(tally.differences)
+    print(f"{books} books: {counts['pairs']} pairs, {counts['yes']} yes, {counts['telling']} of these not trivial, "
+          f"{counts['refused']} refused; {counts['cases']} cases, {counts['normal']} normal tables, "
+          f"{counts['common']} common pictures; {failed} differ; {seconds:.1f} s")
+    print(f"FaCT++ as a judge: {counts['checks'] - failed} passed, {failed} failed")
+    return failed
+
+
+def main():
+    given = arguments()
+    signal.signal(signal.SIGTERM, lambda *_: sys.exit(1))  # so that FaCT++'s folder is removed then too
+    started = time.monotonic()
+    tally = Tally(shown=10)
+    try:
+        judge(tally, given)
+    except fact.Unreadable as unreadable:
+        print(unreadable)
+        tally.check("FaCT++'s order of the classes.", {"read": False, "ought": True})
+    return summary(tally, given.books, time.monotonic() - started) != 0
+
+
+if __name__ == "__main__":
+    sys.exit(main())

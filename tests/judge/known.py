@@ -1,0 +1,110 @@
+"""What the answer is known of: so that the judge is judged before it judges.
+
+PAIRS are pictures of paper 01 and like them. Each is: what it is about, first and second picture, whether the second
+subsumes the first, and the first the second. Role 8 is r and role 9 is s, as there. SPOILT are taxonomies that must
+not be read.
+"""
+
+import random
+
+import compare
+import fact
+from library import NO, YES
+from picture import Node
+from tally import Tally
+
+R, S = 8, 9
+
+
+def wants(*names):
+    return Node(names)
+
+
+def impossible():
+    return Node(impossible=True)
+
+
+PAIRS = [
+    ("a successor with both names, and one with each (K7)",
+     Node().some(R, wants(3, 5)), Node().some(R, wants(3)).some(R, wants(5)), YES, NO),
+    ("a value restriction holds of a successor (K4)",
+     Node().every(R, wants(3)).some(R, wants(5)), Node().some(R, wants(3, 5)), YES, NO),
+    ("a value restriction passed on says the same (K4)",
+     Node().every(R, wants(3)).some(R, wants(5)), Node().every(R, wants(3)).some(R, wants(3, 5)), YES, YES),
+    ("two value restrictions by one role are one (K3)",
+     Node().every(R, wants(3)).every(R, wants(5)), Node().every(R, wants(3, 5)), YES, YES),
+    ("not so by two roles",
+     Node().every(R, wants(3)).every(S, wants(5)), Node().every(R, wants(3, 5)), NO, NO),
+    ("a contradiction is below everything (K2)",
+     Node([3], [3]), wants(5).some(R, Node([4], [6])), YES, NO),
+    ("what says nothing is above everything (K1)",
+     wants(5).some(R, Node([4], [6])), Node(), YES, NO),
+    ("a value restriction to nothing said says nothing (K5)",
+     Node().every(R, Node()), Node(), YES, YES),
+    ("no successor at all is below any value restriction (K8)",
+     Node().every(R, impossible()), Node().every(R, wants(5)), YES, NO),
+    ("but not below a successor (K8)",
+     Node().every(R, impossible()), Node().some(R, Node()), NO, NO),
+    ("no successor and a successor are a contradiction (K6)",
+     Node().every(R, impossible()).some(R, Node()), impossible(), YES, YES),
+    ("a successor of which nothing is said says something",
+     Node().some(R, Node()), Node(), YES, NO),
+    ("a name that is not mentioned is not excluded",
+     wants(3), Node([3], [5]), NO, YES),
+    ("a value restriction to a successor, passed on (K12)",
+     Node().every(R, Node().some(S, wants(1))).some(R, wants(2)), Node().some(R, wants(2).some(S, wants(1))), YES, NO),
+]
+
+TAXONOMY = f"""{fact.HEADING}
+
+"TOP" {{0:}} {{2: "C0" "n3"}}
+("C0"="C1") {{1: "TOP"}} {{1: "BOTTOM"}}
+"n3" {{1: "TOP"}} {{1: "BOTTOM"}}
+"BOTTOM" {{2: "C0" "n3"}} {{0:}}
+"""
+
+SPOILT = [
+    ("a class is missing", TAXONOMY.replace('("C0"="C1")', '"C0"')),
+    ("a group above is missing", TAXONOMY.replace('"n3" {', '"n4" {')),
+    ("BOTTOM is missing", TAXONOMY.partition('"BOTTOM" {2')[0]),
+    ("a count is wrong", TAXONOMY.replace('{2: "C0" "n3"} {0:}', '{3: "C0" "n3"} {0:}')),
+    ("a line is cut", TAXONOMY.replace('{1: "BOTTOM"}', "{1:")),
+    ("there is no heading", TAXONOMY.replace("entry", "")),
+    ("nothing is there", ""),
+]
+
+
+def is_read(text):
+    try:
+        fact.Order(text, ["C0", "C1"])
+    except fact.Unreadable:
+        return False
+    return True
+
+
+def compare_spoilt(tally):
+    tally.check("A whole taxonomy.", {"is read": is_read(TAXONOMY), "ought": True})
+    for what, text in SPOILT:
+        tally.check(f"A taxonomy where {what}.", {"is read": is_read(text), "ought": False})
+
+
+def noticed(order, book, answers, pair):
+    """The pairs that are found to differ once the answer for this one is turned round."""
+    tally = Tally(shown=0)
+    compare.compare_pairs(tally, order, book, {**answers, pair: YES if answers[pair] == NO else NO})
+    return tally.differences
+
+
+def compare_known(tally, library):
+    """Known answers against those of both; and what is turned round is noticed."""
+    roots = [root for _, first, second, *_ in PAIRS for root in (first, second)]
+    book = compare.Book(random.Random(0), roots, library, "BOOKS=0")
+    order = fact.classify(book.classes())
+    answers = compare.verdicts(library, book)
+    for place, (about, _, _, forth, back) in enumerate(PAIRS):
+        first, second = 2 * place, 2 * place + 1
+        for pair, answer in (((first, second), forth), ((second, first), back)):
+            judged = compare.words(compare.is_below(order, *pair))
+            tally.check(f"Known, {about}:", {"known": answer, **compare.both(answers[pair], judged)}, book, pair)
+            found = noticed(order, book, answers, pair)
+            tally.check("A wrong answer:", {"given": [pair], "noticed": found}, book, pair)
