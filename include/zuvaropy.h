@@ -187,9 +187,9 @@ extern "C" {
 /*
  * The stack that each call takes at most, in bytes: measured on pictures as deep
  * as allowed, with the static library or with a shared one that is bound, and
- * rounded up. This is tested and not proved. The first call through a shared
- * library that is bound lazily takes some 3 KB more, which are the dynamic
- * linker's.
+ * rounded up. This is tested and not proved. When a call is made for the first
+ * time through a shared library that is bound lazily, the dynamic linker takes
+ * some 3 KB before the call begins, which is more than zuvaropy_validate takes.
  */
 #define ZUVAROPY_VALIDATE_STACK_BYTES       512
 #define ZUVAROPY_NORMALIZE_STACK_BYTES      (17 * 1024)

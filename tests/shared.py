@@ -120,7 +120,7 @@ def check_subsumes(library, checks):
         individuals = re.search(r"of (\d+) individual", said)
         wanted = answer(NO, int(individuals[1]) * 14 + 3) if individuals else answer(YES, len(map_file(rows)))
         checks.same(what, word, wanted)
-        if rows:
+        if not individuals:
             checks.same(what + ", map", evidence, padded(map_file(rows), EVIDENCE_BYTES))
         taken, _ = library.call("verify", files + [evidence[: word & 0xFFFFFFFF]], WORK_BYTES)
         checks.same(what + ", checked", taken, answer(word >> 56))
