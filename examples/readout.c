@@ -63,8 +63,8 @@ static void print_evidence(size_t length)
         print_row("\n    ", work + ZUVAROPY_SECOND_TABLE_AT, row);
         print_row(" -> ", work, zuvaropy_map_image(evidence, length, row));
     }
-    for (unsigned int i = 0; i < zuvaropy_refutation_individuals(evidence, length); i++) {
-        const uint8_t *individual = zuvaropy_refutation_individual(evidence, length, i);
+    const uint8_t *individual;
+    for (unsigned int i = 0; (individual = zuvaropy_refutation_individual(evidence, length, i)) != NULL; i++) {
         printf("\n    %u: %s", i, roles[zuvaropy_individual_role(individual)]);
         if (i > 0)
             printf(" of %u", zuvaropy_individual_parent(individual));
@@ -95,8 +95,8 @@ int main(void)
     uint64_t found = zuvaropy_most_specific(the_case, case_len, book, book_len, LENT(work));
     if (refused(found))
         return 1;
-    for (unsigned int i = 0; i < zuvaropy_book_cards(book, book_len); i++) {
-        const uint8_t *one = zuvaropy_book_card(book, book_len, i, &len);
+    const uint8_t *one;
+    for (unsigned int i = 0; (one = zuvaropy_book_card(book, book_len, i, &len)) != NULL; i++) {
         uint64_t word = zuvaropy_subsumes(the_case, case_len, one, len, LENT(work), LENT(evidence));
         uint64_t checked = zuvaropy_verify(the_case, case_len, one, len, evidence, zuvaropy_value(word), LENT(work));
         if (refused(word) || refused(checked))

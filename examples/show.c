@@ -72,7 +72,7 @@ void show_rows(const uint8_t *table, size_t length)
 {
     unsigned int row;
 
-    for (row = 0; row < zuvaropy_table_rows(table, length); row++) {
+    for (row = 0; zuvaropy_table_row(table, length, row) != NULL; row++) {
         printf("  ");
         show_row(table, length, row);
     }
@@ -80,11 +80,10 @@ void show_rows(const uint8_t *table, size_t length)
 
 void show_individuals(const uint8_t *refutation, size_t length)
 {
+    const uint8_t *individual;
     unsigned int number;
 
-    for (number = 0; number < zuvaropy_refutation_individuals(refutation, length); number++) {
-        const uint8_t *individual = zuvaropy_refutation_individual(refutation, length, number);
-
+    for (number = 0; (individual = zuvaropy_refutation_individual(refutation, length, number)) != NULL; number++) {
         printf("  individual %u: ", number);
         if (number == 0)
             printf("root");

@@ -16,18 +16,19 @@
  *
  * It is read row by row, as are books, maps and refutations:
  *
- *   for (row = 0; row < zuvaropy_table_rows(picture, length); row++)
- *       if (zuvaropy_row_wants(zuvaropy_table_row(picture, length, row), 3))
- *           printf("row %u wants name 3\n", row);
+ *   for (number = 0; (row = zuvaropy_table_row(picture, length, number)) != NULL; number++)
+ *       if (zuvaropy_row_wants(row, 3))
+ *           printf("row %u wants name 3\n", number);
  *
  * Rules for all of them:
  *
  *   - Nothing is read or written outside the bytes that are given, whatever they
  *     hold. NULL has no bytes, whatever the length.
- *   - What is not there is NULL or 0: a field behind the last one, one that is cut
- *     off or of another kind, and all behind it; a part of a row or an individual
- *     that is NULL; a name that is not below ZUVAROPY_NAMES. No count is above its
- *     limit in zuvaropy.h.
+ *   - What is not there is NULL or 0: a field that is cut off or of another kind, as
+ *     the end field is; a part of a row or an individual that is NULL; a name that
+ *     is not below ZUVAROPY_NAMES; what is above a limit of zuvaropy.h. Counts go up
+ *     to the first that is not there, and so should a program: rows and individuals
+ *     are found at once, without a look at those before them.
  *   - A writer fails if it cannot write what it is told to: for want of room, at a
  *     row after ZUVAROPY_MAX_ROWS or a card after ZUVAROPY_MAX_CARDS, at a card or a
  *     number that is too large for its field, at a name that is not below
@@ -260,17 +261,25 @@ static inline unsigned int zuvaropy_get_part(const uint8_t *value, size_t at, si
     return value ? zuvaropy_get_number(value + at, count) : 0;
 }
 
+/* The value of a field by its number, where all have so many bytes, or NULL if it has another tag or length. */
+static inline const uint8_t *zuvaropy_field_value(const uint8_t *file, size_t length, unsigned int tag,
+                                                  size_t field_bytes, unsigned int number)
+{
+    const size_t before = number * field_bytes;
+
+    if (!file || length < before || zuvaropy_field_bytes(file + before, length - before, tag) != field_bytes)
+        return ZUVAROPY_NONE;
+    return file + before + ZUVAROPY_HEAD_BYTES;
+}
+
 /* How many fields with this tag and of so many bytes a file begins with, up to a limit. */
 static inline unsigned int zuvaropy_count_fields(const uint8_t *file, size_t length, unsigned int tag,
                                                  size_t field_bytes, unsigned int limit)
 {
     unsigned int count = 0;
 
-    while (count < limit && zuvaropy_field_bytes(file, length, tag) == field_bytes) {
-        file += field_bytes;
-        length -= field_bytes;
+    while (count < limit && zuvaropy_field_value(file, length, tag, field_bytes, count))
         count++;
-    }
     return count;
 }
 
@@ -290,11 +299,9 @@ static inline unsigned int zuvaropy_table_rows(const uint8_t *table, size_t leng
 /* A row, for the functions below, or NULL. */
 static inline const uint8_t *zuvaropy_table_row(const uint8_t *table, size_t length, unsigned int row)
 {
-    const size_t before = row;
-
-    if (row >= zuvaropy_table_rows(table, length))
+    if (row >= ZUVAROPY_MAX_ROWS)
         return ZUVAROPY_NONE;
-    return table + before * ZUVAROPY_ROW_BYTES + ZUVAROPY_HEAD_BYTES;
+    return zuvaropy_field_value(table, length, ZUVAROPY_TAG_ROW, ZUVAROPY_ROW_BYTES, row);
 }
 
 /* The parts of a row. The kind is one of ZUVAROPY_KIND_...; the mark is nonzero if nothing is an instance. */
@@ -358,11 +365,9 @@ static inline unsigned int zuvaropy_refutation_individuals(const uint8_t *refuta
 static inline const uint8_t *zuvaropy_refutation_individual(const uint8_t *refutation, size_t length,
                                                             unsigned int individual)
 {
-    const size_t before = individual;
-
-    if (individual >= zuvaropy_refutation_individuals(refutation, length))
+    if (individual >= ZUVAROPY_MAX_INDIVIDUALS)
         return ZUVAROPY_NONE;
-    return refutation + before * ZUVAROPY_INDIVIDUAL_BYTES + ZUVAROPY_HEAD_BYTES;
+    return zuvaropy_field_value(refutation, length, ZUVAROPY_TAG_INDIVIDUAL, ZUVAROPY_INDIVIDUAL_BYTES, individual);
 }
 
 /* The parts of an individual. The role is the one by which its parent reaches it. */

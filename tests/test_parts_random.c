@@ -31,6 +31,13 @@ static unsigned int fields(const uint8_t *bytes, size_t length, unsigned int tag
     return count;
 }
 
+/* Does a whole field of this tag and length begin at a place? */
+static int is_field(const uint8_t *bytes, size_t length, size_t at, unsigned int tag, size_t value_length)
+{
+    return at + 3 + value_length <= length && bytes[at] == tag &&
+           bytes[at + 1] * 256u + bytes[at + 2] == value_length;
+}
+
 /* Bytes that often are heads of fields, whole or not. */
 static void make_bytes(uint8_t *bytes, size_t length)
 {
@@ -55,9 +62,10 @@ static unsigned int check_bytes(const uint8_t *bytes, size_t length, unsigned in
     const uint8_t *at = pages_place(&pages, bytes, length, last);
 
     CHECK(zuvaropy_table_rows(at, length) == rows);
-    CHECK((zuvaropy_table_row(at, length, number) != NULL) == (number < rows));
+    CHECK((zuvaropy_table_row(at, length, number) != NULL) == is_field(bytes, length, number * 24, 0x10, 21));
     CHECK(zuvaropy_refutation_individuals(at, length) == individuals);
-    CHECK((zuvaropy_refutation_individual(at, length, number) != NULL) == (number < individuals));
+    CHECK((zuvaropy_refutation_individual(at, length, number) != NULL) ==
+          is_field(bytes, length, number * 14, 0x42, 11));
     CHECK(zuvaropy_book_cards(at, length) == (cards < ZUVAROPY_MAX_CARDS ? cards : ZUVAROPY_MAX_CARDS));
     CHECK((zuvaropy_book_card(at, length, number, &card_length) != NULL) == (number < cards));
     CHECK(zuvaropy_map_images(at, length) == (images < ZUVAROPY_MAX_ROWS ? images : ZUVAROPY_MAX_ROWS));
