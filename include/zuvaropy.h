@@ -548,9 +548,10 @@ uint64_t zuvaropy_normalize(const uint8_t *picture, size_t picture_len, uint8_t 
  * The map is the one with the lowest images: from row 0 on, each row is sent to
  * the lowest row that its whole subtree can be sent to below the image of its
  * parent, or, where that image is impossible, to it. Which refutation is
- * written is not laid down. zuvaropy_verify takes the evidence when it is given
- * the same pictures in the same order and as many bytes of result as the value
- * says; its work space may be the same one.
+ * written is not laid down, but no individual of it has a name that neither
+ * picture mentions. zuvaropy_verify takes the evidence when it is given the same
+ * pictures in the same order and as many bytes of result as the value says; its
+ * work space may be the same one.
  *
  * Any bytes of any length may be given as the pictures; the work space and the
  * result buffer may hold anything beforehand. Neither may overlap any other
