@@ -2,7 +2,7 @@
 -- them so: what is made for one role has that role, and roles are taken in turn; tidying only drops some of them.
 --   BeforeAll                        a successor of role r may stand before every successor of a forest
 --   ordered-append, ordered-byRole   forests put together are ordered, where the parts are and may follow each other
---   All-roleParts                    a property of whatever stands for a set of rows is one of every successor made for a role
+--   All-roleParts                    a property of what stands for a set of rows is one of every successor by a role
 --   merged-ordered, tidy-ordered     what merging makes is ordered, and tidying keeps the order
 use Prim.Native.Nat.{_<_, suc, zero, ℕ}
 use lib.Dec.{T}
@@ -59,14 +59,17 @@ module _ (S : Signature) where
 
 module _ (S : Signature) (p : Table S) where
   pub All-roleParts {ℓ} : (P : Kind → ℕ → Tree S → Type ℓ) (h : List ℕ → Tree S) (s : List ℕ) (r : ℕ) →
-      ((k : Kind) (t : List ℕ) → ((i : ℕ) → T (member i t) → i < p .rows) → P k r (h t)) → All S P (roleParts S p h s r)
+      ((k : Kind) (t : List ℕ) → ((i : ℕ) → T (member i t) → i < p .rows) → P k r (h t)) →
+      All S P (roleParts S p h s r)
   All-roleParts P h s r q =
       let a = valueRows S p s r in
       let e = existsRows S p s r in
       let g : ℕ → Tree S = λ c. h (withRow (p .rows) c a) in
-      let inside : (t : ℕ → Bool) (i : ℕ) → T (member i (filterBelow t (p .rows))) → i < p .rows = λ t i m. filterBelow-out t (p .rows) i m .1 in
+      let inside : (t : ℕ → Bool) (i : ℕ) → T (member i (filterBelow t (p .rows))) → i < p .rows =
+      λ t i m. filterBelow-out t (p .rows) i m .1 in
       All-append S P (valuePart S r h a) (existsParts S r g e)
-      (All-valuePart S P r h a (q forAll a (inside _))) (All-existsParts S P r g e (λ c. q exists (withRow (p .rows) c a) (inside _)))
+      (All-valuePart S P r h a (q forAll a (inside _)))
+      (All-existsParts S P r g e (λ c. q exists (withRow (p .rows) c a) (inside _)))
 
   -- what is made for one role is ordered, where what stands for each set is
   module _ (h : List ℕ → Tree S) (ordered : (t : List ℕ) → Ordered S (h t)) (s : List ℕ) where

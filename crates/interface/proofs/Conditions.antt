@@ -3,7 +3,7 @@
 --   condition-1-words    condition 1
 --   condition-2-words    condition 2
 --   condition-3-words    condition 3, the writer's evidence by `writes-taken`
---   refutation-words     which refutation is written
+--   refutation-words     the names in a refutation that is written
 --   normal-words         the normal table
 --   most-specific-words  the nearest cards
 --   conditions-bounded   all of them, at any limits that the code can hold
@@ -305,14 +305,15 @@ module _ (limits : Limits) (bounded : Bounded limits) where
 
   pub refutation-words : (first second : List ℕ) → RefutationWords limits first second
   refutation-words first second = record {
-    mentioned = λ work result h k n.
+    names = λ work result h k n.
         let g = result-shown _ _ _ _ (verdict-answers first second work result) (omega (arith, h)) in
         let (enough, long, pair) = g .passes in
         let fails : Covers limits second first → ⊥ = ⊎-elim (λ (o, c). absurd (omega (arith, h, o))) (λ (o, u). u)
         (g .outcome-is) in
         let is = ap (λ (n : ℕ). take n (subsumesResult limits first second (length work) result)) (g .value-is)
         ∙ g .leaves .result .holds in
-        rw is (evidence-mentions limits first second pair (verdict-fails limits first second bounded pair .1 fails) k n);
+        rw is (evidence-mentions limits first second pair
+        (verdict-fails limits first second bounded pair .1 fails) k n);
   }
 
   -- ---- the normal table

@@ -17,7 +17,7 @@
 --   pictureWritten                        what is written: the result buffer's bytes up to the length reported
 --   Condition2Words                       condition 2
 --   Taken, WritesTaken, Condition3Words   condition 3 (its first sentence in `Conditions`)
---   RefutationWords                       which refutation is written
+--   RefutationWords                       the names in a refutation that is written
 --   NormalWords, MostSpecificWords        the normal table; the nearest cards
 --   PairAt, PlaceWords                    where a refused picture went bad (02, U1)
 --   Conditions, PaperNumbers              all of them; the numbers of paper 01
@@ -44,7 +44,7 @@ use Rattle.countermodel.specs.Individual.{individualNames, refutationForm}
 use Rattle.countermodel.specs.Layout.{individualCount}
 use Rattle.evidence.specs.Form.{mapForm}
 use Rattle.subsumption.specs.Call.{subsumesResult}
-use Rattle.subsumption.specs.Mentions.{Mentions}
+use Rattle.subsumption.specs.Mentions.{Excludes, Wants}
 use Rattle.subsumption.specs.Verdict.{evidenceSize}
 use Rattle.lcs.specs.Call.{lcsResult}
 use Rattle.lcs.specs.Description.{LeastCommon}
@@ -168,13 +168,13 @@ pub record Condition3Words (limits : Limits) (first second : List ℕ) : Type 0 
       WritesTaken limits first second (verdictGiven limits first second work result)
       (evidenceWritten limits first second work result)
 
--- 01: "Only which refutation is written, and so its length, is left to the program". Ours can be read: no individual has
--- a name that neither picture mentions
+-- not of the papers, which leave to the program which refutation is written: an individual has no names but such as the
+-- first picture wants or the second excludes
 pub record RefutationWords (limits : Limits) (first second : List ℕ) : Type 0 where
-  pub mentioned : (work result : List ℕ) → outcome (verdictGiven limits first second work result) ≡ outcomeNo →
+  pub names : (work result : List ℕ) → outcome (verdictGiven limits first second work result) ≡ outcomeNo →
       (k n : ℕ) → k < individualCount (evidenceWritten limits first second work result) →
       has (individualNames (evidenceWritten limits first second work result) k) n ≡ true →
-      Mentions first n ⊎ Mentions second n
+      Wants first n ⊎ Excludes second n
 
 -- 01, "Write its normal table": the bytes written are a picture, and it means the same
 pub record NormalWords (limits : Limits) (picture : List ℕ) : Type 0 where

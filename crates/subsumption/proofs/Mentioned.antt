@@ -1,5 +1,5 @@
--- No individual of the refutation that is written has a name that neither picture mentions: its names are those of the countermodel of the two normal
--- trees, whose names are those of the pictures (ale: `countermodel-named`, `normal-named`).
+-- Each name of an individual of the refutation that is written is one that the first picture wants or the second
+-- excludes: so it is of the countermodel of the two normal trees (ale: `countermodel-named`, `normal-named`).
 --   refutation-mentions   the refutation
 --   evidence-mentions     the evidence, where the verdict is no
 use Prim.Native.Nat.{_<_, ℕ}
@@ -9,55 +9,60 @@ use mathlib.Core.List.{List}
 use mathlib.Core.Logic.{_⊎_, inl, inr}
 use mathlib.Core.Path.{_∙_, _≡_, ap, sym}
 use native.Mathlib.Omega.{arith}
-use Rattle.ale.proofs.CountermodelNames.{Named, WithinLabel, countermodel-named, encoded-named, normal-named}
+use Rattle.ale.proofs.CountermodelNames.{Named, Whatever, countermodel-named, encoded-named, normal-named}
 use Rattle.ale.specs.Countermodel.{countermodel}
 use Rattle.ale.specs.Encoding.{encode}
 use Rattle.ale.specs.PictureSignature.{pictureSignature}
+use Rattle.ale.specs.Tree.{Tree}
 use Rattle.countermodel.proofs.Refutables.{refutationFile-count, written-names}
 use Rattle.countermodel.specs.Individual.{individualNames}
 use Rattle.countermodel.specs.Layout.{individualCount}
 use Rattle.meaning.specs.Meaning.{labelAt, pictureTable}
 use Rattle.meaning.specs.NormalTable.{normalTreeOf}
 use Rattle.picture.proofs.Readables.{readable-some}
-use Rattle.picture.specs.Readable.{Readable, rowCount}
 use Rattle.table.proofs.Bools.{is-true, true-is}
 use Rattle.table.specs.NameSet.{has}
 use Rattle.table.specs.declared.layout.Limits.{Limits}
 use Rattle.workspace.specs.Prepare.{Acceptable}
-use Rattle.subsumption.specs.Mentions.{Mentions}
+use Rattle.subsumption.specs.Mentions.{Excludes, Wants}
 use Rattle.subsumption.specs.Verdict.{evidenceOf, refutationOf, verdictOf}
 
 module _ (limits : Limits) (first second : List ℕ) (pair : Acceptable limits first second) where
   abbrev Either : ℕ → Type 0
-  Either n = Mentions first n ⊎ Mentions second n
+  Either n = Wants first n ⊎ Excludes second n
 
-  -- a row of a picture has no other names than the picture mentions
-  row-named : (s : List ℕ) → ((n : ℕ) → Mentions s n → Either n) → (i : ℕ) → i < rowCount s →
-      WithinLabel pictureSignature Either (labelAt s i)
-  row-named s of i l = (
-    λ n h. of n (i, l, inl (is-true (has (labelAt s i .wanted .set) n) h)),
-    λ n h. of n (i, l, inr (is-true (has (labelAt s i .excluded .set) n) h)),
-  )
+  abbrev Any : ℕ → Type 0
+  Any = Whatever pictureSignature
 
-  picture-named : (s : List ℕ) → Readable limits s → ((n : ℕ) → Mentions s n → Either n) →
-      Named pictureSignature Either (normalTreeOf limits s)
+  first-named : Named pictureSignature Either Any (normalTreeOf limits first)
   unfolding normalTreeOf
-  picture-named s readable of =
-      normal-named pictureSignature Either (pictureTable s) (row-named s of) (readable-some limits s readable) (limits .depth)
+  first-named =
+      normal-named pictureSignature Either Any (pictureTable first)
+      (λ i l. (λ n h. inl (i, l, is-true (has (labelAt first i .wanted .set) n) h), λ n h. tt))
+      (readable-some limits first (pair .first-readable)) (limits .depth)
+
+  second-named : Named pictureSignature Any Either (normalTreeOf limits second)
+  unfolding normalTreeOf
+  second-named =
+      normal-named pictureSignature Any Either (pictureTable second)
+      (λ i l. (λ n h. tt, λ n h. inr (i, l, is-true (has (labelAt second i .excluded .set) n) h)))
+      (readable-some limits second (pair .second-readable)) (limits .depth)
+
+  abbrev b : Tree pictureSignature
+  b = countermodel pictureSignature (normalTreeOf limits second) (normalTreeOf limits first)
 
   pub refutation-mentions : (k n : ℕ) → k < individualCount (refutationOf limits first second) →
-      has (individualNames (refutationOf limits first second) k) n ≡ true → Mentions first n ⊎ Mentions second n
+      has (individualNames (refutationOf limits first second) k) n ≡ true → Wants first n ⊎ Excludes second n
   unfolding refutationOf
   refutation-mentions k n l h =
-      let b = countermodel pictureSignature (normalTreeOf limits second) (normalTreeOf limits first) in
       let named = countermodel-named pictureSignature Either (normalTreeOf limits second) (normalTreeOf limits first)
-      (picture-named second (pair .second-readable) (λ n m. inr m)) (picture-named first (pair .first-readable) (λ n m. inl m)) in
+      second-named first-named in
       let inside : k < length (encode pictureSignature b) = omega (arith, l, refutationFile-count b) in
-      encoded-named pictureSignature Either b named k inside n
+      encoded-named pictureSignature Either Any b named k inside n
       (true-is _ (ap (λ a. has a n) (sym (written-names b k inside)) ∙ h))
 
   pub evidence-mentions : verdictOf limits first second ≡ false → (k n : ℕ) →
       k < individualCount (evidenceOf limits first second) →
-      has (individualNames (evidenceOf limits first second) k) n ≡ true → Mentions first n ⊎ Mentions second n
+      has (individualNames (evidenceOf limits first second) k) n ≡ true → Wants first n ⊎ Excludes second n
   unfolding evidenceOf
   evidence-mentions e = rw e refutation-mentions
