@@ -32,24 +32,26 @@ static uint64_t wanted_verdict(struct inputs *in)
     return (uint64_t)1 << 56 | in->evidence.length;
 }
 
-/* The names that the rows of a picture want or exclude. */
-static uint64_t mentioned(const struct picture *p)
+/* A row with all names that the rows of a picture want, and all that they exclude. */
+static struct row all_names(const struct picture *p)
 {
     static struct row rows[ZUVAROPY_MAX_ROWS];
     const unsigned int count = (unsigned int)(p->length / ZUVAROPY_ROW_BYTES);
-    uint64_t names = 0;
+    struct row all = ROOT(0, 0);
     unsigned int i;
 
     rows_read(rows, p->bytes, count);
-    for (i = 0; i < count; i++)
-        names |= rows[i].wanted | rows[i].excluded;
-    return names;
+    for (i = 0; i < count; i++) {
+        all.wanted |= rows[i].wanted;
+        all.excluded |= rows[i].excluded;
+    }
+    return all;
 }
 
-/* No individual has a name that neither picture mentions. */
+/* Each name of an individual is one that the first picture wants or the second excludes. */
 static void check_names(struct inputs *in)
 {
-    const uint64_t names = mentioned(&in->first) | mentioned(&in->second);
+    const uint64_t names = all_names(&in->first).wanted | all_names(&in->second).excluded;
     uint64_t held = 0;
     unsigned int i;
 
