@@ -81,7 +81,7 @@ demo: library program
 	@sh samples/subsumes.sh build/examples/subsumes build/examples/verify
 	@$(HEADING) 'verify: is this evidence, which somebody else wrote, taken?'
 	@sh samples/verify.sh build/examples/verify
-	@$(HEADING) 'lcs: what two pictures have in common'
+	@$(HEADING) 'lcs: what two or more pictures have in common'
 	@sh samples/lcs.sh build/examples/lcs
 	@$(HEADING) 'most_specific: the most specific cards of a book that subsume a case'
 	@sh samples/most_specific.sh build/examples/most_specific

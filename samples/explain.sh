@@ -1,12 +1,13 @@
 #!/bin/sh
 # Explains which cards of sample books are the most specific ones: sh samples/explain.sh PROGRAM, which is that of
 # examples/explain.c.
-set -eu
-program=$1
+. "$(dirname "$0")/here.sh"
+program=$(program "$1")
+cd "$(dirname "$0")"
 
 explain() {
     printf '%s %s:\n' "$@"
-    "$program" "samples/$1" "samples/$2"
+    "$program" "$1" "$2"
 }
 
 # refused CASE BOOK: the same where one of them is refused, so that the program ends with 1.

@@ -1,14 +1,16 @@
 #!/bin/sh
-# Prints the common pictures of sample pictures: sh samples/lcs.sh PROGRAM, which is that of examples/lcs.c.
-set -eu
-program=$1
+# Prints the common pictures of sample pictures, two or more: sh samples/lcs.sh PROGRAM, which is that of
+# examples/lcs.c.
+. "$(dirname "$0")/here.sh"
+program=$(program "$1")
+cd "$(dirname "$0")"
 
 common() {
-    printf '%s %s: ' "$@"
-    "$program" "samples/$1" "samples/$2"
+    printf '%s: ' "$*"
+    "$program" "$@"
 }
 
-# refused FIRST SECOND: the same where a picture is refused, so that the program ends with 1.
+# refused PICTURE..: the same where a picture is refused, so that the program ends with 1.
 refused() {
     status=0
     common "$@" || status=$?
@@ -19,5 +21,7 @@ common family.pic friend.pic
 common both.pic each.pic
 common family.pic top.pic
 common none.pic both.pic
+common none.pic both.pic each.pic
 refused cut.pic top.pic
 refused top.pic spread.pic
+refused both.pic each.pic spread.pic

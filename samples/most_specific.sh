@@ -1,12 +1,13 @@
 #!/bin/sh
 # Looks sample pictures up in sample books: sh samples/most_specific.sh PROGRAM, which is that of
 # examples/most_specific.c.
-set -eu
-program=$1
+. "$(dirname "$0")/here.sh"
+program=$(program "$1")
+cd "$(dirname "$0")"
 
 look() {
     printf '%s %s: ' "$@"
-    "$program" "samples/$1" "samples/$2"
+    "$program" "$1" "$2"
 }
 
 # refused CASE BOOK: the same where one of them is refused, so that the program ends with 1.

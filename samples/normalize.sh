@@ -1,7 +1,9 @@
 #!/bin/sh
 # Prints the normal tables of the sample pictures: sh samples/normalize.sh PROGRAM, which is that of
 # examples/normalize.c. Some of them are refused, so that it ends with 1.
-set -eu
+. "$(dirname "$0")/here.sh"
+program=$(program "$1")
+cd "$(dirname "$0")"
 status=0
-"$1" samples/*.pic || status=$?
+"$program" *.pic || status=$?
 [ "$status" -eq 1 ]

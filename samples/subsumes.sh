@@ -1,23 +1,24 @@
 #!/bin/sh
 # Asks of sample pictures whether the second subsumes the first, and has the evidence checked:
 # sh samples/subsumes.sh SUBSUMES VERIFY, which are the programs of examples/.
-set -eu
-subsumes=$1
-verify=$2
+. "$(dirname "$0")/here.sh"
+subsumes=$(program "$1")
+verify=$(program "$2")
+cd "$(dirname "$0")"
 evidence=$(mktemp)
 trap 'rm -f "$evidence"' EXIT
 
 # ask CASE CARD
 ask() {
     printf '%s %s: ' "$@"
-    "$subsumes" "samples/$1" "samples/$2" "$evidence"
+    "$subsumes" "$1" "$2" "$evidence"
 }
 
 # checked CASE CARD
 checked() {
     ask "$@"
     printf '  checked: '
-    "$verify" "samples/$1" "samples/$2" "$evidence"
+    "$verify" "$1" "$2" "$evidence"
 }
 
 # refused CASE CARD: one of them is refused, so that the program ends with 1 and there is no evidence.

@@ -1,13 +1,14 @@
 #!/bin/sh
 # Runs the verdict program on sample pictures: sh samples/verdict.sh PROGRAM.
-set -eu
-program=$(cd "$(dirname "$1")" && pwd)/$(basename "$1")
+. "$(dirname "$0")/here.sh"
+program=$(program "$1")
+cd "$(dirname "$0")"
 folder=$(mktemp -d)
 trap 'rm -rf "$folder"' EXIT
 
 verdict() {
-    cp "samples/$1" "$folder/first.pic"
-    cp "samples/$2" "$folder/second.pic"
+    cp "$1" "$folder/first.pic"
+    cp "$2" "$folder/second.pic"
     printf '%s %s: ' "$@"
     (cd "$folder" && "$program")
 }

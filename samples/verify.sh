@@ -1,11 +1,12 @@
 #!/bin/sh
 # Checks the sample evidence: sh samples/verify.sh PROGRAM, which is that of examples/verify.c.
-set -eu
-program=$1
+. "$(dirname "$0")/here.sh"
+program=$(program "$1")
+cd "$(dirname "$0")"
 
 verify() {
     printf '%s %s %s: ' "$@"
-    "$program" "samples/$1" "samples/$2" "samples/$3"
+    "$program" "$1" "$2" "$3"
 }
 
 # refused CASE CARD EVIDENCE: the same where one of them is refused, so that the program ends with 1.
