@@ -165,6 +165,7 @@ DATE := $(shell sed -n 's/^.. $(VERSION) (\(.*\))$$/\1/p' CHANGELOG.md)
 below_prefix = $(patsubst $(PREFIX)/%,$${prefix}/%,$(1))
 fill = sed -e 's|@PREFIX@|$(PREFIX)|' -e 's|@INCLUDEDIR@|$(call below_prefix,$(INCLUDEDIR))|' \
     -e 's|@LIBDIR@|$(call below_prefix,$(LIBDIR))|' -e 's|@VERSION@|$(VERSION)|' -e 's|@DATE@|$(DATE)|' \
+    -e 's|@PKGCONFIGDIR@|$(PKGCONFIGDIR)|' -e 's|@MANDIR@|$(MANDIR)|' -e 's|@DOCDIR@|$(DOCDIR)|' \
     -e 's|@EXAMPLES@|$(EXAMPLES)|' -e 's|@EXAMPLE_PARTS@|$(notdir $(EXAMPLE_PARTS))|'
 
 HEADERS = zuvaropy.h zuvaropy_parts.h
@@ -197,7 +198,8 @@ install: $(LIBRARY) $(PROGRAM) shared
 	$(call fill_in,docs/zuvaropy.5,$(MANDIR)/man5/zuvaropy.5)
 	$(call fill_in,docs/zuvaropy-verdict.1,$(MANDIR)/man1/zuvaropy-verdict.1)
 	$(INSTALL) -m 755 $(PROGRAM) $(call installed,$(BINDIR)/zuvaropy-verdict)
-	$(INSTALL) -m 644 README.md CHANGELOG.md $(call installed,$(DOCDIR))
+	$(call fill_in,package/README.md,$(DOCDIR)/README.md)
+	$(INSTALL) -m 644 CHANGELOG.md $(call installed,$(DOCDIR))
 	$(INSTALL) -m 644 $(EXAMPLE_FILES) $(call installed,$(DOCDIR)/examples)
 	$(call fill_in,package/examples.mk.in,$(DOCDIR)/examples/Makefile)
 	$(INSTALL) -m 644 $(SAMPLE_FILES) $(call installed,$(DOCDIR)/samples)

@@ -1,6 +1,6 @@
 #!/bin/sh
 # Installs what was built into folders of its own, links a program as pkg-config says and runs it, builds the installed
-# examples, runs the example of the verdict program's page, and uninstalls.
+# examples, runs the commands of the installed README and the example of the verdict program's page, and uninstalls.
 #
 #   sh tests/install.sh ARCHIVE PROGRAM SHARED
 #
@@ -28,7 +28,9 @@ date=$(sed -n "s/^## $version (\(.*\))$/\1/p" CHANGELOG.md)
 # Installing proves nothing: this is the rt that would be called.
 mkdir "$room/tools"
 printf '#!/bin/sh\n: >"%s/proved"\n' "$room" >"$room/tools/rt"
-chmod +x "$room/tools/rt"
+# The documents call the compiler cc.
+[ "$cc" = cc ] || printf '#!/bin/sh\nexec %s "$@"\n' "$cc" >"$room/tools/cc"
+chmod +x "$room/tools"/*
 
 # packaged GOAL VARIABLE..: without the flags of the make that runs the tests.
 packaged() {
@@ -71,15 +73,16 @@ same() {
     done
 }
 
-# filled PAGE INSTALLED: with version and date.
+# filled SOURCE INSTALLED: with version, date and folders.
 filled() {
-    sed "s/@VERSION@/$version/; s/@DATE@/$date/" "docs/$1" | cmp - "$root$man/$2"
+    sed "s/@VERSION@/$version/; s/@DATE@/$date/; s|@PKGCONFIGDIR@|$lib/pkgconfig|; s|@MANDIR@|$man|; s|@DOCDIR@|$doc|" \
+        "$1" | cmp - "$root$2"
 }
 
 # They are what was built, and links lead to it.
 copied() {
     cmp "$program" "$root$bin/zuvaropy-verdict" && cmp "$archive" "$root$lib/libzuvaropy.a" &&
-        same "$include" include/*.h && same "$doc" README.md CHANGELOG.md &&
+        same "$include" include/*.h && same "$doc" CHANGELOG.md && filled package/README.md "$doc/README.md" &&
         same "$doc/examples" examples/*.[ch] && same "$doc/samples" samples/* &&
         for name in libzuvaropy.so "$soname" "libzuvaropy.so.$version"; do
             cmp "$shared/libzuvaropy.so.$version" "$root$lib/$name" || return
@@ -88,15 +91,17 @@ copied() {
 
 # So are the pages, by every name.
 paged() {
-    [ -n "$date" ] && filled zuvaropy.5 man5/zuvaropy.5 && filled zuvaropy-verdict.1 man1/zuvaropy-verdict.1 &&
+    [ -n "$date" ] && filled docs/zuvaropy.5 "$man/man5/zuvaropy.5" &&
+        filled docs/zuvaropy-verdict.1 "$man/man1/zuvaropy-verdict.1" &&
         for page in $(pages); do
-            filled zuvaropy.3 "man3/$page.3" || return
+            filled docs/zuvaropy.3 "$man/man3/$page.3" || return
         done
 }
 
 # Of what was filled in nothing is left to fill in.
 whole_text() {
-    ! grep '@[A-Z_]*@' "$root$lib/pkgconfig/zuvaropy.pc" "$root$doc/examples/Makefile" "$root$man"/man*/*
+    ! grep '@[A-Z_]*@' "$root$lib/pkgconfig/zuvaropy.pc" "$root$doc/README.md" "$root$doc/examples/Makefile" \
+        "$root$man"/man*/*
 }
 
 # asked OPTION..: what pkg-config says.
@@ -133,13 +138,50 @@ linked_shared() {
     linked && mkdir -p "$room/loaded" && cp "$root$lib/$soname" "$room/loaded" && prints "$room/loaded"
 }
 
-# The examples build in an empty folder as their Makefile says, and one prints of the installed samples what it should.
+# The examples build in an empty folder as their Makefile says, and one prints there of the installed samples what it
+# should.
 examples() {
     rm -rf "$room/examples" && mkdir "$room/examples" &&
         (cd "$room/examples" && PKG_CONFIG_SYSROOT_DIR=$root PKG_CONFIG_LIBDIR=$root$lib/pkgconfig MAKEFLAGS='' \
             make -s CC="$cc" -f "$root$doc/examples/Makefile") &&
-        (cd "$root$doc" && LD_LIBRARY_PATH=$root$lib sh samples/validate.sh "$room/examples/validate") \
+        (cd "$room/examples" && LD_LIBRARY_PATH=$root$lib sh "$root$doc/samples/validate.sh" validate) \
             >"$room/printed" && diff samples/validate.stdout "$room/printed"
+}
+
+# The verdict program is run on the samples by its name.
+by_name() {
+    (cd "$room" && PATH=$root$bin:$PATH sh "$root$doc/samples/verdict.sh" zuvaropy-verdict) >"$room/printed" &&
+        diff samples/verdict.stdout "$room/printed"
+}
+
+# typed: the commands of the installed README, and an empty folder for them, but for a program to compile.
+typed() {
+    rm -rf "$room/typed" && mkdir "$room/typed" && cp examples/readout.c "$room/typed/program.c" &&
+        sed -n 's/^    //p' "$root$doc/README.md" >"$room/commands"
+}
+
+# Each of its three ways to compile gives a program that runs; only of the first the library's folder has to be told.
+readme_compiles() {
+    typed && grep '^export ' "$room/commands" >"$room/exported" && grep '^cc ' "$room/commands" >"$room/compiled" &&
+        [ "$(wc -l <"$room/compiled")" -eq 3 ] || return
+    told=$lib
+    while read -r command; do
+        (cd "$room/typed" && . "$room/exported" && PATH=$room/tools:$PATH && eval "$command" &&
+            LD_LIBRARY_PATH=$told ./program) >"$room/printed" && diff samples/readout.stdout "$room/printed" || return
+        told=
+    done <"$room/compiled"
+}
+
+# All of them can be typed as they stand, one after the other.
+readme_runs() {
+    typed && (cd "$room/typed" && PATH=$room/tools:$PATH MAKEFLAGS=s sh -e "$room/commands") >"$room/printed" &&
+        cat samples/readout.stdout samples/lcs.stdout | diff - "$room/printed"
+}
+
+# Where there is nothing in front of the folders, the README's commands find them.
+readme() {
+    check "install $*: README compiles" readme_compiles
+    check "install $*: README runs" readme_runs
 }
 
 # The example of the verdict program's page: its lines after a prompt, run on the samples, print its other lines.
@@ -166,6 +208,7 @@ whole() {
     check "install $*: filled in" whole_text
     check "install $*: verdict" session
     check "install $*: verdict ends" ends_well
+    check "install $*: verdict by its name" by_name
     if command -v pkg-config >/dev/null; then
         check "install $*: version" says "$version" --modversion
         check "install $*: cflags" says "-I$root$include" --cflags
@@ -173,6 +216,7 @@ whole() {
         check "install $*: static" linked_static
         check "install $*: shared" linked_shared
         check "install $*: examples" examples
+        [ -n "$root" ] || readme "$@"
     else
         echo "install $*: not linked, no pkg-config"
     fi
