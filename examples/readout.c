@@ -4,40 +4,36 @@
 #include <stdio.h>
 
 enum { ROOT = ZUVAROPY_KIND_ROOT, SOME = ZUVAROPY_KIND_EXISTS, ALL = ZUVAROPY_KIND_FORALL };
-enum { VEHICLE, LOOP, CLIP, CONNECTOR }; /* roles; 0 is the root's */
+enum { VEHICLE, LOOP, CLIP, CONNECTOR }; /* roles; a root has role 0 */
 enum { BELT_FAULT = 1, FIRING = 2, OPEN = 4, CORRODED = 8, SEATED = 16, NAMES = 5 }; /* name n is 2^n: sets are sums */
 static const char *const kinds[] = {"", "some ", "all "}, *const roles[] = {"vehicle", "loop", "clip", "connector"};
 static const char *const names[NAMES] = {"belt fault", "firing", "open", "corroded", "seated"};
 
-/* A vehicle or a part of one: how it belongs to the one above, names that it has, that it has not, and its parts. */
-struct part { unsigned int kind, role, wanted, excluded; const struct part *parts; };
-#define PARTS(...) (const struct part[]){__VA_ARGS__, {ROOT, 0, 0, 0, NULL}} /* a root ends the list */
-static const struct part vehicle = {ROOT, VEHICLE, BELT_FAULT, 0, PARTS({SOME, CLIP, 0, 0, NULL},
-    {ALL, CLIP, SEATED, 0, NULL}, {SOME, LOOP, FIRING | OPEN, 0, PARTS({SOME, CONNECTOR, CORRODED, 0, NULL})})};
-static const struct part cards[] = {{ROOT, VEHICLE, 0, 0, PARTS({SOME, LOOP, OPEN, 0, NULL})},
-    {ROOT, VEHICLE, BELT_FAULT, 0, PARTS({SOME, LOOP, OPEN, 0, PARTS({SOME, CONNECTOR, CORRODED, 0, NULL})})},
-    {ROOT, VEHICLE, 0, 0, PARTS({SOME, CLIP, 0, SEATED, NULL})}};
+/* A row of a picture. The first is the vehicle; the others are parts, each of an earlier row. */
+struct row { unsigned int parent, kind, role, wanted, excluded; };
+static const struct row vehicle[] = {{0, ROOT, VEHICLE, BELT_FAULT, 0}, {0, SOME, CLIP, 0, 0},
+    {0, ALL, CLIP, SEATED, 0}, {0, SOME, LOOP, FIRING | OPEN, 0}, {3, SOME, CONNECTOR, CORRODED, 0}};
+static const struct row open_loop[] = {{0, ROOT, VEHICLE, 0, 0}, {0, SOME, LOOP, OPEN, 0}};
+static const struct row bad_connector[] = {{0, ROOT, VEHICLE, BELT_FAULT, 0}, {0, SOME, LOOP, OPEN, 0},
+    {1, SOME, CONNECTOR, CORRODED, 0}};
+static const struct row loose_clip[] = {{0, ROOT, VEHICLE, 0, 0}, {0, SOME, CLIP, 0, SEATED}};
 static uint8_t the_case[ZUVAROPY_MAX_PICTURE_BYTES], card[ZUVAROPY_MAX_PICTURE_BYTES], book[ZUVAROPY_MAX_BOOK_BYTES];
 static uint8_t work[ZUVAROPY_WORK_BYTES], evidence[ZUVAROPY_MAX_EVIDENCE_BYTES];
 #define LENT(buffer) buffer, sizeof buffer
+#define ROWS(list) list, sizeof list / sizeof list[0]
 
-static void write_part(struct zuvaropy_writer *writer, unsigned int parent, const struct part *part)
-{
-    const unsigned int row = zuvaropy_write_row(writer, parent, part->kind, part->role);
-    for (unsigned int name = 0; name < NAMES; name++) {
-        if (part->wanted >> name & 1)
-            zuvaropy_write_wanted(writer, row, name);
-        if (part->excluded >> name & 1)
-            zuvaropy_write_excluded(writer, row, name);
-    }
-    for (const struct part *below = part->parts; below != NULL && below->kind != ROOT; below++)
-        write_part(writer, row, below);
-}
-
-static size_t write_picture(uint8_t *picture, const struct part *root)
+static size_t write_picture(uint8_t *picture, const struct row *rows, size_t count)
 {
     struct zuvaropy_writer writer = zuvaropy_write_to(picture, ZUVAROPY_MAX_PICTURE_BYTES);
-    write_part(&writer, 0, root);
+    for (unsigned int i = 0; i < count; i++) {
+        zuvaropy_write_row(&writer, rows[i].parent, rows[i].kind, rows[i].role);
+        for (unsigned int name = 0; name < NAMES; name++) {
+            if (rows[i].wanted >> name & 1)
+                zuvaropy_write_wanted(&writer, i, name);
+            if (rows[i].excluded >> name & 1)
+                zuvaropy_write_excluded(&writer, i, name);
+        }
+    }
     return zuvaropy_write_end(&writer);
 }
 
@@ -54,6 +50,7 @@ static void print_row(const char *before, const uint8_t *table, unsigned int num
     printf("%s%s%s", before, kinds[zuvaropy_row_kind(row)], roles[zuvaropy_row_role(row)]);
     print_names(", ", row + ZUVAROPY_WANTED_AT);
     print_names(", not ", row + ZUVAROPY_EXCLUDED_AT);
+    printf("%s", zuvaropy_row_impossible(row) ? ", impossible" : "");
 }
 
 /* Of a map each row of the card and the row of the case that it goes to; of a refutation its individuals. */
@@ -89,9 +86,12 @@ static int refused(uint64_t word)
 int main(void)
 {
     struct zuvaropy_writer writer = zuvaropy_write_to(LENT(book));
-    for (unsigned int i = 0; i < sizeof cards / sizeof cards[0]; i++)
-        zuvaropy_write_card(&writer, card, write_picture(card, &cards[i]));
-    size_t len, case_len = write_picture(the_case, &vehicle), book_len = zuvaropy_write_end(&writer);
+    zuvaropy_write_card(&writer, card, write_picture(card, ROWS(open_loop)));
+    zuvaropy_write_card(&writer, card, write_picture(card, ROWS(bad_connector)));
+    zuvaropy_write_card(&writer, card, write_picture(card, ROWS(loose_clip)));
+    size_t len, case_len = write_picture(the_case, ROWS(vehicle)), book_len = zuvaropy_write_end(&writer);
+    if (case_len == 0 || book_len == 0)
+        return printf("a picture or the book cannot be written\n"), 1;
     uint64_t found = zuvaropy_most_specific(the_case, case_len, book, book_len, LENT(work));
     if (refused(found))
         return 1;
@@ -105,6 +105,6 @@ int main(void)
         printf(" the vehicle%s", zuvaropy_value(found) >> i & 1 ? ", as a most specific card" : "");
         print_evidence(zuvaropy_value(word));
     }
-    book[ZUVAROPY_CARD_BYTES(ZUVAROPY_ROW_BYTES) + ZUVAROPY_HEAD_BYTES + ZUVAROPY_ROLE_AT] = 99; /* there is no such */
+    book[ZUVAROPY_CARD_BYTES(ZUVAROPY_ROW_BYTES) + ZUVAROPY_HEAD_BYTES + ZUVAROPY_ROLE_AT] = 99; /* row 1 of card 0 */
     return !refused(zuvaropy_most_specific(the_case, case_len, book, book_len, LENT(work)));
 }

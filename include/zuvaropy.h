@@ -11,7 +11,7 @@
  * any time, on buffers that no other thread writes meanwhile.
  *
  * A buffer is a pointer and a length in bytes, and has as many bytes as its
- * length says. The pointer may be NULL where the length is 0. A buffer lent for
+ * length says, but a NULL pointer has none whatever the length. A buffer lent for
  * writing overlaps no other buffer of its call.
  *
  * Every call's word and every byte that it writes are proved, for every input.
@@ -454,8 +454,8 @@ static inline const char *zuvaropy_input_text(unsigned int input)
  * Calls
  *
  * Each word says whether there is a result at all: a call whose word is dropped
- * is warned about, by compilers that can. NULL is taken where the length is 0: see
- * the end of this header.
+ * is warned about, by compilers that can (gcc does not if this header is in one of
+ * its system folders). What becomes of NULL: see the end of this header.
  */
 
 #ifdef __GNUC__
@@ -548,10 +548,13 @@ uint64_t zuvaropy_normalize(const uint8_t *picture, size_t picture_len, uint8_t 
  * The map is the one with the lowest images: from row 0 on, each row is sent to
  * the lowest row that its whole subtree can be sent to below the image of its
  * parent, or, where that image is impossible, to it. Which refutation is
- * written is not laid down, but no individual of it has a name that neither
- * picture mentions. zuvaropy_verify takes the evidence when it is given the same
- * pictures in the same order and as many bytes of result as the value says; its
- * work space may be the same one.
+ * written is not laid down, but each name of an individual is one that the first
+ * picture wants or the second excludes. zuvaropy_verify takes the evidence when it
+ * is given the same pictures in the same order and as many bytes of result as the
+ * value says; its work space may be the same one.
+ *
+ * Of a first picture that contradicts itself nothing is an instance, and every
+ * picture subsumes it. Row 0 of its normal table is marked impossible.
  *
  * Any bytes of any length may be given as the pictures; the work space and the
  * result buffer may hold anything beforehand. Neither may overlap any other
@@ -691,7 +694,9 @@ uint64_t zuvaropy_verify(const uint8_t *first, size_t first_len, const uint8_t *
  * instances subsume each other, also where their bytes differ, and of these all
  * are found or none. To learn which of the cards that are found have the same
  * instances, ask zuvaropy_subsumes of each two, in either order: it says yes
- * exactly when they have.
+ * exactly when they have. Of a case that contradicts itself nothing is an instance,
+ * and every card subsumes it: row 0 of its normal table, which zuvaropy_subsumes
+ * leaves in the work space, is marked impossible.
  *
  * Reads:   case_picture, at most case_picture_len bytes; book, at most book_len
  *          bytes.
@@ -733,12 +738,13 @@ uint64_t zuvaropy_most_specific(const uint8_t *case_picture, size_t case_picture
                                 size_t book_len, uint8_t *work, size_t work_len);
 
 /*
- * NULL where the length is 0
+ * NULL
  *
  * The library's functions want a pointer that is not NULL even where the length is
  * 0. So each call is also a macro of the same name for an inline function that
- * puts another pointer in the place of NULL, and hands on any other. The library's
- * function itself is reached by its address or as (zuvaropy_validate)(..).
+ * makes of NULL, whatever the length, a buffer without bytes, and hands on any
+ * other. The library's function itself is reached by its address or as
+ * (zuvaropy_validate)(..).
  */
 
 /* The pointer itself, or one to a byte that is never read where it is NULL. */
@@ -755,10 +761,16 @@ static inline uint8_t *zuvaropy_lent_writable(uint8_t *buffer)
     return buffer ? buffer : &unwritten;
 }
 
+/* The length of a buffer: NULL has no bytes. */
+static inline size_t zuvaropy_lent_length(const uint8_t *buffer, size_t length)
+{
+    return buffer ? length : 0;
+}
+
 ZUVAROPY_MUST_USE
 static inline uint64_t zuvaropy_validate_lent(const uint8_t *picture, size_t picture_len)
 {
-    return zuvaropy_validate(zuvaropy_lent(picture), picture_len);
+    return zuvaropy_validate(zuvaropy_lent(picture), zuvaropy_lent_length(picture, picture_len));
 }
 #define zuvaropy_validate(...) zuvaropy_validate_lent(__VA_ARGS__)
 
@@ -766,7 +778,8 @@ ZUVAROPY_MUST_USE
 static inline uint64_t zuvaropy_normalize_lent(const uint8_t *picture, size_t picture_len, uint8_t *result,
                                                size_t result_len)
 {
-    return zuvaropy_normalize(zuvaropy_lent(picture), picture_len, zuvaropy_lent_writable(result), result_len);
+    return zuvaropy_normalize(zuvaropy_lent(picture), zuvaropy_lent_length(picture, picture_len),
+                              zuvaropy_lent_writable(result), zuvaropy_lent_length(result, result_len));
 }
 #define zuvaropy_normalize(...) zuvaropy_normalize_lent(__VA_ARGS__)
 
@@ -775,8 +788,10 @@ static inline uint64_t zuvaropy_subsumes_lent(const uint8_t *first, size_t first
                                               size_t second_len, uint8_t *work, size_t work_len, uint8_t *result,
                                               size_t result_len)
 {
-    return zuvaropy_subsumes(zuvaropy_lent(first), first_len, zuvaropy_lent(second), second_len,
-                             zuvaropy_lent_writable(work), work_len, zuvaropy_lent_writable(result), result_len);
+    return zuvaropy_subsumes(zuvaropy_lent(first), zuvaropy_lent_length(first, first_len),
+                             zuvaropy_lent(second), zuvaropy_lent_length(second, second_len),
+                             zuvaropy_lent_writable(work), zuvaropy_lent_length(work, work_len),
+                             zuvaropy_lent_writable(result), zuvaropy_lent_length(result, result_len));
 }
 #define zuvaropy_subsumes(...) zuvaropy_subsumes_lent(__VA_ARGS__)
 
@@ -785,8 +800,10 @@ static inline uint64_t zuvaropy_lcs_lent(const uint8_t *first, size_t first_len,
                                          size_t second_len, uint8_t *work, size_t work_len, uint8_t *result,
                                          size_t result_len)
 {
-    return zuvaropy_lcs(zuvaropy_lent(first), first_len, zuvaropy_lent(second), second_len,
-                        zuvaropy_lent_writable(work), work_len, zuvaropy_lent_writable(result), result_len);
+    return zuvaropy_lcs(zuvaropy_lent(first), zuvaropy_lent_length(first, first_len),
+                        zuvaropy_lent(second), zuvaropy_lent_length(second, second_len),
+                        zuvaropy_lent_writable(work), zuvaropy_lent_length(work, work_len),
+                        zuvaropy_lent_writable(result), zuvaropy_lent_length(result, result_len));
 }
 #define zuvaropy_lcs(...) zuvaropy_lcs_lent(__VA_ARGS__)
 
@@ -795,8 +812,10 @@ static inline uint64_t zuvaropy_verify_lent(const uint8_t *first, size_t first_l
                                             size_t second_len, const uint8_t *evidence, size_t evidence_len,
                                             uint8_t *work, size_t work_len)
 {
-    return zuvaropy_verify(zuvaropy_lent(first), first_len, zuvaropy_lent(second), second_len, zuvaropy_lent(evidence),
-                           evidence_len, zuvaropy_lent_writable(work), work_len);
+    return zuvaropy_verify(zuvaropy_lent(first), zuvaropy_lent_length(first, first_len),
+                           zuvaropy_lent(second), zuvaropy_lent_length(second, second_len),
+                           zuvaropy_lent(evidence), zuvaropy_lent_length(evidence, evidence_len),
+                           zuvaropy_lent_writable(work), zuvaropy_lent_length(work, work_len));
 }
 #define zuvaropy_verify(...) zuvaropy_verify_lent(__VA_ARGS__)
 
@@ -804,8 +823,9 @@ ZUVAROPY_MUST_USE
 static inline uint64_t zuvaropy_most_specific_lent(const uint8_t *case_picture, size_t case_picture_len,
                                                    const uint8_t *book, size_t book_len, uint8_t *work, size_t work_len)
 {
-    return zuvaropy_most_specific(zuvaropy_lent(case_picture), case_picture_len, zuvaropy_lent(book), book_len,
-                                  zuvaropy_lent_writable(work), work_len);
+    return zuvaropy_most_specific(zuvaropy_lent(case_picture), zuvaropy_lent_length(case_picture, case_picture_len),
+                                  zuvaropy_lent(book), zuvaropy_lent_length(book, book_len),
+                                  zuvaropy_lent_writable(work), zuvaropy_lent_length(work, work_len));
 }
 #define zuvaropy_most_specific(...) zuvaropy_most_specific_lent(__VA_ARGS__)
 

@@ -23,20 +23,25 @@
  * Rules for all of them:
  *
  *   - Nothing is read or written outside the bytes that are given, whatever they
- *     hold. NULL has no bytes, whatever the length.
+ *     hold. NULL has no bytes, whatever the length. A writer is one that
+ *     zuvaropy_write_to made, a row what zuvaropy_table_row gave, and an individual
+ *     what zuvaropy_refutation_individual gave, or NULL.
  *   - What is not there is NULL or 0: a field that is cut off or of another kind, as
  *     the end field is; a part of a row or an individual that is NULL; a name that
  *     is not below ZUVAROPY_NAMES; what is above a limit of zuvaropy.h. Counts go up
  *     to the first that is not there, and so should a program: rows and individuals
  *     are found at once, without a look at those before them.
  *   - A writer fails if it cannot write what it is told to: for want of room, at a
- *     row after ZUVAROPY_MAX_ROWS or a card after ZUVAROPY_MAX_CARDS, at a card or a
- *     number that is too large for its field, at a name that is not below
- *     ZUVAROPY_NAMES, at names of a row that is not there, at a row in a book or a
- *     card in a picture, and at anything after the end. Then, and from then on,
- *     nothing is written, and zuvaropy_write_end gives 0: it is enough to look there.
+ *     row after ZUVAROPY_MAX_ROWS or a card after ZUVAROPY_MAX_CARDS, at a card
+ *     without bytes, as is given for a picture that failed, at a card or a number
+ *     that is too large for its field, at a name that is not below ZUVAROPY_NAMES,
+ *     at names of a row that is not there, at a row in a book or a card in a
+ *     picture, and at anything after the end. Then, and from then on, nothing is
+ *     written, and zuvaropy_write_end gives 0: it is enough to look there.
  *   - Otherwise what is written is not judged. The calls do that, and say what they
  *     refuse and where.
+ *   - Functions named zuvaropy_parts_.. serve those here, and trust what they are
+ *     given.
  *
  * Contents: numbers and sets of names, writing, reading.
  */
@@ -55,12 +60,18 @@ extern "C" {
 #define ZUVAROPY_NONE NULL
 #endif
 
+#ifdef __GNUC__
+#define ZUVAROPY_MUST_USE __attribute__((warn_unused_result))
+#else
+#define ZUVAROPY_MUST_USE
+#endif
+
 /*
  * Numbers and sets of names
  */
 
 /* The number that so many bytes are, the high byte first. */
-static inline unsigned int zuvaropy_get_number(const uint8_t *bytes, size_t count)
+static inline unsigned int zuvaropy_parts_get_number(const uint8_t *bytes, size_t count)
 {
     unsigned int number = 0;
     size_t i;
@@ -71,14 +82,14 @@ static inline unsigned int zuvaropy_get_number(const uint8_t *bytes, size_t coun
 }
 
 /* Writes a number to so many bytes: of one that does not fit, the low ones. */
-static inline void zuvaropy_put_number(uint8_t *bytes, size_t count, size_t number)
+static inline void zuvaropy_parts_put_number(uint8_t *bytes, size_t count, size_t number)
 {
     for (; count > 0; number >>= 8)
         bytes[--count] = number & 0xFFu;
 }
 
 /* Does a number fit into so many bytes? */
-static inline int zuvaropy_number_fits(size_t number, size_t count)
+static inline int zuvaropy_parts_number_fits(size_t number, size_t count)
 {
     for (; count > 0; count--)
         number >>= 8;
@@ -130,33 +141,33 @@ static inline struct zuvaropy_writer zuvaropy_write_to(uint8_t *bytes, size_t ro
 }
 
 /* Writes a field whose value is all zero. Where the value begins, or NULL if the writer fails or has failed. */
-static inline uint8_t *zuvaropy_write_field(struct zuvaropy_writer *writer, unsigned int tag, size_t value_length)
+static inline uint8_t *zuvaropy_parts_write_field(struct zuvaropy_writer *writer, unsigned int tag, size_t value_length)
 {
     const size_t left = writer->room - writer->length;
     uint8_t *field;
 
     if (left < ZUVAROPY_HEAD_BYTES || left - ZUVAROPY_HEAD_BYTES < value_length ||
-        !zuvaropy_number_fits(tag, ZUVAROPY_TAG_BYTES) || !zuvaropy_number_fits(value_length, ZUVAROPY_LENGTH_BYTES))
+        !zuvaropy_parts_number_fits(tag, ZUVAROPY_TAG_BYTES) || !zuvaropy_parts_number_fits(value_length, ZUVAROPY_LENGTH_BYTES))
         writer->failed = 1;
     if (writer->failed)
         return ZUVAROPY_NONE;
     field = writer->bytes + writer->length;
-    zuvaropy_put_number(field, ZUVAROPY_TAG_BYTES, tag);
-    zuvaropy_put_number(field + ZUVAROPY_TAG_BYTES, ZUVAROPY_LENGTH_BYTES, value_length);
+    zuvaropy_parts_put_number(field, ZUVAROPY_TAG_BYTES, tag);
+    zuvaropy_parts_put_number(field + ZUVAROPY_TAG_BYTES, ZUVAROPY_LENGTH_BYTES, value_length);
     memset(field + ZUVAROPY_HEAD_BYTES, 0, value_length);
     writer->length += ZUVAROPY_HEAD_BYTES + value_length;
     return field + ZUVAROPY_HEAD_BYTES;
 }
 
 /* The same for a file of which every field before the end has this tag, and that has at most so many. */
-static inline uint8_t *zuvaropy_write_item(struct zuvaropy_writer *writer, unsigned int tag, size_t value_length,
+static inline uint8_t *zuvaropy_parts_write_item(struct zuvaropy_writer *writer, unsigned int tag, size_t value_length,
                                            unsigned int limit)
 {
     uint8_t *value;
 
-    if (writer->count >= limit || (writer->count > 0 && zuvaropy_get_number(writer->bytes, ZUVAROPY_TAG_BYTES) != tag))
+    if (writer->count >= limit || (writer->count > 0 && zuvaropy_parts_get_number(writer->bytes, ZUVAROPY_TAG_BYTES) != tag))
         writer->failed = 1;
-    value = zuvaropy_write_field(writer, tag, value_length);
+    value = zuvaropy_parts_write_field(writer, tag, value_length);
     if (value)
         writer->count++;
     return value;
@@ -168,24 +179,24 @@ static inline unsigned int zuvaropy_write_row(struct zuvaropy_writer *writer, un
 {
     uint8_t *value;
 
-    if (!zuvaropy_number_fits(parent, ZUVAROPY_PARENT_BYTES) || !zuvaropy_number_fits(kind, ZUVAROPY_KIND_BYTES) ||
-        !zuvaropy_number_fits(role, ZUVAROPY_ROLE_BYTES))
+    if (!zuvaropy_parts_number_fits(parent, ZUVAROPY_PARENT_BYTES) || !zuvaropy_parts_number_fits(kind, ZUVAROPY_KIND_BYTES) ||
+        !zuvaropy_parts_number_fits(role, ZUVAROPY_ROLE_BYTES))
         writer->failed = 1;
-    value = zuvaropy_write_item(writer, ZUVAROPY_TAG_ROW, ZUVAROPY_ROW_VALUE_BYTES, ZUVAROPY_MAX_ROWS);
+    value = zuvaropy_parts_write_item(writer, ZUVAROPY_TAG_ROW, ZUVAROPY_ROW_VALUE_BYTES, ZUVAROPY_MAX_ROWS);
     if (!value)
         return ZUVAROPY_MAX_ROWS;
-    zuvaropy_put_number(value + ZUVAROPY_PARENT_AT, ZUVAROPY_PARENT_BYTES, parent);
-    zuvaropy_put_number(value + ZUVAROPY_KIND_AT, ZUVAROPY_KIND_BYTES, kind);
-    zuvaropy_put_number(value + ZUVAROPY_ROLE_AT, ZUVAROPY_ROLE_BYTES, role);
+    zuvaropy_parts_put_number(value + ZUVAROPY_PARENT_AT, ZUVAROPY_PARENT_BYTES, parent);
+    zuvaropy_parts_put_number(value + ZUVAROPY_KIND_AT, ZUVAROPY_KIND_BYTES, kind);
+    zuvaropy_parts_put_number(value + ZUVAROPY_ROLE_AT, ZUVAROPY_ROLE_BYTES, role);
     return writer->count - 1;
 }
 
 /* The value of a row that is written, or NULL if the writer fails or has failed. */
-static inline uint8_t *zuvaropy_written_row(struct zuvaropy_writer *writer, unsigned int row)
+static inline uint8_t *zuvaropy_parts_written_row(struct zuvaropy_writer *writer, unsigned int row)
 {
     const size_t before = row;
 
-    if (row >= writer->count || zuvaropy_get_number(writer->bytes, ZUVAROPY_TAG_BYTES) != ZUVAROPY_TAG_ROW)
+    if (row >= writer->count || zuvaropy_parts_get_number(writer->bytes, ZUVAROPY_TAG_BYTES) != ZUVAROPY_TAG_ROW)
         writer->failed = 1;
     if (writer->failed)
         return ZUVAROPY_NONE;
@@ -195,13 +206,13 @@ static inline uint8_t *zuvaropy_written_row(struct zuvaropy_writer *writer, unsi
 /* Says that instances of a row have a name; that they have not. */
 static inline void zuvaropy_write_wanted(struct zuvaropy_writer *writer, unsigned int row, unsigned int name)
 {
-    uint8_t *value = zuvaropy_written_row(writer, row);
+    uint8_t *value = zuvaropy_parts_written_row(writer, row);
 
     writer->failed = !value || !zuvaropy_set_add(value + ZUVAROPY_WANTED_AT, name);
 }
 static inline void zuvaropy_write_excluded(struct zuvaropy_writer *writer, unsigned int row, unsigned int name)
 {
-    uint8_t *value = zuvaropy_written_row(writer, row);
+    uint8_t *value = zuvaropy_parts_written_row(writer, row);
 
     writer->failed = !value || !zuvaropy_set_add(value + ZUVAROPY_EXCLUDED_AT, name);
 }
@@ -209,10 +220,10 @@ static inline void zuvaropy_write_excluded(struct zuvaropy_writer *writer, unsig
 /* Says that nothing is an instance of a row. */
 static inline void zuvaropy_write_impossible(struct zuvaropy_writer *writer, unsigned int row)
 {
-    uint8_t *value = zuvaropy_written_row(writer, row);
+    uint8_t *value = zuvaropy_parts_written_row(writer, row);
 
     if (value)
-        zuvaropy_put_number(value + ZUVAROPY_IMPOSSIBLE_AT, ZUVAROPY_IMPOSSIBLE_BYTES, 1);
+        zuvaropy_parts_put_number(value + ZUVAROPY_IMPOSSIBLE_AT, ZUVAROPY_IMPOSSIBLE_BYTES, 1);
 }
 
 /* Adds a card: the bytes of a picture, from another buffer. Its number, or ZUVAROPY_MAX_CARDS if the writer fails or
@@ -221,22 +232,25 @@ static inline unsigned int zuvaropy_write_card(struct zuvaropy_writer *writer, c
 {
     uint8_t *value;
 
-    if (!picture)
-        length = 0;
-    value = zuvaropy_write_item(writer, ZUVAROPY_TAG_CARD, length, ZUVAROPY_MAX_CARDS);
+    if (!picture || length == 0) {
+        writer->failed = 1;
+        return ZUVAROPY_MAX_CARDS;
+    }
+    value = zuvaropy_parts_write_item(writer, ZUVAROPY_TAG_CARD, length, ZUVAROPY_MAX_CARDS);
     if (!value)
         return ZUVAROPY_MAX_CARDS;
-    if (picture)
-        memcpy(value, picture, length);
+    memcpy(value, picture, length);
     return writer->count - 1;
 }
 
 /* Adds the end field. The length of the whole, or 0 if the writer fails or has failed. */
+ZUVAROPY_MUST_USE
 static inline size_t zuvaropy_write_end(struct zuvaropy_writer *writer)
 {
-    if (!zuvaropy_write_field(writer, ZUVAROPY_TAG_END, ZUVAROPY_END_VALUE_BYTES))
+    if (!zuvaropy_parts_write_field(writer, ZUVAROPY_TAG_END, ZUVAROPY_END_VALUE_BYTES))
         return 0;
-    writer->room = writer->length; /* for nothing after it */
+    writer->room = writer->length; /* so that nothing comes after it, */
+    writer->count = 0;             /* and no row is changed */
     return writer->length;
 }
 
@@ -245,40 +259,40 @@ static inline size_t zuvaropy_write_end(struct zuvaropy_writer *writer)
  */
 
 /* The bytes of the field that bytes begin with; 0 if it is not whole or has another tag. */
-static inline size_t zuvaropy_field_bytes(const uint8_t *bytes, size_t length, unsigned int tag)
+static inline size_t zuvaropy_parts_field_bytes(const uint8_t *bytes, size_t length, unsigned int tag)
 {
     size_t value_length;
 
-    if (!bytes || length < ZUVAROPY_HEAD_BYTES || zuvaropy_get_number(bytes, ZUVAROPY_TAG_BYTES) != tag)
+    if (!bytes || length < ZUVAROPY_HEAD_BYTES || zuvaropy_parts_get_number(bytes, ZUVAROPY_TAG_BYTES) != tag)
         return 0;
-    value_length = zuvaropy_get_number(bytes + ZUVAROPY_TAG_BYTES, ZUVAROPY_LENGTH_BYTES);
+    value_length = zuvaropy_parts_get_number(bytes + ZUVAROPY_TAG_BYTES, ZUVAROPY_LENGTH_BYTES);
     return length - ZUVAROPY_HEAD_BYTES < value_length ? 0 : ZUVAROPY_HEAD_BYTES + value_length;
 }
 
 /* A number in a value, from this byte on. */
-static inline unsigned int zuvaropy_get_part(const uint8_t *value, size_t at, size_t count)
+static inline unsigned int zuvaropy_parts_get_part(const uint8_t *value, size_t at, size_t count)
 {
-    return value ? zuvaropy_get_number(value + at, count) : 0;
+    return value ? zuvaropy_parts_get_number(value + at, count) : 0;
 }
 
 /* The value of a field by its number, where all have so many bytes, or NULL if it has another tag or length. */
-static inline const uint8_t *zuvaropy_field_value(const uint8_t *file, size_t length, unsigned int tag,
+static inline const uint8_t *zuvaropy_parts_field_value(const uint8_t *file, size_t length, unsigned int tag,
                                                   size_t field_bytes, unsigned int number)
 {
     const size_t before = number * field_bytes;
 
-    if (!file || length < before || zuvaropy_field_bytes(file + before, length - before, tag) != field_bytes)
+    if (!file || length < before || zuvaropy_parts_field_bytes(file + before, length - before, tag) != field_bytes)
         return ZUVAROPY_NONE;
     return file + before + ZUVAROPY_HEAD_BYTES;
 }
 
 /* How many fields with this tag and of so many bytes a file begins with, up to a limit. */
-static inline unsigned int zuvaropy_count_fields(const uint8_t *file, size_t length, unsigned int tag,
+static inline unsigned int zuvaropy_parts_count_fields(const uint8_t *file, size_t length, unsigned int tag,
                                                  size_t field_bytes, unsigned int limit)
 {
     unsigned int count = 0;
 
-    while (count < limit && zuvaropy_field_value(file, length, tag, field_bytes, count))
+    while (count < limit && zuvaropy_parts_field_value(file, length, tag, field_bytes, count))
         count++;
     return count;
 }
@@ -293,7 +307,7 @@ static inline unsigned int zuvaropy_count_fields(const uint8_t *file, size_t len
 /* The number of rows. */
 static inline unsigned int zuvaropy_table_rows(const uint8_t *table, size_t length)
 {
-    return zuvaropy_count_fields(table, length, ZUVAROPY_TAG_ROW, ZUVAROPY_ROW_BYTES, ZUVAROPY_MAX_ROWS);
+    return zuvaropy_parts_count_fields(table, length, ZUVAROPY_TAG_ROW, ZUVAROPY_ROW_BYTES, ZUVAROPY_MAX_ROWS);
 }
 
 /* A row, for the functions below, or NULL. */
@@ -301,25 +315,25 @@ static inline const uint8_t *zuvaropy_table_row(const uint8_t *table, size_t len
 {
     if (row >= ZUVAROPY_MAX_ROWS)
         return ZUVAROPY_NONE;
-    return zuvaropy_field_value(table, length, ZUVAROPY_TAG_ROW, ZUVAROPY_ROW_BYTES, row);
+    return zuvaropy_parts_field_value(table, length, ZUVAROPY_TAG_ROW, ZUVAROPY_ROW_BYTES, row);
 }
 
 /* The parts of a row. The kind is one of ZUVAROPY_KIND_...; the mark is nonzero if nothing is an instance. */
 static inline unsigned int zuvaropy_row_parent(const uint8_t *row)
 {
-    return zuvaropy_get_part(row, ZUVAROPY_PARENT_AT, ZUVAROPY_PARENT_BYTES);
+    return zuvaropy_parts_get_part(row, ZUVAROPY_PARENT_AT, ZUVAROPY_PARENT_BYTES);
 }
 static inline unsigned int zuvaropy_row_kind(const uint8_t *row)
 {
-    return zuvaropy_get_part(row, ZUVAROPY_KIND_AT, ZUVAROPY_KIND_BYTES);
+    return zuvaropy_parts_get_part(row, ZUVAROPY_KIND_AT, ZUVAROPY_KIND_BYTES);
 }
 static inline unsigned int zuvaropy_row_role(const uint8_t *row)
 {
-    return zuvaropy_get_part(row, ZUVAROPY_ROLE_AT, ZUVAROPY_ROLE_BYTES);
+    return zuvaropy_parts_get_part(row, ZUVAROPY_ROLE_AT, ZUVAROPY_ROLE_BYTES);
 }
 static inline unsigned int zuvaropy_row_impossible(const uint8_t *row)
 {
-    return zuvaropy_get_part(row, ZUVAROPY_IMPOSSIBLE_AT, ZUVAROPY_IMPOSSIBLE_BYTES);
+    return zuvaropy_parts_get_part(row, ZUVAROPY_IMPOSSIBLE_AT, ZUVAROPY_IMPOSSIBLE_BYTES);
 }
 static inline int zuvaropy_row_wants(const uint8_t *row, unsigned int name)
 {
@@ -339,8 +353,8 @@ static inline unsigned int zuvaropy_map_images(const uint8_t *map, size_t length
 {
     unsigned int images = 0;
 
-    if (zuvaropy_field_bytes(map, length, ZUVAROPY_TAG_MAP) > 0)
-        images = zuvaropy_get_number(map + ZUVAROPY_TAG_BYTES, ZUVAROPY_LENGTH_BYTES) / ZUVAROPY_IMAGE_BYTES;
+    if (zuvaropy_parts_field_bytes(map, length, ZUVAROPY_TAG_MAP) > 0)
+        images = zuvaropy_parts_get_number(map + ZUVAROPY_TAG_BYTES, ZUVAROPY_LENGTH_BYTES) / ZUVAROPY_IMAGE_BYTES;
     return images < ZUVAROPY_MAX_ROWS ? images : ZUVAROPY_MAX_ROWS;
 }
 
@@ -351,13 +365,13 @@ static inline unsigned int zuvaropy_map_image(const uint8_t *map, size_t length,
 
     if (row >= zuvaropy_map_images(map, length))
         return 0;
-    return zuvaropy_get_number(map + ZUVAROPY_HEAD_BYTES + before * ZUVAROPY_IMAGE_BYTES, ZUVAROPY_IMAGE_BYTES);
+    return zuvaropy_parts_get_number(map + ZUVAROPY_HEAD_BYTES + before * ZUVAROPY_IMAGE_BYTES, ZUVAROPY_IMAGE_BYTES);
 }
 
 /* The number of individuals in a refutation. */
 static inline unsigned int zuvaropy_refutation_individuals(const uint8_t *refutation, size_t length)
 {
-    return zuvaropy_count_fields(refutation, length, ZUVAROPY_TAG_INDIVIDUAL, ZUVAROPY_INDIVIDUAL_BYTES,
+    return zuvaropy_parts_count_fields(refutation, length, ZUVAROPY_TAG_INDIVIDUAL, ZUVAROPY_INDIVIDUAL_BYTES,
                                  ZUVAROPY_MAX_INDIVIDUALS);
 }
 
@@ -367,17 +381,17 @@ static inline const uint8_t *zuvaropy_refutation_individual(const uint8_t *refut
 {
     if (individual >= ZUVAROPY_MAX_INDIVIDUALS)
         return ZUVAROPY_NONE;
-    return zuvaropy_field_value(refutation, length, ZUVAROPY_TAG_INDIVIDUAL, ZUVAROPY_INDIVIDUAL_BYTES, individual);
+    return zuvaropy_parts_field_value(refutation, length, ZUVAROPY_TAG_INDIVIDUAL, ZUVAROPY_INDIVIDUAL_BYTES, individual);
 }
 
 /* The parts of an individual. The role is the one by which its parent reaches it. */
 static inline unsigned int zuvaropy_individual_parent(const uint8_t *individual)
 {
-    return zuvaropy_get_part(individual, ZUVAROPY_INDIVIDUAL_PARENT_AT, ZUVAROPY_PARENT_BYTES);
+    return zuvaropy_parts_get_part(individual, ZUVAROPY_INDIVIDUAL_PARENT_AT, ZUVAROPY_PARENT_BYTES);
 }
 static inline unsigned int zuvaropy_individual_role(const uint8_t *individual)
 {
-    return zuvaropy_get_part(individual, ZUVAROPY_INDIVIDUAL_ROLE_AT, ZUVAROPY_ROLE_BYTES);
+    return zuvaropy_parts_get_part(individual, ZUVAROPY_INDIVIDUAL_ROLE_AT, ZUVAROPY_ROLE_BYTES);
 }
 static inline int zuvaropy_individual_has(const uint8_t *individual, unsigned int name)
 {
@@ -392,13 +406,13 @@ static inline int zuvaropy_individual_has(const uint8_t *individual, unsigned in
 static inline const uint8_t *zuvaropy_book_card(const uint8_t *book, size_t length, unsigned int card,
                                                 size_t *card_length)
 {
-    size_t field = zuvaropy_field_bytes(book, length, ZUVAROPY_TAG_CARD);
+    size_t field = zuvaropy_parts_field_bytes(book, length, ZUVAROPY_TAG_CARD);
     unsigned int number;
 
     for (number = 0; number < card && field > 0; number++) {
         book += field;
         length -= field;
-        field = zuvaropy_field_bytes(book, length, ZUVAROPY_TAG_CARD);
+        field = zuvaropy_parts_field_bytes(book, length, ZUVAROPY_TAG_CARD);
     }
     *card_length = 0;
     if (field == 0 || card >= ZUVAROPY_MAX_CARDS)
@@ -422,6 +436,7 @@ static inline unsigned int zuvaropy_book_cards(const uint8_t *book, size_t lengt
 }
 #endif
 
+#undef ZUVAROPY_MUST_USE
 #undef ZUVAROPY_NONE
 
 #endif

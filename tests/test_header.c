@@ -252,6 +252,7 @@ static void test_lent(void)
 
     CHECK(zuvaropy_lent(&byte) == &byte);
     CHECK(zuvaropy_lent(NULL) != NULL);
+    CHECK(zuvaropy_lent_length(NULL, 0) == 0 && zuvaropy_lent_length(NULL, SIZE_MAX) == 0);
     CHECK(zuvaropy_lent_writable(&writable) == &writable);
     CHECK(zuvaropy_lent_writable(NULL) != NULL);
 }
@@ -282,6 +283,7 @@ static void test_validate(void)
     CHECK_WORD(second_unit_validate(bytes, sizeof bytes), one_row, 0);
 
     CHECK_WORD(zuvaropy_validate(NULL, 0), no_head, 0);
+    CHECK_WORD(zuvaropy_validate(NULL, SIZE_MAX), no_head, 0);
 
     /* The macro evaluates its arguments once. */
     CHECK_WORD(zuvaropy_validate(next++, 0), no_head, 0);
@@ -306,6 +308,8 @@ static void test_normalize(void)
     CHECK_WORD(zuvaropy_normalize(bytes, sizeof bytes, NULL, 0), no_buffer, 0);
     CHECK_WORD(zuvaropy_normalize(NULL, 0, result, sizeof result), no_head, 0);
     CHECK_WORD(zuvaropy_normalize(NULL, 0, NULL, 0), no_buffer, 0);
+    CHECK_WORD(zuvaropy_normalize(bytes, sizeof bytes, NULL, SIZE_MAX), no_buffer, 0);
+    CHECK_WORD(zuvaropy_normalize(NULL, SIZE_MAX, result, sizeof result), no_head, 0);
 
     /* The macro evaluates its arguments once. */
     CHECK_WORD(zuvaropy_normalize(next++, 0, next_result++, 0), no_buffer, 0);
@@ -342,6 +346,10 @@ static void test_subsumes(void)
     CHECK_WORD(zuvaropy_subsumes(NULL, 0, bytes, length, work, sizeof work, evidence, room), no_first, 0);
     CHECK_WORD(zuvaropy_subsumes(bytes, length, NULL, 0, work, sizeof work, evidence, room), no_second, 0);
     CHECK_WORD(zuvaropy_subsumes(NULL, 0, NULL, 0, NULL, 0, NULL, 0), no_buffer, 0);
+    CHECK_WORD(zuvaropy_subsumes(bytes, length, bytes, length, NULL, SIZE_MAX, evidence, room), no_buffer, 0);
+    CHECK_WORD(zuvaropy_subsumes(bytes, length, bytes, length, work, sizeof work, NULL, SIZE_MAX), no_buffer, 0);
+    CHECK_WORD(zuvaropy_subsumes(NULL, SIZE_MAX, bytes, length, work, sizeof work, evidence, room), no_first, 0);
+    CHECK_WORD(zuvaropy_subsumes(bytes, length, NULL, SIZE_MAX, work, sizeof work, evidence, room), no_second, 0);
 
     /* The macro evaluates its arguments once. */
     CHECK_WORD(zuvaropy_subsumes(next++, 0, next_second++, 0, next_work++, 0, next_result++, 0), no_buffer, 0);
@@ -375,6 +383,9 @@ static void test_verify(void)
     CHECK_WORD(zuvaropy_verify(bytes, length, NULL, 0, map, map_length, work, sizeof work), no_second, 0);
     CHECK_WORD(zuvaropy_verify(bytes, length, bytes, length, NULL, 0, work, sizeof work), no_form, 0);
     CHECK_WORD(zuvaropy_verify(NULL, 0, NULL, 0, NULL, 0, NULL, 0), no_buffer, 0);
+    CHECK_WORD(zuvaropy_verify(bytes, length, bytes, length, map, map_length, NULL, SIZE_MAX), no_buffer, 0);
+    CHECK_WORD(zuvaropy_verify(bytes, length, NULL, SIZE_MAX, map, map_length, work, sizeof work), no_second, 0);
+    CHECK_WORD(zuvaropy_verify(bytes, length, bytes, length, NULL, SIZE_MAX, work, sizeof work), no_form, 0);
 
     /* The macro evaluates its arguments once. */
     CHECK_WORD(zuvaropy_verify(next++, 0, next_second++, 0, next_map++, 0, next_work++, 0), no_buffer, 0);
@@ -409,6 +420,10 @@ static void test_lcs(void)
     CHECK_WORD(zuvaropy_lcs(NULL, 0, bytes, length, work, sizeof work, result, room), no_first, 0);
     CHECK_WORD(zuvaropy_lcs(bytes, length, NULL, 0, work, sizeof work, result, room), no_second, 0);
     CHECK_WORD(zuvaropy_lcs(NULL, 0, NULL, 0, NULL, 0, NULL, 0), no_buffer, 0);
+    CHECK_WORD(zuvaropy_lcs(bytes, length, bytes, length, NULL, SIZE_MAX, result, room), no_buffer, 0);
+    CHECK_WORD(zuvaropy_lcs(bytes, length, bytes, length, work, sizeof work, NULL, SIZE_MAX), no_buffer, 0);
+    CHECK_WORD(zuvaropy_lcs(NULL, SIZE_MAX, bytes, length, work, sizeof work, result, room), no_first, 0);
+    CHECK_WORD(zuvaropy_lcs(bytes, length, NULL, SIZE_MAX, work, sizeof work, result, room), no_second, 0);
 
     /* The macro evaluates its arguments once. */
     CHECK_WORD(zuvaropy_lcs(next++, 0, next_second++, 0, next_work++, 0, next_result++, 0), no_buffer, 0);
@@ -454,6 +469,9 @@ static void test_most_specific(void)
     CHECK_WORD(zuvaropy_most_specific(NULL, 0, book, book_length, work, sizeof work), no_case, 0);
     CHECK_WORD(zuvaropy_most_specific(bytes, length, NULL, 0, work, sizeof work), no_book, 0);
     CHECK_WORD(zuvaropy_most_specific(NULL, 0, NULL, 0, NULL, 0), no_buffer, 0);
+    CHECK_WORD(zuvaropy_most_specific(bytes, length, book, book_length, NULL, SIZE_MAX), no_buffer, 0);
+    CHECK_WORD(zuvaropy_most_specific(NULL, SIZE_MAX, book, book_length, work, sizeof work), no_case, 0);
+    CHECK_WORD(zuvaropy_most_specific(bytes, length, NULL, SIZE_MAX, work, sizeof work), no_book, 0);
 
     /* The macro evaluates its arguments once. */
     CHECK_WORD(zuvaropy_most_specific(next++, 0, next_book++, 0, next_work++, 0), no_buffer, 0);

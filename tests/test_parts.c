@@ -40,23 +40,23 @@ static void test_numbers(void)
     const uint8_t bytes[] = {1, 2, 3, 0xFF};
     uint8_t written[] = {9, 9, 9, 9};
 
-    CHECK(zuvaropy_get_number(bytes, 0) == 0);
-    CHECK(zuvaropy_get_number(bytes, 1) == 1);
-    CHECK(zuvaropy_get_number(bytes, 2) == 0x102);
-    CHECK(zuvaropy_get_number(bytes, 4) == 0x10203FFu);
+    CHECK(zuvaropy_parts_get_number(bytes, 0) == 0);
+    CHECK(zuvaropy_parts_get_number(bytes, 1) == 1);
+    CHECK(zuvaropy_parts_get_number(bytes, 2) == 0x102);
+    CHECK(zuvaropy_parts_get_number(bytes, 4) == 0x10203FFu);
 
-    zuvaropy_put_number(written, 0, 5);
+    zuvaropy_parts_put_number(written, 0, 5);
     CHECK(written[0] == 9);
-    zuvaropy_put_number(written + 1, 2, 0x1234);
+    zuvaropy_parts_put_number(written + 1, 2, 0x1234);
     CHECK(written[0] == 9 && written[1] == 0x12 && written[2] == 0x34 && written[3] == 9);
 
-    CHECK(zuvaropy_number_fits(0, 0));
-    CHECK(!zuvaropy_number_fits(1, 0));
-    CHECK(zuvaropy_number_fits(255, 1));
-    CHECK(!zuvaropy_number_fits(256, 1));
-    CHECK(zuvaropy_number_fits(65535, 2));
-    CHECK(!zuvaropy_number_fits(65536, 2));
-    CHECK(!zuvaropy_number_fits(SIZE_MAX, 2));
+    CHECK(zuvaropy_parts_number_fits(0, 0));
+    CHECK(!zuvaropy_parts_number_fits(1, 0));
+    CHECK(zuvaropy_parts_number_fits(255, 1));
+    CHECK(!zuvaropy_parts_number_fits(256, 1));
+    CHECK(zuvaropy_parts_number_fits(65535, 2));
+    CHECK(!zuvaropy_parts_number_fits(65536, 2));
+    CHECK(!zuvaropy_parts_number_fits(SIZE_MAX, 2));
 }
 
 static void test_sets(void)
@@ -106,16 +106,8 @@ static void test_writing_a_book(void)
     uint64_t word;
 
     CHECK(zuvaropy_write_card(&writer, top_bytes, sizeof top_bytes) == 0);
-    CHECK(zuvaropy_write_card(&writer, NULL, 7) == 1); /* NULL has no bytes */
-    CHECK(zuvaropy_write_end(&writer) == sizeof book_bytes);
-    CHECK(memcmp(bytes, book_bytes, sizeof book_bytes) == 0);
-
-    word = zuvaropy_most_specific(picture_bytes, sizeof picture_bytes, bytes, writer.length, work, sizeof work);
-    CHECK(zuvaropy_question(word) == ZUVAROPY_QUESTION_HEAD && zuvaropy_card(word) == 1); /* no bytes, no picture */
-
-    writer = zuvaropy_write_to(bytes, sizeof bytes);
-    CHECK(zuvaropy_write_card(&writer, top_bytes, sizeof top_bytes) == 0);
     CHECK(zuvaropy_write_end(&writer) == ZUVAROPY_CARD_BYTES(sizeof top_bytes) + ZUVAROPY_HEAD_BYTES);
+    CHECK(memcmp(bytes, book_bytes, ZUVAROPY_CARD_BYTES(sizeof top_bytes)) == 0);
     word = zuvaropy_most_specific(picture_bytes, sizeof picture_bytes, bytes, writer.length, work, sizeof work);
     CHECK(zuvaropy_outcome(word) == ZUVAROPY_OUTCOME_YES && zuvaropy_value(word) == 1);
 }

@@ -32,8 +32,10 @@ static int fail_anywhere(struct zuvaropy_writer *writer, unsigned int what)
     case 10: zuvaropy_write_wanted(writer, ~0u, 0); return 1;
     case 11: zuvaropy_write_card(writer, card, LONGEST_VALUE + 1); return 1;
     case 12: zuvaropy_write_card(writer, card, SIZE_MAX); return 1;
-    case 13: zuvaropy_write_field(writer, 256, 0); return 1;
-    case 14: zuvaropy_write_field(writer, ZUVAROPY_TAG_CARD, LONGEST_VALUE + 1); return 1;
+    case 13: zuvaropy_parts_write_field(writer, 256, 0); return 1;
+    case 14: zuvaropy_parts_write_field(writer, ZUVAROPY_TAG_CARD, LONGEST_VALUE + 1); return 1;
+    case 15: zuvaropy_write_card(writer, card, 0); return 1;
+    case 16: zuvaropy_write_card(writer, NULL, 30); return 1;
     default: return 0;
     }
 }
@@ -62,8 +64,10 @@ static int fail_after_end(struct zuvaropy_writer *writer, unsigned int what)
     switch (what) {
     case 0: zuvaropy_write_row(writer, 0, ZUVAROPY_KIND_EXISTS, 0); return 1;
     case 1: zuvaropy_write_card(writer, card, 30); return 1;
-    case 2: zuvaropy_write_card(writer, NULL, 0); return 1;
-    case 3: zuvaropy_write_end(writer); return 1;
+    case 2: zuvaropy_write_wanted(writer, 0, 0); return 1;
+    case 3: zuvaropy_write_excluded(writer, 0, 0); return 1;
+    case 4: zuvaropy_write_impossible(writer, 0); return 1;
+    case 5: return zuvaropy_write_end(writer) == 0;
     default: return 0;
     }
 }
@@ -92,7 +96,7 @@ static void go_on(struct zuvaropy_writer *writer)
 {
     CHECK(zuvaropy_write_row(writer, 0, ZUVAROPY_KIND_EXISTS, 0) == ZUVAROPY_MAX_ROWS);
     CHECK(zuvaropy_write_card(writer, card, 30) == ZUVAROPY_MAX_CARDS);
-    CHECK(zuvaropy_write_field(writer, ZUVAROPY_TAG_ROW, 0) == NULL);
+    CHECK(zuvaropy_parts_write_field(writer, ZUVAROPY_TAG_ROW, 0) == NULL);
     zuvaropy_write_wanted(writer, 0, 0);
     zuvaropy_write_excluded(writer, 0, 0);
     zuvaropy_write_impossible(writer, 0);

@@ -58,6 +58,16 @@ wanting names = root names ++ end
 abbrev excluding : ℕ → List ℕ
 excluding names = row 0 0 0 0 0 names ++ end
 
+-- name 63, of the first byte of its set; names of all that r reaches
+abbrev excludingLast : List ℕ
+excludingLast =
+    0x10 ∷ 0 ∷ 21 ∷ 0 ∷ 0 ∷ 0 ∷ 0 ∷ 0
+    ∷ 0 ∷ 0 ∷ 0 ∷ 0 ∷ 0 ∷ 0 ∷ 0 ∷ 0
+    ∷ 0x80 ∷ 0 ∷ 0 ∷ 0 ∷ 0 ∷ 0 ∷ 0 ∷ 0 ∷ end
+
+abbrev allExcluding : ℕ → List ℕ
+allExcluding names = root 0 ++ (row 0 2 8 0 0 names ++ end)
+
 -- some r(some s{..}), and two of them
 abbrev below : ℕ → List ℕ
 below names = root 0 ++ (someRow 0 8 0 ++ (someRow 1 9 names ++ end))
@@ -101,9 +111,12 @@ map3 a b = 0x41 ∷ 0 ∷ 6 ∷ images (0 ∷ a ∷ b ∷ [])
 abbrev individual : ℕ → ℕ → ℕ → List ℕ
 individual parent role held = 0x42 ∷ 0 ∷ 11 ∷ 0 ∷ parent ∷ role ∷ 0 ∷ 0 ∷ 0 ∷ 0 ∷ 0 ∷ 0 ∷ 0 ∷ held ∷ []
 
--- individual 0 with no names, alone and with others
+-- individual 0 with no names, alone, with name 63, and with others
 abbrev alone : List ℕ
 alone = individual 0 0 0 ++ end
+
+abbrev last : List ℕ
+last = 0x42 ∷ 0 ∷ 11 ∷ 0 ∷ 0 ∷ 0 ∷ 0x80 ∷ 0 ∷ 0 ∷ 0 ∷ 0 ∷ 0 ∷ 0 ∷ 0 ∷ end
 
 abbrev also : List ℕ → List ℕ
 also others = individual 0 0 0 ++ (others ++ end)
@@ -126,12 +139,14 @@ cases =
     -- below a marked image the same one
     ∷ told impossible (below 2) (Yes 12) (map3 0 0)
     ∷ told noneReached allSome (Yes 12) (map3 1 1)
-    -- a name wanted, excluded; the mark. Of an individual that has an excluded name all wanted ones hold, and none that the first excludes
+    -- a name wanted, excluded; the mark. Of an individual that has an excluded name all wanted ones hold, and none that
+    -- the first excludes
     ∷ told empty (wanting 32) (No 17) alone
     ∷ told (wanting 8) (wanting 40) (No 17) (individual 0 0 8 ++ end)
     ∷ told empty (excluding 32) (No 17) (individual 0 0 32 ++ end)
     ∷ told (wanting 8) (excluding 32) (No 17) (individual 0 0 40 ++ end)
     ∷ told (excluding 8) (excluding 40) (No 17) (individual 0 0 32 ++ end)
+    ∷ told empty excludingLast (No 17) last
     ∷ told empty impossible (No 17) alone
     -- some: nobody, or not the one wanted, two levels down; what else the first asks is there
     ∷ told empty someReached (No 17) alone
@@ -139,6 +154,7 @@ cases =
     ∷ told (root 0 ++ (someRow 0 8 8 ++ (someRow 0 9 2 ++ end))) (one 32) (No 45) (also (individual 0 8 8 ++ individual 0 9 2))
     -- all: one more individual, of whom only that is so that the first says of all; what else the first asks comes after it
     ∷ told empty (allOf 32) (No 31) (also (individual 0 8 0))
+    ∷ told empty (allExcluding 32) (No 31) (also (individual 0 8 32))
     ∷ told (allOf 8) (allOf 40) (No 31) (also (individual 0 8 8))
     ∷ told (root 0 ++ (someRow 0 9 2 ++ end)) (allOf 32) (No 45) (also (individual 0 8 0 ++ individual 0 9 2))
     ∷ told empty noneReached (No 31) (also (individual 0 8 0))
