@@ -154,19 +154,19 @@ by_name() {
         diff samples/verdict.stdout "$room/printed"
 }
 
-# typed: the commands of the installed README, and an empty folder for them, but for a program to compile.
-typed() {
-    rm -rf "$room/typed" && mkdir "$room/typed" && cp examples/readout.c "$room/typed/program.c" &&
-        sed -n 's/^    //p' "$root$doc/README.md" >"$room/commands"
+# commands: those of the installed README, and an empty folder for them, but for a program to compile.
+commands() {
+    rm -rf "$room/empty" && mkdir "$room/empty" && cp examples/readout.c "$room/empty/program.c" &&
+        sed -n 's/^    //p' "$root$doc/README.md" >"$room/commands" && [ -s "$room/commands" ]
 }
 
 # Each of its three ways to compile gives a program that runs; only of the first the library's folder has to be told.
 readme_compiles() {
-    typed && grep '^export ' "$room/commands" >"$room/exported" && grep '^cc ' "$room/commands" >"$room/compiled" &&
+    commands && grep '^export ' "$room/commands" >"$room/exported" && grep '^cc ' "$room/commands" >"$room/compiled" &&
         [ "$(wc -l <"$room/compiled")" -eq 3 ] || return
     told=$lib
     while read -r command; do
-        (cd "$room/typed" && . "$room/exported" && PATH=$room/tools:$PATH && eval "$command" &&
+        (cd "$room/empty" && . "$room/exported" && PATH=$room/tools:$PATH && eval "$command" &&
             LD_LIBRARY_PATH=$told ./program) >"$room/printed" && diff samples/readout.stdout "$room/printed" || return
         told=
     done <"$room/compiled"
@@ -174,14 +174,23 @@ readme_compiles() {
 
 # All of them can be typed as they stand, one after the other.
 readme_runs() {
-    typed && (cd "$room/typed" && PATH=$room/tools:$PATH MAKEFLAGS=s sh -e "$room/commands") >"$room/printed" &&
+    commands && (cd "$room/empty" && PATH=$room/tools:$PATH MAKEFLAGS=s sh -e "$room/commands") >"$room/printed" &&
         cat samples/readout.stdout samples/lcs.stdout | diff - "$room/printed"
 }
 
-# Where there is nothing in front of the folders, the README's commands find them.
-readme() {
+# So can what zuvaropy(3) says of a prefix, with the prefix in its place.
+page_compiles() {
+    commands && sed -n '/^\.SH EXAMPLES$/,/^\.EX$/p' "$root$man/man3/zuvaropy.3" | sed -n '/^export /,/^\.fi$/p' |
+        sed -e '/^\.fi$/d' -e 's/\\-/-/g' -e 's/\\e$/\\/' -e "s|PREFIX|$prefix|" >"$room/commands" &&
+        (cd "$room/empty" && PATH=$room/tools:$PATH sh -e "$room/commands" && ./a.out) >"$room/printed" &&
+        diff samples/readout.stdout "$room/printed"
+}
+
+# Where there is nothing in front of the folders, the commands of the README and of the page find them.
+documented() {
     check "install $*: README compiles" readme_compiles
     check "install $*: README runs" readme_runs
+    check "install $*: page compiles" page_compiles
 }
 
 # The example of the verdict program's page: its lines after a prompt, run on the samples, print its other lines.
@@ -199,6 +208,20 @@ ends_well() {
         >"$room/printed" && tail -n 1 "$room/shown" | diff - "$room/printed"
 }
 
+# And by SIGPIPE, 13, where nobody reads the pipe that it writes to: the other end is closed before.
+ends_by_signal() {
+    rm -f "$room/closed"
+    {
+        until [ -e "$room/closed" ]; do :; done
+        cd "$room/session" && env --default-signal=PIPE "$root$bin/zuvaropy-verdict"
+        echo $? >"$room/status"
+    } | {
+        exec <&-
+        : >"$room/closed"
+    }
+    [ "$(cat "$room/status")" -eq $((128 + 13)) ]
+}
+
 # whole VARIABLE..: an installation with these variables, from beginning to end.
 whole() {
     check "install $*" packaged install "$@"
@@ -208,6 +231,7 @@ whole() {
     check "install $*: filled in" whole_text
     check "install $*: verdict" session
     check "install $*: verdict ends" ends_well
+    check "install $*: verdict ends by a signal" ends_by_signal
     check "install $*: verdict by its name" by_name
     if command -v pkg-config >/dev/null; then
         check "install $*: version" says "$version" --modversion
@@ -216,7 +240,7 @@ whole() {
         check "install $*: static" linked_static
         check "install $*: shared" linked_shared
         check "install $*: examples" examples
-        [ -n "$root" ] || readme "$@"
+        [ -n "$root" ] || documented "$@"
     else
         echo "install $*: not linked, no pkg-config"
     fi

@@ -34,6 +34,14 @@ formatted() {
     done
 }
 
+# At 80 columns no line of a page is wider.
+narrow() {
+    for one in $pages; do
+        groff -t -man -Tascii -P-cbou -rLL=80n "$one" >"$room/narrow" && [ -s "$room/narrow" ] &&
+            silent awk 'length > 80' "$room/narrow" || return
+    done
+}
+
 # Version and date stand where make install fills them in.
 titled() {
     for one in $pages; do
@@ -175,6 +183,7 @@ changes() {
 
 if command -v groff >/dev/null; then
     check 'manual pages, groff' formatted groff -t -man -ww -z
+    check 'manual pages, width' narrow
 elif command -v mandoc >/dev/null; then
     check 'manual pages, mandoc' formatted mandoc -T lint -W warning
 else
