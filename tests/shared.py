@@ -24,8 +24,8 @@ def answer(outcome, value=0):
 
 
 def refusal(line):
-    """The word of 'refused QUESTION, INPUT[ CARD][, row ROW, byte BYTE]: ..'; None of others."""
-    found = re.match(r"refused (\d+), ([a-z ]+?)(?: (\d+))?(?:, row (\d+), byte (\d+))?: ", line)
+    """The word of '[stopped at FILE: ]refused QUESTION, INPUT[ CARD][, row ROW, byte BYTE]: ..'; None of others."""
+    found = re.match(r"(?:stopped at \S+: )?refused (\d+), ([a-z ]+?)(?: (\d+))?(?:, row (\d+), byte (\d+))?: ", line)
     if not found:
         return None
     question, which, *numbers = found.groups()
@@ -102,13 +102,22 @@ def check_validate(library, checks):
         checks.same(what, library.call("validate", files), (wanted,))
 
 
+def folded(library, call, files, rooms):
+    """The word and the last lent buffer; a third file and those after it are taken with the picture of those before."""
+    word, *lent = library.call(call, files[:2], *rooms)
+    for file in files[2:]:
+        if word >> 56:
+            word, *lent = library.call(call, [lent[-1][: word & 0xFFFFFFFF], file], *rooms)
+    return word, lent[-1]
+
+
 def check_table(library, checks, call, *rooms):
     """A call that writes a picture into the last of the lent buffers."""
     for what, files, said, rows in printed(call):
-        word, *lent = library.call(call, files, *rooms)
+        word, written = folded(library, call, files, rooms)
         table = b"" if refusal(said) is not None else picture(rows)
         checks.same(what, word, refusal(said) if not table else answer(YES, len(table)))
-        checks.same(what + ", table", lent[-1], padded(table, PICTURE_BYTES))
+        checks.same(what + ", table", written, padded(table, PICTURE_BYTES))
 
 
 def check_subsumes(library, checks):
