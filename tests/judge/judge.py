@@ -1,5 +1,5 @@
 #!/usr/bin/env python3
-"""Compares the library with FaCT++, a reasoner by other hands, on random books of pictures.
+"""Compares the library with FaCT++, a reasoner from outside, on random books of pictures.
 
     tests/judge/judge.py SHARED [--books N] [--seed N] [--first N]
 
