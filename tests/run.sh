@@ -212,9 +212,8 @@ if command -v python3 >/dev/null; then
 else
     left_out "shared library from Python" "no python3"
 fi
-# With this seed a picture is drawn that question 14 refuses.
 if command -v FaCT++ >/dev/null && command -v python3 >/dev/null; then
-    count judge python3 tests/judge/judge.py "$out/shared/libzuvaropy.so" --books 42 --seed 2
+    count judge python3 tests/judge/judge.py "$out/shared/libzuvaropy.so" --books 42
 else
     left_out "FaCT++ as a judge" "no FaCT++ or no python3"
 fi

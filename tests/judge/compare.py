@@ -1,8 +1,10 @@
 """Compares what the library says of a book with what FaCT++ says of it.
 
-    compare_pairs    whether one picture subsumes another, for all ordered pairs
-    compare_cases    the most specific cards for each picture in a book of the others
-    compare_written  normal tables and common pictures, which go to FaCT++ too
+    compare_pairs    verdicts: whether one picture subsumes another, for all ordered pairs
+    compare_cases    found_cards: the most specific cards for each picture in a book of the others
+    compare_written  normal tables and common_pictures, which go to FaCT++ too
+
+What the library says is asked before, so that other answers can be compared too.
 """
 
 import fact
@@ -10,7 +12,7 @@ import krss
 import picture
 from library import NO, REFUSED, YES
 
-MAX_CARDS = 32
+MAX_CARDS, NO_CARD = 32, "no card"
 RELATED, ANY = 8, 4  # common pictures of each book: of pairs that are below a third picture, and of any
 
 
@@ -90,12 +92,25 @@ def most_specific(order, case, cards):
             if not any(is_below(order, other, card) and not is_below(order, card, other) for other in above)]
 
 
-def compare_cases(tally, library, order, book):
+def others(book, case):
+    return [number for number in book.taken if number != case]
+
+
+def found_cards(library, book):
+    """The library's answer for each case, and the cards that it finds."""
+    found = {}
     for case in book.taken:
-        cards = [number for number in book.taken if number != case]
+        cards = others(book, case)
         answer, places = library.most_specific(book.files[case], [book.files[card] for card in cards])
-        at_place = cards + ["no card"] * (MAX_CARDS - len(cards))
-        found, expected = [at_place[place] for place in places], most_specific(order, case, cards)
+        at_place = cards + [NO_CARD] * (MAX_CARDS - len(cards))
+        found[case] = answer, [at_place[place] for place in places]
+    return found
+
+
+def compare_cases(tally, order, book, answers):
+    for case, (answer, found) in answers.items():
+        cards = others(book, case)
+        expected = most_specific(order, case, cards)
         doubted = [card for card in cards if (card in found) != (card in expected)]
         tally.counts["cases"] += 1
         tally.check("Which other pictures are the most specific that subsume the first?",
@@ -112,11 +127,27 @@ def pairs_to_join(rng, order, book):
     return rng.sample(related, min(RELATED, len(related))) + rng.sample(pairs, min(ANY, len(pairs)))
 
 
-def common_pictures(tally, library, book, pairs):
+def common_pictures(library, book, pairs):
+    """The library's answer for each pair, and the file of the common picture."""
+    return {pair: library.lcs(*(book.files[number] for number in pair)) for pair in pairs}
+
+
+def normal_trees(tally, book):
+    """The trees of the normal tables."""
+    found = {}
+    for number in book.taken:
+        answer, table = book.normal[number]
+        if answer == YES:
+            found[number] = picture.decode(table)
+        else:
+            tally.check("Is there a normal table?", both(answer, YES), book, (number,))
+    return found
+
+
+def common_trees(tally, book, answers):
     """The trees of the common pictures that are not refused."""
     found = {}
-    for pair in pairs:
-        answer, common = library.lcs(*(book.files[number] for number in pair))
+    for pair, (answer, common) in answers.items():
         tally.counts["joined"] += 1
         if answer == YES:
             found[pair] = picture.decode(common)
@@ -147,10 +178,9 @@ def compare_normal(tally, order, book, number, table):
     tally.check(f"Is it equivalent to its normal table {krss.concept(table)}?", both(YES, words(same)), book, (number,))
 
 
-def compare_written(tally, library, rng, order, book):
+def compare_written(tally, book, answers):
     """A second file for FaCT++, with what the library wrote beside the drawn pictures."""
-    tables = {number: picture.decode(book.normal[number][1]) for number in book.taken}
-    common = common_pictures(tally, library, book, pairs_to_join(rng, order, book))
+    tables, common = normal_trees(tally, book), common_trees(tally, book, answers)
     written = {normal_name(number): table for number, table in tables.items()}
     written.update({common_name(*pair): root for pair, root in common.items()})
     wider = fact.classify({**book.classes(), **written})

@@ -7,6 +7,7 @@ A book has two families. Each begins with a random picture, and every further me
     reword      the same is said in other words
 
 Leaving out makes a picture that subsumes the one it was made from, since nothing stands below a negation but names.
+In a book with one role one picture is another: its merged table is too large, so that every run has some such.
 """
 
 import collections
@@ -15,7 +16,8 @@ from picture import EXISTS, FORALL, NAMES, ROLES, Node, copy, nodes
 
 FAMILIES, MEMBERS = 2, 16  # 32 pictures
 MAX_ROWS, MAX_DEPTH = 40, 8
-SIZES = [  # names, roles, rows; by one role much is passed on, and some merged tables become too large
+LEVELS, BRANCHES = 4, 3
+SIZES = [  # names, roles, rows; by one role much is passed on, and some more merged tables become too large
     (2, 1, 10), (3, 2, 12), (4, 2, 16), (6, 3, 20), (12, 5, 30), (NAMES, 1, 30), (NAMES, ROLES, MAX_ROWS)]
 
 Vocabulary = collections.namedtuple("Vocabulary", "names roles")
@@ -49,6 +51,19 @@ def draw_picture(rng, vocabulary, rows):
         inner = [(node, depth) for node, depth in depths if depth < MAX_DEPTH]
         node, depth = max(rng.sample(list(enumerate(inner)), min(2, len(inner))))[1]
         depths.append((add_edge(rng, vocabulary, node), depth + 1))
+    return root
+
+
+def draw_large(rng, vocabulary):
+    """Each level has three successors, and says the next level of all. Merged, it has 1 + 4 + 16 + 64 + 256 rows."""
+    role = rng.choice(vocabulary.roles)
+    root = level = draw_node(rng, vocabulary, 0)
+    for _ in range(LEVELS):
+        for _ in range(BRANCHES):
+            level.some(role, draw_node(rng, vocabulary, 0))
+        below = draw_node(rng, vocabulary, 0)
+        level.every(role, below)
+        level = below
     return root
 
 
@@ -166,5 +181,7 @@ def draw_book(rng, number):
     names, roles, rows = SIZES[number % len(SIZES)]
     vocabulary = Vocabulary(rng.sample(range(NAMES), names), rng.sample(range(ROLES), roles))
     roots = [root for _ in range(FAMILIES) for root in draw_family(rng, vocabulary, rows)]
+    if roles == 1:
+        roots[-1] = draw_large(rng, vocabulary)
     rng.shuffle(roots)
     return roots

@@ -1,13 +1,13 @@
 #!/usr/bin/env python3
-"""Compares the library with FaCT++, a reasoner by other hands, on random books of pictures.
+"""Compares the library with FaCT++, a reasoner from outside, on random books of pictures.
 
     tests/judge/judge.py SHARED [--books N] [--seed N] [--first N]
 
 SHARED is the shared library. Of each book, all ordered pairs are compared, the most specific cards, the normal tables
 and some common pictures (compare.py). Prints each difference with its pictures and how to run it again, up to ten,
-then a line of counts, and last 'FaCT++ as a judge: P passed, F failed'; exits 1 if F is not 0. A yes tells something
-unless it is of the same picture, of an impossible first one, or of a second one that says nothing: at least a third of
-the yes have to.
+then a line of counts, and last 'FaCT++ as a judge: P passed, F failed'; exits 1 if F is not 0. A failure is also what
+is known and found otherwise (known.py), a wrong answer that is not reported (turned.py), and books that were not worth
+comparing (shares.py).
 """
 
 import argparse
@@ -22,11 +22,11 @@ import compare
 import draw
 import fact
 import known
+import shares
 from library import Library
 from tally import Tally
 
 ENOUGH_BOOKS = 20  # for the shares to be asked
-TELLING, REFUSED = 1 / 3, 1 / 20  # of the yes, at least; of the pairs and of the common pictures, at most
 
 
 def arguments():
@@ -44,21 +44,9 @@ def judge_book(tally, library, seed, number, origin):
     book = compare.Book(rng, draw.draw_book(rng, number), library, origin)
     order = fact.classify(book.classes())
     compare.compare_pairs(tally, order, book, compare.verdicts(library, book))
-    compare.compare_cases(tally, library, order, book)
-    compare.compare_written(tally, library, rng, order, book)
-
-
-def share(tally, part, whole):
-    return tally.counts[part] / max(1, tally.counts[whole])
-
-
-def judge_shares(tally):
-    """Are the books worth comparing?"""
-    telling, refused = share(tally, "telling", "yes"), share(tally, "refused", "pairs")
-    not_joined = share(tally, "not joined", "joined")
-    tally.check(f"Of the yes {telling:.3f} are not trivial.", {"enough": telling >= TELLING, "ought": True})
-    tally.check(f"Of the pairs {refused:.3f} are refused.", {"few": refused <= REFUSED, "ought": True})
-    tally.check(f"Of the common pictures {not_joined:.3f} are refused.", {"few": not_joined <= REFUSED, "ought": True})
+    compare.compare_cases(tally, order, book, compare.found_cards(library, book))
+    pairs = compare.pairs_to_join(rng, order, book)
+    compare.compare_written(tally, book, compare.common_pictures(library, book, pairs))
 
 
 def judge(tally, given):
@@ -72,7 +60,7 @@ def judge(tally, given):
         except fact.Unreadable as unreadable:
             raise fact.Unreadable(f"{unreadable}\nto run it again: make judge {origin}") from unreadable
     if given.books >= ENOUGH_BOOKS:
-        judge_shares(tally)
+        shares.compare_shares(tally, tally.counts)
 
 
 def summary(tally, books, seconds):

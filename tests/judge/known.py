@@ -9,9 +9,9 @@ import random
 
 import compare
 import fact
+import turned
 from library import NO, YES
 from picture import Node
-from tally import Tally
 
 R, S = 8, 9
 
@@ -88,23 +88,27 @@ def compare_spoilt(tally):
         tally.check(f"A taxonomy where {what}.", {"is read": is_read(text), "ought": False})
 
 
-def noticed(order, book, answers, pair):
-    """The pairs that are found to differ once the answer for this one is turned round."""
-    tally = Tally(shown=0)
-    compare.compare_pairs(tally, order, book, {**answers, pair: YES if answers[pair] == NO else NO})
-    return tally.differences
+def known_answers():
+    """Pictures 2n and 2n + 1 of the known book are those of pair n."""
+    known = {}
+    for place, (_, _, _, forth, back) in enumerate(PAIRS):
+        first, second = 2 * place, 2 * place + 1
+        known.update({(first, second): forth, (second, first): back})
+    return known
 
 
 def compare_known(tally, library):
-    """Known answers against those of both; and what is turned round is noticed."""
+    """Known answers against those of both; and wrong ones are reported."""
+    turned.turn_said()
     roots = [root for _, first, second, *_ in PAIRS for root in (first, second)]
     book = compare.Book(random.Random(0), roots, library, "BOOKS=0")
     order = fact.classify(book.classes())
-    answers = compare.verdicts(library, book)
-    for place, (about, _, _, forth, back) in enumerate(PAIRS):
-        first, second = 2 * place, 2 * place + 1
-        for pair, answer in (((first, second), forth), ((second, first), back)):
-            judged = compare.words(compare.is_below(order, *pair))
-            tally.check(f"Known, {about}:", {"known": answer, **compare.both(answers[pair], judged)}, book, pair)
-            found = noticed(order, book, answers, pair)
-            tally.check("A wrong answer:", {"given": [pair], "noticed": found}, book, pair)
+    answers, known = compare.verdicts(library, book), known_answers()
+    for pair, answer in known.items():
+        about, judged = PAIRS[pair[0] // 2][0], compare.words(compare.is_below(order, *pair))
+        tally.check(f"Known, {about}:", {"known": answer, **compare.both(answers[pair], judged)}, book, pair)
+    turned.turn_verdicts(tally, order, book, answers, known)
+    turned.turn_cards(tally, order, book, compare.found_cards(library, book))
+    turned.turn_tables(tally, book, known)
+    turned.turn_common(tally, library, book, known)
+    turned.turn_shares(tally)
