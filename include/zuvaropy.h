@@ -14,9 +14,12 @@
  * length says, but a NULL pointer has none whatever the length. A buffer lent for
  * writing overlaps no other buffer of its call.
  *
- * Every call's word and every byte that it writes are proved, for every input.
- * What this header does by itself, its inline functions and its sizes of stack,
- * is tested.
+ * It is proved, for every input, that a call's word and every byte that it writes
+ * are what the definitions lay down, and that these mean what is said here: yes
+ * is subsumption, evidence that is taken shows it, the common picture is least, the
+ * cards found are the most specific. The proofs are about the library's source.
+ * What this header does by itself, its inline functions and its sizes of stack, is
+ * tested.
  *
  * zuvaropy_parts.h, beside this header, builds pictures and books and reads tables
  * and evidence.
@@ -37,9 +40,10 @@ extern "C" {
 /*
  * Version
  *
- * Until the first release the major number stays 3, and the minor one rises with
- * each version, any of which may ask for programs to be compiled again or changed:
- * CHANGELOG.md says which. So the soname of the shared library has both numbers.
+ * From 3.0 on, until the first release, the major number stays 3, and the minor one
+ * rises with each version, any of which may ask for programs to be compiled again or
+ * changed: CHANGELOG.md says which. So the soname of the shared library has both
+ * numbers.
  */
 
 #define ZUVAROPY_VERSION_MAJOR  3
@@ -232,7 +236,7 @@ extern "C" {
  * as zuvaropy_question_text says it.
  */
 
-/* Asked before anything else is looked at. */
+/* Asked before anything else is looked at. Of which buffer, where there are two, the word does not say. */
 #define ZUVAROPY_QUESTION_BUFFER       1  /* is each buffer lent for writing long enough? */
 
 /*
