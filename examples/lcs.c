@@ -1,8 +1,8 @@
 /*
  * Prints the common picture of two or more pictures, their least common subsumer,
  * a line for each row. It is folded: the third picture is taken with the common
- * picture of the first two, and so on. In another order it has the same instances,
- * but on the way other pictures may be refused as too large.
+ * picture of the first two, and so on. In another order other pictures may be
+ * refused on the way.
  *
  *   lcs FIRST SECOND [NEXT..]
  *
