@@ -4,9 +4,9 @@
 # make test       prove everything, then run the C tests, bounded fuzzing, the comparison with the Rust
 #                 implementation, the tests of the verdict program and those of the installed library;
 #                 the last line is 'N passed, M failed'
-# make demo       validate a picture and the samples, print their normal tables, ask which subsumes which, check the
-#                 sample evidence, print common pictures, look up cards and explain them, and run the verdict
-#                 program
+# make demo       look a vehicle up in a book and explain it in words; validate the samples, print their normal tables,
+#                 ask which subsumes which, check the sample evidence, print common pictures, look up cards and
+#                 explain them, and run the verdict program
 # make bench      print one table of the time of each call beside the same call hand-written in Rust, three of them in
 #                 C too, and how it grows with the size
 # make count      print how many instructions each call takes, whatever else the machine does, beside C, Rust and what

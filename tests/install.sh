@@ -193,18 +193,18 @@ documented() {
     check "install $*: page compiles" page_compiles
 }
 
-# The example of the verdict program's page: its lines after a prompt, run on the samples, print its other lines.
-session() {
-    rm -rf "$room/session" && cp -R "$root$doc/samples" "$room/session" &&
+# The example of the verdict program's page: its lines after a dollar sign, run on the samples, print its other lines.
+page_runs() {
+    rm -rf "$room/folder" && cp -R "$root$doc/samples" "$room/folder" &&
         sed -n '/^\.EX$/,/^\.EE$/p' "$root$man/man1/zuvaropy-verdict.1" | sed '1d; $d; s/\\-/-/g' >"$room/shown" &&
         sed -n 's/^\$ //p' "$room/shown" >"$room/typed" && [ -s "$room/typed" ] &&
-        (cd "$room/session" && PATH=$root$bin:$PATH sh "$room/typed") >"$room/printed" &&
+        (cd "$room/folder" && PATH=$root$bin:$PATH sh "$room/typed") >"$room/printed" &&
         grep -v '^\$ ' "$room/shown" | diff - "$room/printed"
 }
 
 # After it: the program ends by 0 also with an argument, which is ignored, and where nothing can be written.
 ends_well() {
-    (cd "$room/session" && "$root$bin/zuvaropy-verdict" >/dev/full && "$root$bin/zuvaropy-verdict" --help) \
+    (cd "$room/folder" && "$root$bin/zuvaropy-verdict" >/dev/full && "$root$bin/zuvaropy-verdict" --help) \
         >"$room/printed" && tail -n 1 "$room/shown" | diff - "$room/printed"
 }
 
@@ -213,7 +213,7 @@ ends_by_signal() {
     rm -f "$room/closed"
     {
         until [ -e "$room/closed" ]; do :; done
-        cd "$room/session" && env --default-signal=PIPE "$root$bin/zuvaropy-verdict"
+        cd "$room/folder" && env --default-signal=PIPE "$root$bin/zuvaropy-verdict"
         echo $? >"$room/status"
     } | {
         exec <&-
@@ -229,7 +229,7 @@ whole() {
     check "install $*: contents" copied
     check "install $*: pages" paged
     check "install $*: filled in" whole_text
-    check "install $*: verdict" session
+    check "install $*: verdict" page_runs
     check "install $*: verdict ends" ends_well
     check "install $*: verdict ends by a signal" ends_by_signal
     check "install $*: verdict by its name" by_name
