@@ -58,10 +58,10 @@ alone() {
     done
     "$@" $strict -Iinclude -c tests/second_unit.c -o "$out/alone"
 }
-# dropped COMPILER..: of each word that is dropped there is a warning, which can be an error.
+# dropped COMPILER..: of each word, and of a length, that is dropped there is a warning, which can be an error.
 dropped() {
     "$@" -Iinclude -c tests/dropped_words.c -o "$out/alone" 2>"$out/dropped.log" &&
-        [ "$(grep -c 'Wunused-result' "$out/dropped.log")" -eq 12 ] &&
+        [ "$(grep -c 'Wunused-result' "$out/dropped.log")" -eq 13 ] &&
         ! "$@" -Werror -Iinclude -c tests/dropped_words.c -o "$out/alone" 2>"$out/dropped.log"
 }
 # headers COMPILER LANGUAGE STANDARD..
