@@ -1,16 +1,14 @@
-/* Looks a vehicle up in a book of cards and says in words which cards are the most specific ones that subsume it, and
- * why. Takes no arguments. At the end it shows a refusal; it exits 1 if anything else is refused. */
+/* Looks a vehicle up in a book of cards, says in words which subsume it and why, and shows a refusal at the end. */
 #include <zuvaropy_parts.h>
 #include <stdio.h>
-
 enum { ROOT = ZUVAROPY_KIND_ROOT, SOME = ZUVAROPY_KIND_EXISTS, ALL = ZUVAROPY_KIND_FORALL };
 enum { VEHICLE, LOOP, CLIP, CONNECTOR }; /* roles; a root has role 0 */
-enum { BELT_FAULT = 1, FIRING = 2, OPEN = 4, CORRODED = 8, SEATED = 16, NAMES = 5 }; /* name n is 2^n: sets are sums */
+enum { BELT_FAULT = 1, FIRING = 2, OPEN = 4, CORRODED = 8, SEATED = 16 }; /* name n is 2^n: sets are sums */
 static const char *const kinds[] = {"", "some ", "all "}, *const roles[] = {"vehicle", "loop", "clip", "connector"};
-static const char *const names[NAMES] = {"belt fault", "firing", "open", "corroded", "seated"};
-
+static const char *const names[] = {"belt fault", "firing", "open", "corroded", "seated"};
+#define WORD(words, n) ((n) < sizeof words / sizeof words[0] ? words[n] : "unknown")
 /* A row of a picture. The first is the vehicle; the others are parts, each of an earlier row. */
-struct row { unsigned int parent, kind, role, wanted, excluded; };
+struct row { unsigned int parent, kind, role; uint64_t wanted, excluded; };
 static const struct row vehicle[] = {{0, ROOT, VEHICLE, BELT_FAULT, 0}, {0, SOME, CLIP, 0, 0},
     {0, ALL, CLIP, SEATED, 0}, {0, SOME, LOOP, FIRING | OPEN, 0}, {3, SOME, CONNECTOR, CORRODED, 0}};
 static const struct row open_loop[] = {{0, ROOT, VEHICLE, 0, 0}, {0, SOME, LOOP, OPEN, 0}};
@@ -27,7 +25,7 @@ static size_t write_picture(uint8_t *picture, const struct row *rows, size_t cou
     struct zuvaropy_writer writer = zuvaropy_write_to(picture, ZUVAROPY_MAX_PICTURE_BYTES);
     for (unsigned int i = 0; i < count; i++) {
         zuvaropy_write_row(&writer, rows[i].parent, rows[i].kind, rows[i].role);
-        for (unsigned int name = 0; name < NAMES; name++) {
+        for (unsigned int name = 0; name < ZUVAROPY_NAMES; name++) {
             if (rows[i].wanted >> name & 1)
                 zuvaropy_write_wanted(&writer, i, name);
             if (rows[i].excluded >> name & 1)
@@ -37,19 +35,19 @@ static size_t write_picture(uint8_t *picture, const struct row *rows, size_t cou
     return zuvaropy_write_end(&writer);
 }
 
-static void print_names(const char *before, const uint8_t *set)
+static void print_names(const char *before, const uint8_t *value, size_t set_at)
 {
-    for (unsigned int name = 0; name < NAMES; name++)
-        if (zuvaropy_set_has(set, name))
-            printf("%s%s", before, names[name]);
+    for (unsigned int name = 0; value != NULL && name < ZUVAROPY_NAMES; name++)
+        if (zuvaropy_set_has(value + set_at, name))
+            printf("%s%s", before, WORD(names, name));
 }
 
 static void print_row(const char *before, const uint8_t *table, unsigned int number)
 {
     const uint8_t *row = zuvaropy_table_row(table, ZUVAROPY_MAX_PICTURE_BYTES, number);
-    printf("%s%s%s", before, kinds[zuvaropy_row_kind(row)], roles[zuvaropy_row_role(row)]);
-    print_names(", ", row + ZUVAROPY_WANTED_AT);
-    print_names(", not ", row + ZUVAROPY_EXCLUDED_AT);
+    printf("%s%s%s", before, WORD(kinds, zuvaropy_row_kind(row)), WORD(roles, zuvaropy_row_role(row)));
+    print_names(", ", row, ZUVAROPY_WANTED_AT);
+    print_names(", not ", row, ZUVAROPY_EXCLUDED_AT);
     printf("%s", zuvaropy_row_impossible(row) ? ", impossible" : "");
 }
 
@@ -62,10 +60,10 @@ static void print_evidence(size_t length)
     }
     const uint8_t *individual;
     for (unsigned int i = 0; (individual = zuvaropy_refutation_individual(evidence, length, i)) != NULL; i++) {
-        printf("\n    %u: %s", i, roles[zuvaropy_individual_role(individual)]);
+        printf("\n    %u: %s", i, WORD(roles, zuvaropy_individual_role(individual)));
         if (i > 0)
             printf(" of %u", zuvaropy_individual_parent(individual));
-        print_names(", ", individual + ZUVAROPY_INDIVIDUAL_NAMES_AT);
+        print_names(", ", individual, ZUVAROPY_INDIVIDUAL_NAMES_AT);
     }
     printf("\n");
 }
@@ -103,6 +101,8 @@ int main(void)
             return 1;
         printf("card %u %s", i, zuvaropy_outcome(checked) == ZUVAROPY_OUTCOME_YES ? "subsumes" : "does not subsume");
         printf(" the vehicle%s", zuvaropy_value(found) >> i & 1 ? ", as a most specific card" : "");
+        if (zuvaropy_row_impossible(zuvaropy_table_row(work, ZUVAROPY_MAX_PICTURE_BYTES, 0)))
+            printf(", but nothing is such a vehicle: it contradicts itself, and every card subsumes it");
         print_evidence(zuvaropy_value(word));
     }
     book[ZUVAROPY_CARD_BYTES(ZUVAROPY_ROW_BYTES) + ZUVAROPY_HEAD_BYTES + ZUVAROPY_ROLE_AT] = 99; /* row 1 of card 0 */

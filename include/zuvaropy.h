@@ -11,8 +11,8 @@
  * any time, on buffers that no other thread writes meanwhile.
  *
  * A buffer is a pointer and a length in bytes, and has as many bytes as its
- * length says, but a NULL pointer has none whatever the length. A buffer lent for
- * writing overlaps no other buffer of its call.
+ * length says, but a NULL pointer has none whatever the length (see NULL, at the
+ * end). A buffer lent for writing overlaps no other buffer of its call.
  *
  * It is proved, for every input, that a call's word and every byte that it writes
  * are what the definitions lay down, and that these mean what is said here: yes
@@ -698,9 +698,11 @@ uint64_t zuvaropy_verify(const uint8_t *first, size_t first_len, const uint8_t *
  * instances subsume each other, also where their bytes differ, and of these all
  * are found or none. To learn which of the cards that are found have the same
  * instances, ask zuvaropy_subsumes of each two, in either order: it says yes
- * exactly when they have. Of a case that contradicts itself nothing is an instance,
- * and every card subsumes it: row 0 of its normal table, which zuvaropy_subsumes
- * leaves in the work space, is marked impossible.
+ * exactly when they have.
+ *
+ * Of a case that contradicts itself nothing is an instance, and every card subsumes
+ * it. So look first: row 0 of its normal table, which zuvaropy_normalize writes, is
+ * then marked impossible. This call leaves no table in the work space.
  *
  * Reads:   case_picture, at most case_picture_len bytes; book, at most book_len
  *          bytes.
@@ -748,7 +750,8 @@ uint64_t zuvaropy_most_specific(const uint8_t *case_picture, size_t case_picture
  * 0. So each call is also a macro of the same name for an inline function that
  * makes of NULL, whatever the length, a buffer without bytes, and hands on any
  * other. The library's function itself is reached by its address or as
- * (zuvaropy_validate)(..).
+ * (zuvaropy_validate)(..), and wants a pointer that is not NULL. So does a member or
+ * a variable of the same name, which is called as (table->zuvaropy_validate)(..).
  */
 
 /* The pointer itself, or one to a byte that is never read where it is NULL. */

@@ -16,6 +16,8 @@
  *
  * It is read row by row, as are books, maps and refutations:
  *
+ *   const uint8_t *row;
+ *   unsigned int number;
  *   for (number = 0; (row = zuvaropy_table_row(picture, length, number)) != NULL; number++)
  *       if (zuvaropy_row_wants(row, 3))
  *           printf("row %u wants name 3\n", number);
@@ -29,8 +31,9 @@
  *   - What is not there is NULL or 0: a field that is cut off or of another kind, as
  *     the end field is; a part of a row or an individual that is NULL; a name that
  *     is not below ZUVAROPY_NAMES; what is above a limit of zuvaropy.h. Counts go up
- *     to the first that is not there, and so should a program: rows and individuals
- *     are found at once, without a look at those before them.
+ *     to the first that is not there, and so must a program: a row or an individual
+ *     is looked for at its place alone. Where more bytes are given than the file has,
+ *     one after its end may be what an earlier call left there.
  *   - A writer fails if it cannot write what it is told to: for want of room, at a
  *     row after ZUVAROPY_MAX_ROWS or a card after ZUVAROPY_MAX_CARDS, at a card
  *     without bytes, as is given for a picture that failed, at a card or a number
@@ -96,7 +99,7 @@ static inline int zuvaropy_parts_number_fits(size_t number, size_t count)
     return number == 0;
 }
 
-/* Is a name in a set, which has ZUVAROPY_NAME_SET_BYTES? */
+/* Is a name in a set, which has ZUVAROPY_NAME_SET_BYTES? A set in a row that is NULL is not NULL: look at the row. */
 static inline int zuvaropy_set_has(const uint8_t *set, unsigned int name)
 {
     return set && name < ZUVAROPY_NAMES && (set[ZUVAROPY_NAME_SET_BYTES - 1 - name / 8] >> name % 8 & 1) != 0;
@@ -348,7 +351,8 @@ static inline int zuvaropy_row_excludes(const uint8_t *row, unsigned int name)
  * Evidence: a refutation has no images, and a map no individuals.
  */
 
-/* The number of images in a map, which is that of the rows of the second normal table. */
+/* The number of whole images in a map; of one that zuvaropy_verify takes, that of the rows of the second normal table.
+ * The end field is not looked at. */
 static inline unsigned int zuvaropy_map_images(const uint8_t *map, size_t length)
 {
     unsigned int images = 0;
@@ -402,7 +406,8 @@ static inline int zuvaropy_individual_has(const uint8_t *individual, unsigned in
  * Books
  */
 
-/* The bytes of a card, which are those of a picture, and their number; or NULL and 0. */
+/* The bytes of a card, which are those of a picture, and their number, for which there has to be a place; or NULL and
+ * 0. */
 static inline const uint8_t *zuvaropy_book_card(const uint8_t *book, size_t length, unsigned int card,
                                                 size_t *card_length)
 {

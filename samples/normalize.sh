@@ -1,6 +1,6 @@
 #!/bin/sh
 # Prints the normal tables of the sample pictures: sh samples/normalize.sh PROGRAM, which is that of
-# examples/normalize.c. Some of them are refused, so that it ends with 1.
+# examples/normalize.c. Some of them are refused, so that PROGRAM ends with 1.
 . "$(dirname "$0")/here.sh"
 program=$(program "$1")
 cd "$(dirname "$0")"

@@ -1,6 +1,6 @@
 #!/bin/sh
 # Validates the sample pictures: sh samples/validate.sh PROGRAM, which is that of examples/validate.c. Some of them are
-# refused, so that it ends with 1.
+# refused, so that PROGRAM ends with 1.
 . "$(dirname "$0")/here.sh"
 program=$(program "$1")
 cd "$(dirname "$0")"
