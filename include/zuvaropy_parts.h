@@ -150,7 +150,8 @@ static inline uint8_t *zuvaropy_parts_write_field(struct zuvaropy_writer *writer
     uint8_t *field;
 
     if (left < ZUVAROPY_HEAD_BYTES || left - ZUVAROPY_HEAD_BYTES < value_length ||
-        !zuvaropy_parts_number_fits(tag, ZUVAROPY_TAG_BYTES) || !zuvaropy_parts_number_fits(value_length, ZUVAROPY_LENGTH_BYTES))
+        !zuvaropy_parts_number_fits(tag, ZUVAROPY_TAG_BYTES) ||
+        !zuvaropy_parts_number_fits(value_length, ZUVAROPY_LENGTH_BYTES))
         writer->failed = 1;
     if (writer->failed)
         return ZUVAROPY_NONE;
@@ -164,11 +165,12 @@ static inline uint8_t *zuvaropy_parts_write_field(struct zuvaropy_writer *writer
 
 /* The same for a file of which every field before the end has this tag, and that has at most so many. */
 static inline uint8_t *zuvaropy_parts_write_item(struct zuvaropy_writer *writer, unsigned int tag, size_t value_length,
-                                           unsigned int limit)
+                                                 unsigned int limit)
 {
     uint8_t *value;
 
-    if (writer->count >= limit || (writer->count > 0 && zuvaropy_parts_get_number(writer->bytes, ZUVAROPY_TAG_BYTES) != tag))
+    if (writer->count >= limit ||
+        (writer->count > 0 && zuvaropy_parts_get_number(writer->bytes, ZUVAROPY_TAG_BYTES) != tag))
         writer->failed = 1;
     value = zuvaropy_parts_write_field(writer, tag, value_length);
     if (value)
@@ -182,7 +184,8 @@ static inline unsigned int zuvaropy_write_row(struct zuvaropy_writer *writer, un
 {
     uint8_t *value;
 
-    if (!zuvaropy_parts_number_fits(parent, ZUVAROPY_PARENT_BYTES) || !zuvaropy_parts_number_fits(kind, ZUVAROPY_KIND_BYTES) ||
+    if (!zuvaropy_parts_number_fits(parent, ZUVAROPY_PARENT_BYTES) ||
+        !zuvaropy_parts_number_fits(kind, ZUVAROPY_KIND_BYTES) ||
         !zuvaropy_parts_number_fits(role, ZUVAROPY_ROLE_BYTES))
         writer->failed = 1;
     value = zuvaropy_parts_write_item(writer, ZUVAROPY_TAG_ROW, ZUVAROPY_ROW_VALUE_BYTES, ZUVAROPY_MAX_ROWS);
@@ -280,7 +283,7 @@ static inline unsigned int zuvaropy_parts_get_part(const uint8_t *value, size_t 
 
 /* The value of a field by its number, where all have so many bytes, or NULL if it has another tag or length. */
 static inline const uint8_t *zuvaropy_parts_field_value(const uint8_t *file, size_t length, unsigned int tag,
-                                                  size_t field_bytes, unsigned int number)
+                                                        size_t field_bytes, unsigned int number)
 {
     const size_t before = number * field_bytes;
 
@@ -291,7 +294,7 @@ static inline const uint8_t *zuvaropy_parts_field_value(const uint8_t *file, siz
 
 /* How many fields with this tag and of so many bytes a file begins with, up to a limit. */
 static inline unsigned int zuvaropy_parts_count_fields(const uint8_t *file, size_t length, unsigned int tag,
-                                                 size_t field_bytes, unsigned int limit)
+                                                       size_t field_bytes, unsigned int limit)
 {
     unsigned int count = 0;
 
@@ -376,7 +379,7 @@ static inline unsigned int zuvaropy_map_image(const uint8_t *map, size_t length,
 static inline unsigned int zuvaropy_refutation_individuals(const uint8_t *refutation, size_t length)
 {
     return zuvaropy_parts_count_fields(refutation, length, ZUVAROPY_TAG_INDIVIDUAL, ZUVAROPY_INDIVIDUAL_BYTES,
-                                 ZUVAROPY_MAX_INDIVIDUALS);
+                                       ZUVAROPY_MAX_INDIVIDUALS);
 }
 
 /* An individual, for the functions below, or NULL. */
@@ -385,7 +388,8 @@ static inline const uint8_t *zuvaropy_refutation_individual(const uint8_t *refut
 {
     if (individual >= ZUVAROPY_MAX_INDIVIDUALS)
         return ZUVAROPY_NONE;
-    return zuvaropy_parts_field_value(refutation, length, ZUVAROPY_TAG_INDIVIDUAL, ZUVAROPY_INDIVIDUAL_BYTES, individual);
+    return zuvaropy_parts_field_value(refutation, length, ZUVAROPY_TAG_INDIVIDUAL, ZUVAROPY_INDIVIDUAL_BYTES,
+                                      individual);
 }
 
 /* The parts of an individual. The role is the one by which its parent reaches it. */

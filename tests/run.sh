@@ -162,7 +162,8 @@ block() {
 
 # shown PATTERN: the README's first block after the line that matches.
 shown() {
-    awk -v pattern="$1" '!at && $0 ~ pattern { at = 1; next } at && /^```/ { if (at++ == 2) exit; next } at == 2' README.md
+    awk -v pattern="$1" '!at && $0 ~ pattern { at = 1; next } at && /^```/ { if (at++ == 2) exit; next } at == 2' \
+        README.md
 }
 
 # readme STATUS PRINTED ARGUMENT..: the README's one program in C builds, prints this and ends so. Others are in
@@ -232,7 +233,8 @@ one 'example most_specific' example most_specific sh samples/most_specific.sh "$
 one 'example explain' example explain sh samples/explain.sh "$out/explain"
 one 'readme, yes' readme 0 "$(shown '^Of .samples/both.pic. and .samples/each.pic.')" samples/both.pic samples/each.pic
 one 'readme, no' readme 0 "$(shown '^of .samples/each.pic. and .samples/both.pic.')" samples/each.pic samples/both.pic
-one 'readme, refused' readme 1 "$(shown '^and of .samples/top.pic. and .samples/cut.pic.')" samples/top.pic samples/cut.pic
+one 'readme, refused' readme 1 "$(shown '^and of .samples/top.pic. and .samples/cut.pic.')" samples/top.pic \
+    samples/cut.pic
 one 'readme, unread' readme_unread
 one 'readme, card refused' grep -qxF "family.pic early.book: $(grep '^refused 11,' README.md)" \
     samples/most_specific.stdout
