@@ -10,7 +10,7 @@
 # The counts are the same on every run and under any load. memset and memcpy are kept from the instructions that repeat,
 # which cachegrind counts once for each byte. By where the stack begins they take a few more or fewer, and that is said
 # by the environment, PWD too: so it is emptied, and the program runs in a folder whose name is as long wherever this
-# one is. Where valgrind may chase, it makes one condition of two and counts the second also where the first has jumped.
+# one is. Where valgrind follows jumps (chasing), cachegrind counts more than callgrind and single steps do.
 set -eu
 
 bench=$1
