@@ -1,40 +1,22 @@
--- The root: the merged tree that the code begins with is that of {root}, it is never dropped, and so what was grown from nothing is the
--- normal table.
---   rows-root       no row and row 0 are {root}
---   merged-root     the merged tree of that set
+-- The root: the merged tree that the code begins with is never dropped, and so what was grown from nothing is the normal table.
 --   grown-built     what was grown from nothing with it is the normal table
-use Prim.Native.Nat.{_<_, suc, zero, ℕ}
-use borrow.Author.Tests.{ne-eqb}
+use Prim.Native.Nat.{_<_, ℕ}
 use mathlib.Core.Bool.{false}
-use mathlib.Core.List.{List, [], _∷_, append-nil}
+use mathlib.Core.List.{List, append-nil}
 use mathlib.Core.Path.{_∙_, _≡_, ap, subst}
 use native.Mathlib.Omega.{arith}
-use Rattle.ale.proofs.RowLists.{filterFrom-none}
 use Rattle.ale.specs.Encoding.{encode}
-use Rattle.ale.specs.Merged.{merged}
-use Rattle.ale.specs.Rows.{filterBelow}
 use Rattle.ale.specs.PictureSignature.{pictureSignature}
 use Rattle.ale.specs.Tree.{cons, exists, nil}
 use Rattle.meaning.specs.File.{rowsFrom}
-use Rattle.meaning.specs.Meaning.{pictureTable}
 use Rattle.meaning.specs.NormalTable.{mergedCount, mergedTree, normalTreeOf}
 use Rattle.table.specs.declared.layout.Limits.{Limits}
+use Rattle.row_sets.proofs.Roots.{merged-root}
+use Rattle.row_sets.specs.Parts.{mergedAt}
+use Rattle.row_sets.specs.Rows.{also}
 use Rattle.normal_writer.specs.Built.{Built}
 use Rattle.normal_writer.specs.Grown.{Grown}
-use Rattle.normal_writer.specs.Parts.{mergedAt}
-use Rattle.row_sets.specs.Rows.{also}
 use Rattle.normal_writer.specs.declared.node.Branch.{Branch}
-
-pub rows-root : (rows : ℕ) → 0 < rows → filterBelow (also 0 (λ j. false)) rows ≡ 0 ∷ []
-rows-root zero rooted = absurd (omega arith)
-rows-root (suc n) rooted =
-    ap (λ (l : List ℕ). 0 ∷ l) (filterFrom-none (also 0 (λ j. false)) 1 n (λ j a b. rw (ne-eqb j 0 (λ e. omega arith)) tt))
-
-pub merged-root : (limits : Limits) (s : List ℕ) (rows : ℕ) → 0 < rows →
-    mergedAt s rows (limits .depth) (also 0 (λ j. false)) ≡ mergedTree limits s
-unfolding mergedAt mergedTree
-merged-root limits s rows rooted =
-    ap (λ (l : List ℕ). merged pictureSignature (pictureTable s) (limits .depth) l) (rows-root rows rooted)
 
 -- what was grown from nothing with the merged tree
 module _ (limits : Limits) (s : List ℕ) (b r : Branch) (out end : List ℕ) (first : b .table .rows ≡ 0) (none : b .merged ≡ 0)

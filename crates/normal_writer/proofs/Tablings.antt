@@ -1,5 +1,4 @@
 -- Laws of whole tables at the start of a lent part.
---   readable-rows                      what the writer needs of a readable picture
 --   table-put                          rows put from the first byte on, and the end field after them
 --   tabled-none, tabled-rows           14 is answered no; the table is finished
 --   none-many, some-few                no row says that 14 is answered no, any other number that it is answered yes
@@ -36,11 +35,6 @@ use Rattle.normal_writer.specs.Grown.{prefix}
 use Rattle.normal_writer.specs.Tables.{Tabled}
 use Rattle.normal_writer.specs.declared.node.Branch.{Branch}
 use Rattle.normal_writer.proofs.Prefixes.{take-put}
-
-pub readable-rows : (limits : Limits) (s : List ℕ) → Bounded limits → Readable limits s → Checked s (length s / rowSize)
-unfolding rowCount
-readable-rows limits s bounded readable =
-    let checked = readable-checked limits s (readable .rows) (readable .reads) bounded in subst (λ n. Checked s n) (checked .counted) checked
 
 pub table-put : (rows n : ℕ) (scratch out l₁ l₂ : List ℕ) → n ≡ place rows 0 → place rows 0 ≤ length scratch →
     place rows endSize ≤ length out → l₁ ≡ put out 0 (take n scratch) → l₂ ≡ put l₁ (place rows 0) endBytes →

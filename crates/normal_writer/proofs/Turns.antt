@@ -14,12 +14,12 @@ use Rattle.table.specs.Layout.{roles}
 use Rattle.ale.specs.PictureSignature.{pictureSignature}
 use Rattle.ale.specs.Tree.{Forest, cons, exists, nil}
 use Rattle.normal_writer.specs.Grown.{Grown, Room}
-use Rattle.normal_writer.specs.Parts.{existsPartAt, mergedAt, partsAt, rolesAt}
+use Rattle.row_sets.specs.Parts.{existsPartAt, mergedAt, partsAt, rolesAt}
 use Rattle.row_sets.specs.Rows.{Next, also, holds, ofRole}
 use Rattle.normal_writer.specs.declared.node.Branch.{Branch}
 use Rattle.row_sets.specs.declared.rows.RowSet.{RowSet}
 use Rattle.normal_writer.proofs.Growth.{grown-append, grown-full, grown-nil, grown-same}
-use Rattle.normal_writer.proofs.PartLaws.{Unused, exists-more, exists-next, exists-none, exists-skip, roles-next, roles-skip}
+use Rattle.row_sets.proofs.PartLaws.{Unused, exists-more, exists-next, exists-none, exists-skip, roles-next, roles-skip}
 
 module _ (s : List ℕ) (rows depth : ℕ) (p : ℕ → Bool) (limit parent : ℕ) (b : Branch) (out : List ℕ) where
   pub role-on : (least n : ℕ) (r : Branch) (end : List ℕ) → least ≤ n → least ≤ roles → Unused s rows p least (min n roles) → Grown limit parent b out (rolesAt s rows depth p least) r end → Grown limit parent b out (rolesAt s rows depth p (min n roles)) r end

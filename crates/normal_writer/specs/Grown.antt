@@ -1,14 +1,13 @@
 -- What a function that writes merged rows has done: it has counted a forest of them up to the limit and one more, and has written
 -- what tidying leaves of it. Nobody has to believe these.
 --   prefix                            the bytes of the rows that a table under construction has
---   capped                            a count up to the limit and one more
 --   Room                              what such a function needs of its arguments
 --   Written                           the rows of a forest stand after those that were there, and whether a some-successor is ⊥
 --   Grown                             a forest was counted, and what tidying leaves of it was written if the count is within the limit
 --   Entered                           a row was written, and what hangs from it is to follow
 --   clash, bare                       a label is broken by itself; it has no names
 --   isInconsistent, isDropped, Left   01, "broken", "dropped": how a row is left once what hangs from it is there
-use Prim.Native.Nat.{_+_, _<_, _≤_, min, suc, ℕ}
+use Prim.Native.Nat.{_+_, _<_, _≤_, suc, ℕ}
 use lib.Dec.{eqb}
 use lib.ListN.{length, take}
 use mathlib.Core.Bool.{Bool, _&&_, _||_, false, not}
@@ -28,13 +27,11 @@ use Rattle.ale.specs.Tree.{Forest, any, sizes}
 use Rattle.meaning.specs.File.{rowsFrom}
 use Rattle.normal_writer.specs.declared.node.Branch.{Branch}
 use Rattle.normal_writer.specs.declared.node.Edge.{Edge}
+use Rattle.row_sets.specs.Parts.{capped}
 use Rattle.row_sets.specs.declared.label.Label.{Label}
 
 abbrev pub prefix : ℕ → List ℕ → List ℕ
 prefix rows out = take (place rows 0) out
-
-abbrev pub capped : ℕ → ℕ → ℕ
-capped limit n = min n (suc limit)
 
 pub record Room (limit : ℕ) (b : Branch) (out : List ℕ) : Type 0 where
   pub limit-most : limit ≤ maxRows

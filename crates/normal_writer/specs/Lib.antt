@@ -1,5 +1,4 @@
 -- What the parts of the normal-table writer do.
 pub mod Grown
-pub mod Parts
 pub mod Built
 pub mod Tables

@@ -30,7 +30,7 @@ ghost use Rattle.meaning.specs.File.{codeAt};
 ghost use Rattle.meaning.specs.Meaning.{kindAt};
 ghost use Rattle.row_sets.specs.Rows.{Checked, Known, Surveyed, holds, ofRole};
 ghost use Rattle.row_sets.specs.Labels.{Valued};
-ghost use Rattle.normal_writer.specs.Parts.{existsPartAt, mergedAt, partsAt, successorsAt, valuePartAt};
+ghost use Rattle.row_sets.specs.Parts.{existsPartAt, mergedAt, partsAt, successorsAt, valuePartAt};
 ghost use Rattle.normal_writer.specs.Built.{Built};
 ghost use Rattle.normal_writer.specs.Grown.{Grown, Room};
 

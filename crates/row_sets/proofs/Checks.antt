@@ -1,12 +1,16 @@
--- What the writer needs of a picture is true of one that reads as rows.
-use Prim.Native.Nat.{ℕ}
+-- What the code needs of a picture is true of one that reads as rows.
+--   readable-checked   of so many rows
+--   readable-rows      of as many as its length says
+use Prim.Native.Nat.{ℕ, _/_}
+use lib.ListN.{length}
 use mathlib.Core.List.{List}
-use mathlib.Core.Path.{_≡_, sym}
+use mathlib.Core.Path.{_≡_, subst, sym}
 use native.Mathlib.Omega.{arith}
 use Rattle.picture.proofs.Readables.{readable-count, readable-kind, readable-length, readable-most, readable-parent, readable-role, readable-some}
 use Rattle.picture.specs.Read.{readingOf}
-use Rattle.picture.specs.Readable.{Readable}
+use Rattle.picture.specs.Readable.{Readable, rowCount}
 use Rattle.table.specs.Bounds.{Bounded}
+use Rattle.table.specs.Layout.{rowSize}
 use Rattle.table.specs.declared.layout.Limits.{Limits}
 use Rattle.picture.specs.declared.read.Reading.the-variants.{Rows}
 use Rattle.row_sets.specs.Rows.{Checked}
@@ -25,3 +29,9 @@ readable-checked limits s n reads bounded =
       kinds = λ j later l. readable-kind limits s readable j later (omega (arith, count));
       roles-below = λ j l. readable-role limits s readable j (omega (arith, count));
     }
+
+pub readable-rows : (limits : Limits) (s : List ℕ) → Bounded limits → Readable limits s → Checked s (length s / rowSize)
+unfolding rowCount
+readable-rows limits s bounded readable =
+    let checked = readable-checked limits s (readable .rows) (readable .reads) bounded in
+    subst (λ n. Checked s n) (checked .counted) checked

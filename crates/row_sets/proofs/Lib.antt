@@ -6,3 +6,6 @@ pub mod LabelLaws
 pub mod Gathers
 pub mod Checks
 pub mod LinkLists
+pub mod RowFilters
+pub mod PartLaws
+pub mod Roots

@@ -14,12 +14,12 @@ use Rattle.meaning.specs.Meaning.{kindAt, pictureTable}
 use Rattle.row_sets.specs.Rows.{also, hangs, holds, ofRole}
 use Rattle.normal_writer.specs.Grown.{Grown}
 use Rattle.row_sets.specs.Labels.{Valued}
-use Rattle.normal_writer.specs.Parts.{existsPartAt, rolesAt, successorsAt}
+use Rattle.row_sets.specs.Parts.{existsPartAt, rolesAt, successorsAt}
 use Rattle.normal_writer.proofs.Growth.{entered-length, entered-room, grown-append, grown-full, grown-nil, grown-over, grown-room, grown-same, grown-some}
 use Rattle.row_sets.proofs.LabelLaws.{known-with, valued-with}
 use Rattle.row_sets.proofs.Masks.{edge-row}
 use Rattle.normal_writer.proofs.Nodes.{grown-node}
-use Rattle.normal_writer.proofs.PartLaws.{code-later, merged-leaf, merged-node, role-parts, roles-more, roles-none, successors-leaf, successors-roles, successors-same, unused-roles, value-none, value-one}
+use Rattle.row_sets.proofs.PartLaws.{code-later, merged-leaf, merged-node, role-parts, roles-more, roles-none, successors-leaf, successors-roles, successors-same, unused-roles, value-none, value-one}
 use Rattle.normal_writer.proofs.Turns.{role-on, role-turn, turn-end, turn-full, turn-on, turn-start}
 use Prim.Native.Nat.{ℕ, _*_, _+_, _-_, _<_, min}
 use borrow.Fn.Kinds.{In}

@@ -1,7 +1,8 @@
 -- What is built is the normal table where 14 is answered yes; the end field makes it a file.
 use native.Mathlib.Omega.{arith}
 use denote.Ref.{now}
-use Rattle.normal_writer.proofs.Tablings.{readable-rows, tabled-none, tabled-rows}
+use Rattle.row_sets.proofs.Checks.{readable-rows}
+use Rattle.normal_writer.proofs.Tablings.{tabled-none, tabled-rows}
 use borrow.Author.Needs.{needs}
 use Rattle.normal_writer.proofs.write.normal_table.Statement.{statement}
 use Rattle.normal_writer.proofs.write.normal_table.Tie as tie

@@ -33,12 +33,12 @@ use Rattle.ale.proofs.RowLists.{filterBelow-in, filterFrom-none, filterFrom-spl
 use Rattle.picture.specs.Readable.{rowCount}
 use Rattle.meaning.specs.File.{codeAt, kindCode}
 use Rattle.meaning.specs.Meaning.{kindAt, pictureTable}
-use Rattle.normal_writer.specs.Parts.{existsPartAt, mergedAt, partsAt, rolesAt, successorsAt, valuePartAt}
+use Rattle.row_sets.specs.Parts.{existsPartAt, mergedAt, partsAt, rolesAt, successorsAt, valuePartAt}
 use Rattle.row_sets.specs.Rows.{Checked, Found, Known, also, hangs, holds, ofKind, ofRole}
 use Rattle.row_sets.specs.Labels.{Valued}
 use Rattle.row_sets.specs.declared.rows.Successors.{Successors}
 use Rattle.row_sets.specs.declared.values.Values.{Values}
-use Rattle.normal_writer.proofs.RowFilters.{filter-none, filter-same, filter-yes, member-filter}
+use Rattle.row_sets.proofs.RowFilters.{filter-none, filter-same, filter-yes, member-filter}
 use Rattle.table.proofs.Tests.{and-comm, and-none, and-none-two, and-swap, eqb-same, refuted}
 
 -- ---- the tests of an edge

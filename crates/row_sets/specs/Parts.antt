@@ -1,11 +1,12 @@
--- The merged rows that each function of the writer makes. Nobody has to believe these.
+-- The merged rows of sets of file rows, as the code makes or counts them. Nobody has to believe these.
+--   capped         a count up to a limit and one more
 --   mergedAt       the merged tree of a set
 --   valuePartAt    the all-successor for A = q, if A is not empty
 --   existsPartAt   the some-successors p below row n, each standing for its row with A = q
 --   partsAt        those of one role, where p are those that hang by it
 --   rolesAt        those of the roles below n
 --   successorsAt   those of all roles, down to a depth
-use Prim.Native.Nat.{suc, zero, ℕ}
+use Prim.Native.Nat.{min, suc, zero, ℕ}
 use lib.Dec.{ltb}
 use mathlib.Core.Bool.{Bool}
 use mathlib.Core.List.{List}
@@ -17,7 +18,10 @@ use Rattle.ale.specs.PictureSignature.{pictureSignature}
 use Rattle.ale.specs.Rows.{filterBelow}
 use Rattle.ale.specs.Tree.{Forest, Tree, cons, forAll, nil}
 use Rattle.meaning.specs.Meaning.{pictureTable}
 use Rattle.row_sets.specs.Rows.{also, ofKind, ofRole}
+
+abbrev pub capped : ℕ → ℕ → ℕ
+capped limit n = min n (suc limit)
 
 module _ (s : List ℕ) (rows depth : ℕ) where
   unfoldable pub mergedAt : (ℕ → Bool) → Tree pictureSignature
