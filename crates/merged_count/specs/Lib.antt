@@ -1,0 +1,2 @@
+-- What is counted of merged rows.
+pub mod Bound
