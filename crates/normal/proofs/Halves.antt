@@ -2,15 +2,15 @@
 --   length-half              a half is as long as the longest picture
 --   half-byte, half-rest     it has the bytes of its file, and after them zeros
 --   half-file                so its first bytes are the file
---   half-put                 a file put at the start of a half, and zeros after it
+--   half-cleared             a file at the start of a half whose rest is cleared
 use Prim.Native.Nat.{_+_, _-_, _≤_, ℕ}
-use lib.ListN.{List·getD-append, List·getD-eq-default, getD, length, length-append, take}
+use lib.ListN.{List·getD-append, List·getD-eq-default, drop-of-length-le, getD, length, length-append, take}
 use lib.Seq.{getD-append-add, take-at}
-use mathlib.Core.List.{List, _++_}
+use mathlib.Core.List.{List, _++_, append-nil}
 use mathlib.Core.Path.{_∙_, _≡_, ap, refl, sym}
 use native.Mathlib.Decide.{decLt}
 use native.Mathlib.Omega.{arith}
-use Rattle.table.proofs.Puts.{getD-zeros, length-zeros, put-put}
+use Rattle.table.proofs.Puts.{getD-zeros, length-zeros}
 use Rattle.table.specs.Bounds.{pictureSize}
 use Rattle.table.specs.Put.{put, zeros}
 use Rattle.table.specs.declared.layout.Limits.{Limits}
@@ -43,15 +43,15 @@ module _ (limits : Limits) (file : List ℕ) where
   unfolding halfOf
   half-file = take-at file (zeros (pictureSize limits - length file)) (length file) refl
 
-  pub half-put : (half l₁ l₂ : List ℕ) (n m : ℕ) → n ≡ length file → m ≡ pictureSize limits → length file ≤ pictureSize limits →
-      pictureSize limits ≤ length half → l₁ ≡ put half 0 file → l₂ ≡ put l₁ n (zeros (m - n)) → l₂ ≡ put half 0 (halfOf limits file)
-  unfolding halfOf
-  half-put half l₁ l₂ n m e f fits room p q =
-      let rest = zeros (pictureSize limits - length file) in
-      let end : n ≡ 0 + length file = omega arith in
+  pub half-cleared : (l₁ l₂ : List ℕ) (n m : ℕ) → n ≡ length file → m ≡ pictureSize limits → length l₁ ≡ m →
+      length file ≤ pictureSize limits → take n l₁ ≡ file → l₂ ≡ put l₁ n (zeros (m - n)) → l₂ ≡ halfOf limits file
+  unfolding halfOf put
+  half-cleared l₁ l₂ n m e f long fits is cleared =
+      let z = zeros (m - n) in
       let size : m - n ≡ pictureSize limits - length file = omega arith in
-      q
-      ∙ ap (λ (l : List ℕ). put l n (zeros (m - n))) p
-      ∙ ap (λ (k : ℕ). put (put half 0 file) n (zeros k)) size
-      ∙ ap (λ (k : ℕ). put (put half 0 file) k rest) end
-      ∙ put-put half 0 file rest (omega arith)
+      let whole : length l₁ ≤ n + length z = omega (arith, length-zeros (m - n)) in
+      cleared
+      ∙ ap (λ (l : List ℕ). (take n l₁ ++ z) ++ l) (drop-of-length-le l₁ whole)
+      ∙ append-nil (take n l₁ ++ z)
+      ∙ ap (λ (l : List ℕ). l ++ z) is
+      ∙ ap (λ (k : ℕ). file ++ zeros k) size

@@ -4,7 +4,7 @@
 --   tableRows   the rows of the normal table of a picture
 --   Tabled      the normal table of a picture is there, and its rows are given; 0 if 14 is answered no
 --   RowsRoom    what ending a table under construction needs
---   HalfRoom    what a finished table in a half of the work space needs
+--   HalfRoom    what making it in a half of the work space needs: 14 is answered yes
 use Prim.Native.Nat.{_≤_, ℕ}
 use lib.Dec.{leb}
 use lib.ListN.{drop, length, take}
@@ -40,7 +40,8 @@ pub record RowsRoom (rows : ℕ) (scratch out : List ℕ) : Type 0 where
   pub made : place rows 0 ≤ length scratch
   pub space : place rows endSize ≤ length out
 
-pub record HalfRoom (limits : Limits) (table half : List ℕ) : Type 0 where
+pub record HalfRoom (limits : Limits) (s half : List ℕ) : Type 0 where
   pub bounded : Bounded limits
-  pub fits : length table ≤ pictureSize limits
-  pub space : pictureSize limits ≤ length half
+  pub readable : Readable limits s
+  pub few : mergedCount limits s ≤ limits .rows
+  pub long : length half ≡ pictureSize limits

@@ -1,5 +1,5 @@
-// Whole tables: the normal table of a picture, with its end field, at the start of a lent part; and a finished table in
-// a half of the work space.
+// Whole tables: the normal table of a picture, with its end field, at the start of a lent part or in a half of the work
+// space.
 use crate::grow::build;
 use table::layout::END_SIZE;
 use table::layout::Limits;
@@ -17,9 +17,10 @@ ghost use Rattle.table.specs.Bounds.{maxRows};
 ghost use Rattle.table.specs.Fields.{endBytes};
 ghost use Rattle.table.specs.Layout.{«place», endSize};
 ghost use Rattle.table.specs.Put.{put};
+ghost use Rattle.meaning.specs.NormalTable.{normalFile};
 ghost use Rattle.normal.specs.Half.{halfOf};
 ghost use Rattle.normal_writer.specs.Grown.{prefix};
-ghost use Rattle.normal_writer.specs.Tables.{HalfRoom, RowsRoom, TableRoom, Tabled, tableIn};
+ghost use Rattle.normal_writer.specs.Tables.{HalfRoom, RowsRoom, TableRoom, Tabled, tableIn, tableRows};
 
 // As many bytes as the rows of the longest table take.
 pub const SCRATCH: usize = ROW_SIZE * MAX_ROWS;
@@ -68,11 +69,14 @@ pub fn write_table(scratch: &[u8], table: Builder, out: &mut [u8]) -> usize
     table.finish(out)
 }
 
-// Copies a finished table into a half and clears the rest.
-pub fn write_half(table: &[u8], limits: Limits, half: &mut [u8])
-    requires { ⌜ HalfRoom limits (now table) (now half) ⌝ }
-    ensures { λ _. ⌜ now (half .exit) ≡ put (now (half .entry)) 0 (halfOf limits (now (table .entry))) ⌝ }
+// Builds the normal table of a picture, of which 14 is answered yes, in a half of the work space and clears the rest of
+// it; the table's rows.
+pub fn build_half(picture: &[u8], limits: Limits, half: &mut [u8]) -> usize
+    requires { ⌜ HalfRoom limits (now picture) (now half) ⌝ }
+    ensures { λ r. ⌜ (r ≡ tableRows limits (now (picture .entry)))
+        × (now (half .exit) ≡ halfOf limits (normalFile limits (now (picture .entry)))) ⌝ }
 {
-    copy_in(half, 0, table);
-    clear(half, table.len(), place(limits.rows, END_SIZE));
+    let rows = normal_table(picture, limits, half);
+    clear(half, place(rows, END_SIZE), half.len());
+    rows
 }

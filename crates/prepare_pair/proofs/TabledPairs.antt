@@ -1,17 +1,18 @@
--- Laws of the tables of two pictures, made in arrays of the call's own.
+-- Laws of 14 of two pictures, and of their tables in the halves of the work space.
 --   many-first, many-second, both-few   14 of both, by the tests
---   tabled-pair                         if both are there, the rows are those of both
---   halves-files                        both normal files, put into the halves
+--   half-long                           a half is as long as the longest picture
+--   halves-built                        both normal files in the halves
 --   pair-answers, refused-first,
 --   refused-second                      the questions of both, by the answers of reading them
-use Prim.Native.Nat.{_≤_, ℕ}
+use Prim.Native.Nat.{_+_, _-_, _≤_, ℕ}
 use borrow.Author.Tests.{le-leb}
+use borrow.Rule.Slice.PartMut.{putMid}
 use lib.Dec.{leb}
+use lib.ListN.{drop, length}
 use mathlib.Core.Bool.{false}
 use mathlib.Core.List.{List, _++_}
-use mathlib.Core.Path.{_∙_, _≡_}
-use Rattle.table.specs.Bounds.{Bounded}
-use Rattle.table.specs.Put.{put}
+use mathlib.Core.Path.{_∙_, _≡_, ap, sym}
+use Rattle.table.specs.Bounds.{pictureSize}
 use Rattle.table.specs.declared.layout.Limits.{Limits}
 use Rattle.picture.proofs.Orders.{refused-no, rows-yes}
 use Rattle.picture.specs.Read.{answerOf}
@@ -20,13 +21,14 @@ use Rattle.picture.specs.declared.answer.Answer.the-variants as answer
 use Rattle.picture.specs.declared.answer.Asked.the-variants.{No, Yes}
 use Rattle.picture.specs.declared.answer.Input.the-variants.{First, Second}
 use Rattle.picture.specs.declared.answer.Refusal.{Refusal}
+use Rattle.meaning.proofs.Normals.{normal-size}
 use Rattle.meaning.specs.NormalTable.{mergedCount, normalFile}
 use Rattle.normal.specs.Call.{mergedAsked}
 use Rattle.normal.specs.Half.{halfOf}
-use Rattle.normal_writer.proofs.Tablings.{rows-few}
-use Rattle.normal_writer.specs.Tables.{Tabled}
-use Rattle.workspace.specs.Prepare.{halvesPut, pairAsked}
-use Rattle.prepare_pair.specs.Tables.{bothMerged, tablesOf}
+use Rattle.normal.proofs.Halves.{length-half}
+use Rattle.workspace.proofs.Halves.{put-halves}
+use Rattle.workspace.specs.Prepare.{Acceptable, halvesPut, pairAsked}
+use Rattle.prepare_pair.specs.Tables.{bothMerged}
 
 module _ (limits : Limits) (first second : List ℕ) where
   pub many-first : leb (mergedCount limits first) (limits .rows) ≡ false → bothMerged limits first second
@@ -70,19 +72,18 @@ module _ (limits : Limits) (first second : List ℕ) where
   unfolding pairAsked
   refused-first r read = rw (refused-no limits First first r read)
 
-pub tabled-pair : {limits : Limits} {first second out out₂ end end₂ : List ℕ} {n m : ℕ} → Bounded limits →
-    Tabled limits first out n end → Tabled limits second out₂ m end₂ →
-    mergedCount limits first ≤ limits .rows → mergedCount limits second ≤ limits .rows →
-    record { first = n; second = m } ≡ tablesOf limits first second
-tabled-pair {limits} {first} {second} {out} {out₂} {end} {end₂} {n} {m} bounded tabled tabled-second few few-second =
-    rw (
-      rows-few limits first out n end bounded tabled few,
-      rows-few limits second out₂ m end₂ bounded tabled-second
-          few-second,
-    )
+-- what the writer leaves in a half is as long as the half
+pub half-long : (limits : Limits) (s l : List ℕ) → mergedCount limits s ≤ limits .rows →
+    l ≡ halfOf limits (normalFile limits s) → length l ≡ pictureSize limits
+half-long limits s l few is = ap length is ∙ length-half limits (normalFile limits s) (normal-size limits s few)
 
-pub halves-files : (limits : Limits) (first second t u work end : List ℕ) → t ≡ normalFile limits first →
-    u ≡ normalFile limits second →
-    end ≡ put work 0 (halfOf limits t ++ halfOf limits u) → end ≡ halvesPut limits first second work
+-- the lower half as it comes back, and then the upper one, which ends at a place
+pub halves-built : (limits : Limits) (first second work l₁ l₂ : List ℕ) (a end : ℕ) → Acceptable limits first second →
+    a ≡ pictureSize limits → end ≡ a + a → l₁ ≡ halfOf limits (normalFile limits first) →
+    l₂ ≡ halfOf limits (normalFile limits second) →
+    putMid a (end - a) (l₁ ++ drop a work) l₂ ≡ halvesPut limits first second work
 unfolding halvesPut
-halves-files limits first second t u work end is is-second written = written ∙ rw (is, is-second)
+halves-built limits first second work l₁ l₂ a end accepted half last lower upper =
+    put-halves a l₁ l₂ (half-long limits first l₁ (accepted .first-few) lower ∙ sym half)
+    (half-long limits second l₂ (accepted .second-few) upper ∙ sym half) work end last
+    ∙ rw (lower, upper)

@@ -1,6 +1,6 @@
 -- Where the two tables stand in the work space. Nobody has to believe these.
---   HalvesRoom          what writing a finished table into each half needs
---   PairRoom            what making the tables of two pictures needs
+--   HalvesRoom          what making both tables in the halves needs
+--   PairRoom            what asking 14 before that needs
 --   tablesOf            the rows of both normal tables
 --   bothMerged          14 of both
 --   firstIn, secondIn   the tables of so many rows in the work space
@@ -26,8 +26,7 @@ use Rattle.prepare_pair.specs.declared.prepare.Pair.{Pair}
 
 pub record HalvesRoom (limits : Limits) (first second work : List ℕ) : Type 0 where
   pub bounded : Bounded limits
-  pub first-fits : length first ≤ pictureSize limits
-  pub second-fits : length second ≤ pictureSize limits
+  pub accepted : Acceptable limits first second
   pub space : workSize limits ≤ length work
 
 pub record PairRoom (limits : Limits) (first second work : List ℕ) : Type 0 where

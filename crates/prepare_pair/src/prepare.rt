@@ -1,8 +1,6 @@
 // Two pictures, in the order of every call on two: 1, 2 to 13 of the first, of the second, then 14 of each. Nothing is written before all are answered yes.
-use normal_writer::write::TABLE;
-use normal_writer::write::normal_table;
-use normal_writer::write::table_of;
-use normal_writer::write::write_half;
+use merged_count::within::is_within;
+use normal_writer::write::build_half;
 use picture::answer::Answer;
 use picture::answer::Input;
 use picture::answer::Refusal;
@@ -14,12 +12,9 @@ use table::layout::Limits;
 use table::layout::place;
 ghost use mathlib.Core.Bool.{true};
 ghost use mathlib.Core.Path.{_≡_};
-ghost use mathlib.Core.List.{_++_};
 ghost use Prim.Native.Nat.{ℕ, _≤_};
 ghost use lib.ListN.{length};
 ghost use Rattle.table.specs.Bounds.{Bounded, pictureSize};
-ghost use Rattle.table.specs.Put.{put};
-ghost use Rattle.normal.specs.Half.{halfOf};
 ghost use Rattle.workspace.specs.Lent.{lentAsked, pairWork, roomy};
 ghost use Rattle.picture.specs.Asked.{kept, onAsked};
 ghost use Rattle.workspace.specs.Prepare.{halvesPut, pairAsked, workSize};
@@ -54,18 +49,24 @@ pub fn has_room(limits: Limits, size: usize, work: usize, result: usize) -> bool
     half + half <= work && size <= result
 }
 
-// A finished table into each half: the lower part of the work space is lent, then the upper one.
-fn write_halves(first: &[u8], second: &[u8], limits: Limits, work: &mut [u8])
+// Both tables, of pictures for which 14 is answered yes: the lower half of the work space is lent to the writer, then
+// the upper one.
+fn build_halves(first: &[u8], second: &[u8], limits: Limits, work: &mut [u8]) -> Pair
     requires { ⌜ HalvesRoom limits (now first) (now second) (now work) ⌝ }
-    ensures { λ _. ⌜ now (work .exit) ≡ put (now (work .entry)) 0
-        (halfOf limits (now (first .entry)) ++ halfOf limits (now (second .entry))) ⌝ }
+    ensures { λ r. ⌜ (r ≡ tablesOf limits (now (first .entry)) (now (second .entry)))
+        × (now (work .exit) ≡ halvesPut limits (now (first .entry)) (now (second .entry)) (now (work .entry))) ⌝ }
 {
     let half = half_size(limits);
-    write_half(first, limits, &mut work[..half]);
-    write_half(second, limits, &mut work[half..]);
+    let end = half + half;
+    let n = build_half(first, limits, &mut work[..half]);
+    let m = build_half(second, limits, &mut work[half..end]);
+    Pair {
+        first: n,
+        second: m,
+    }
 }
 
-// 14 of both, and the tables: they are made in arrays of the call's own.
+// 14 of both, and then the tables.
 fn write_pair(first: &[u8], second: &[u8], limits: Limits, work: &mut [u8]) -> Prepared
     requires { ⌜ PairRoom limits (now first) (now second) (now work) ⌝ }
     ensures { λ r. ⌜ (r ≡ onAsked Prepared.Refused (bothMerged limits (now (first .entry)) (now (second .entry)))
@@ -73,21 +74,13 @@ fn write_pair(first: &[u8], second: &[u8], limits: Limits, work: &mut [u8]) -> P
         × (now (work .exit) ≡ kept (bothMerged limits (now (first .entry)) (now (second .entry)))
         (halvesPut limits (now (first .entry)) (now (second .entry)) (now (work .entry))) (now (work .entry))) ⌝ }
 {
-    let mut table = [0u8; TABLE];
-    let n = normal_table(first, limits, &mut table);
-    if n == 0 {
+    if !is_within(first, limits) {
         return Prepared::Refused(too_many(Input::First));
     }
-    let mut other = [0u8; TABLE];
-    let m = normal_table(second, limits, &mut other);
-    if m == 0 {
+    if !is_within(second, limits) {
         return Prepared::Refused(too_many(Input::Second));
     }
-    write_halves(table_of(&table, n), table_of(&other, m), limits, work);
-    Prepared::Tables(Pair {
-        first: n,
-        second: m,
-    })
+    Prepared::Tables(build_halves(first, second, limits, work))
 }
 
 // 2 to 13 of the first, then of the second, then 14 of both, and the tables.

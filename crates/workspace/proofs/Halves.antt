@@ -1,9 +1,10 @@
 -- Laws of a work space in two halves that are lent one after the other. They stand over any length, since a numeral under `take` or `drop` is counted down.
 --   upper-part, put-upper   the part from a place on, as it is lent and as it comes back
+--   length-upper            the upper half is as long as the lower one
 --   put-whole               bytes as many as were there take their place
---   put-halves              bytes put into the lower half and then into the upper one are their join, put at the start
---   length-join             two runs, each as long as a half; and of both put at the start:
---   join-lower, join-upper  the bytes of the one and of the other
+--   length-join             two runs, each as long as a half
+--   put-halves              one in the lower half and then the other in the upper one are both put at the start
+--   join-lower, join-upper  of both put at the start the bytes of the one and of the other
 use Prim.Native.Nat.{_+_, _-_, _≤_, ℕ}
 use borrow.Rule.Slice.PartMut.{midOf, putMid}
 use lib.ListN.{drop, drop-of-length-le, getD, length, length-append, length-drop, take}
@@ -24,32 +25,17 @@ module _ (a : ℕ) (d : List ℕ) where
   pub put-upper : (s : List ℕ) → putMid a (length d - a) d s ≡ take a d ++ s
   put-upper s = rw (drop-of-length-le (drop a d) rest-whole, append-nil)
 
+  -- the upper half as it is lent, once the lower one has come back
+  pub length-upper : (s : List ℕ) (end : ℕ) → length s ≡ a → end ≡ a + a → end ≤ length d →
+      length (midOf a (end - a) (s ++ drop a d)) ≡ a
+  length-upper s end lower last room =
+      let part = drop a (s ++ drop a d) in
+      let long : length part ≡ length d - a = ap length (drop-at s (drop a d) a lower) ∙ length-drop a d in
+      length-take-le (end - a) part (omega (arith, long)) ∙ omega arith
+
 module _ (d s : List ℕ) where
   pub put-whole : length s ≡ length d → put d 0 s ≡ s
   put-whole e = put-start d s ∙ rw (drop-of-length-le d {i = length s} (omega arith), append-nil)
-
-module _ (a : ℕ) (d s t : List ℕ) (lower : length s ≡ a) (upper : a ≤ length d) where
-  put-join : s ++ put (drop a d) 0 t ≡ put d 0 (s ++ t)
-  put-join =
-      let e : a + length t ≡ length (s ++ t) = omega (arith, length-append s t) in
-      ap (λ (l : List ℕ). s ++ l) (put-start (drop a d) t ∙ ap (λ (l : List ℕ). t ++ l) (drop-drop (length t) a d))
-      ∙ ap (λ (k : ℕ). s ++ (t ++ drop k d)) e
-      ∙ sym (append-assoc s t (drop (length (s ++ t)) d))
-      ∙ sym (put-start d (s ++ t))
-
-  -- l₁ is the lower half as it comes back, l₂ the upper one
-  pub put-halves : (l₁ l₂ : List ℕ) → l₁ ≡ put (take a d) 0 s →
-      l₂ ≡ put (midOf a (length (l₁ ++ drop a d) - a) (l₁ ++ drop a d)) 0 t →
-      putMid a (length (l₁ ++ drop a d) - a) (l₁ ++ drop a d) l₂ ≡ put d 0 (s ++ t)
-  put-halves l₁ l₂ p q =
-      let e : l₁ ≡ s = p ∙ put-whole (take a d) s (omega (arith, length-take-le a d upper)) in
-      let f : length l₁ ≡ a = ap length e ∙ lower in
-      let rest : midOf a (length (l₁ ++ drop a d) - a) (l₁ ++ drop a d) ≡ drop a d =
-      upper-part a (l₁ ++ drop a d) ∙ drop-at l₁ (drop a d) a f in
-      put-upper a (l₁ ++ drop a d) l₂
-      ∙ ap (λ (l : List ℕ). l ++ l₂) (take-at l₁ (drop a d) a f ∙ e)
-      ∙ ap (λ (l : List ℕ). s ++ l) (q ∙ ap (λ (l : List ℕ). put l 0 t) rest)
-      ∙ put-join
 
 -- two runs put at the start, each as long as a half
 module _ (a : ℕ) (s t : List ℕ) (lower : length s ≡ a) (upper : length t ≡ a) where
@@ -57,6 +43,16 @@ module _ (a : ℕ) (s t : List ℕ) (lower : length s ≡ a) (upper : length t �
   length-join = omega (arith, length-append s t)
 
   module _ (d : List ℕ) where
+    -- the upper half ends at a place
+    pub put-halves : (end : ℕ) → end ≡ a + a → putMid a (end - a) (s ++ drop a d) t ≡ put d 0 (s ++ t)
+    put-halves end e =
+        let k : a + (end - a) ≡ length (s ++ t) = omega (arith, length-join) in
+        ap (λ (l : List ℕ). l ++ (t ++ drop (end - a) (drop a (s ++ drop a d)))) (take-at s (drop a d) a lower)
+        ∙ ap (λ (l : List ℕ). s ++ (t ++ drop (end - a) l)) (drop-at s (drop a d) a lower)
+        ∙ ap (λ (l : List ℕ). s ++ (t ++ l)) (drop-drop (end - a) a d ∙ ap (λ (n : ℕ). drop n d) k)
+        ∙ sym (append-assoc s t (drop (length (s ++ t)) d))
+        ∙ sym (put-start d (s ++ t))
+
     pub join-lower : (n : ℕ) → n ≤ a → take n (put d 0 (s ++ t)) ≡ take n s
     join-lower n h =
         rw (put-start d (s ++ t))
