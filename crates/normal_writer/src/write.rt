@@ -77,6 +77,7 @@ pub fn build_half(picture: &[u8], limits: Limits, half: &mut [u8]) -> usize
         × (now (half .exit) ≡ halfOf limits (normalFile limits (now (picture .entry)))) ⌝ }
 {
     let rows = normal_table(picture, limits, half);
-    clear(half, place(rows, END_SIZE), half.len());
+    let end = place(rows, END_SIZE);
+    clear(half, end, half.len());
     rows
 }

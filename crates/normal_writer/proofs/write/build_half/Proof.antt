@@ -26,11 +26,13 @@ there c =
     tabled-there _ _ _ _ _ (pre .bounded) (c .normal-table .ensures) (pre .few) (omega (arith, pre .long))
 
 place-requires : tie.Need-place-requires
-place-requires c κs = (there (c .before .before .before) .0, omega arith)
+place-requires c κs = (there (c .before .before) .0, omega arith)
 
 clear-requires : tie.Need-clear-requires
 clear-requires c κs =
-    (omega (arith, c .place .ensures, there (c .before .before .before .before) .1), omega arith)
+    let fits = there (c .before .before .before .before) .1 in
+    let end = c .before .place .ensures in
+    (omega (arith, end, fits), omega (arith, end, fits))
 
 same-length : tie.Need-same-length
 same-length c = search needs
@@ -42,7 +44,7 @@ returns c =
     let limits = start .args .limits in
     let s = now (start .args .picture) in
     let tabled = made .normal-table .ensures in
-    let end = c .before .before .before .place in
+    let end = c .before .before .before .before .place in
     let rows = rows-few _ _ _ _ _ (start .pre .bounded) tabled (start .pre .few) in (
       rows,
       half-cleared limits (normalFile limits s) _ _ (end .result) _
