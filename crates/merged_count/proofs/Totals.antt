@@ -4,6 +4,7 @@
 --   total-more     more rows, with more each
 --   total-parts    rows that pass one of two tests, and never both
 --   total-cover    rows each of which passes one of two tests
+--   total-sum      two numbers for each row
 --   total-times    one and a multiple for each row
 --   some-passes    a row passes, or none does
 --   total-most     to bound a sum, a row that passes may be assumed
@@ -34,6 +35,10 @@ one-parts false b c x y z h g = let l = one-more b c y z g in omega arith
 one-cover : (a b c : Bool) (x : ℕ) → (a ≡ true → (b ≡ true) ⊎ (c ≡ true)) → pick a x 0 ≤ pick b x 0 + pick c x 0
 one-cover true b c x h = ⊎-elim (λ e. rw e (omega arith)) (λ e. rw e (omega arith)) (h refl)
 one-cover false b c x h = omega arith
+
+one-sum : (a : Bool) (x y : ℕ) → pick a (x + y) 0 ≡ pick a x 0 + pick a y 0
+one-sum true x y = refl
+one-sum false x y = refl
 
 one-times : (a : Bool) (x k : ℕ) → pick a (1 + x * k) 0 ≡ pick a 1 0 + pick a x 0 * k
 one-times true x k = refl
@@ -74,6 +79,10 @@ pub total-cover : (q r t : ℕ → Bool) (f : ℕ → ℕ) (n : ℕ) →
 total-cover q r t f zero h = omega arith
 total-cover q r t f (suc n) h =
     omega (arith, one-cover (q n) (r n) (t n) (f n) (h n (omega arith)), total-cover q r t f n (λ j l. h j (omega arith)))
+
+pub total-sum : (q : ℕ → Bool) (f g : ℕ → ℕ) (n : ℕ) → total q (λ j. f j + g j) n ≡ total q f n + total q g n
+total-sum q f g zero = refl
+total-sum q f g (suc n) = omega (arith, one-sum (q n) (f n) (g n), total-sum q f g n)
 
 pub total-times : (q : ℕ → Bool) (f : ℕ → ℕ) (k n : ℕ) →
     total q (λ j. 1 + f j * k) n ≡ total q (λ _. 1) n + total q f n * k
