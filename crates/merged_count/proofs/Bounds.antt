@@ -1,6 +1,6 @@
--- The merged rows of a picture are at most what the sums over its file rows say. All rows that a merged row stands for have
--- one key, since a key is made of the parent's key and the role. So an all-row meets some-rows of its key only: what hangs
--- below it stands once below the all-successor, and once below each of those.
+-- The merged rows of a picture are at most what the sums over its file rows say. All rows that a merged row stands for
+-- have one key, since a key is made of the parent's key and the role. So an all-row meets some-rows of its key only:
+-- what hangs below it stands once below the all-successor, and once below each of those.
 --   weighed-most   one more than what hangs below the root
 use Prim.Native.Nat.{_*_, _+_, _<_, _≤_, suc, zero, ℕ}
 use lib.Dec.{eqb, ltb}
@@ -31,7 +31,8 @@ use Rattle.row_sets.proofs.PartLaws.{exists-next, exists-none, exists-skip, mer
 use Rattle.row_sets.proofs.RowFilters.{filter-none}
 use Rattle.row_sets.proofs.Roots.{merged-root}
 use Rattle.merged_count.specs.Bound.{Keyed, Tallied, Weighed, keyBelow, keyCount, shareOf, someOf, total}
-use Rattle.merged_count.proofs.Totals.{some-passes, total-cover, total-more, total-most, total-none, total-one, total-parts, total-sum, total-times}
+use Rattle.merged_count.proofs.Totals.{some-passes, total-cover, total-more, total-most, total-none}
+use Rattle.merged_count.proofs.Totals.{total-one, total-parts, total-sum, total-times}
 
 both-are : (a b : Bool) → a ≡ true → b ≡ true → (a && b) ≡ true
 both-are a b d e = rw (d, e)
@@ -77,8 +78,8 @@ module _ (s : List ℕ) (rows : ℕ) (keys : List ℕ) where
     also-key : (c : ℕ) → p c ≡ true → OneKey rows keys key (also c (ofKind s kind p))
     also-key c h = record {
       same-key = λ j l e.
-          ⊎-elim (λ z. one .same-key j l (subst (λ i. p i ≡ true) (sym (eqb-true j c z)) h)) (λ z. kind-key .same-key j l z)
-          (either (eqb j c) (ofKind s kind p j) e);
+          ⊎-elim (λ z. one .same-key j l (subst (λ i. p i ≡ true) (sym (eqb-true j c z)) h))
+          (λ z. kind-key .same-key j l z) (either (eqb j c) (ofKind s kind p j) e);
     }
 
 -- the all-successor, if there is one
@@ -107,9 +108,12 @@ module _ (s : List ℕ) (rows : ℕ) (keys somes below : List ℕ) where
 
     hung-also : (c : ℕ) (q : ℕ → Bool) → c < rows → hung (also c q) ≤ weight c + hung q
     hung-also c q l =
-        omega (arith, weighed .weight c l,
-        total-cover (hangs s (also c q)) (hangs s (λ i. eqb i c)) (hangs s q) share rows
-        (λ j b e. part j (hangs-from s (also c q) j e)))
+        omega (
+          arith,
+          weighed .weight c l,
+          total-cover (hangs s (also c q)) (hangs s (λ i. eqb i c)) (hangs s q) share rows
+              (λ j b e. part j (hangs-from s (also c q) j e)),
+        )
       where
         part : (j : ℕ) → (not (eqb j 0) ≡ true) × (also c q (parentOf s j) ≡ true) →
             (hangs s (λ i. eqb i c) j ≡ true) ⊎ (hangs s q j ≡ true)
@@ -122,8 +126,12 @@ module _ (s : List ℕ) (rows : ℕ) (keys somes below : List ℕ) where
         total (hangs s q) share n ≤ total q (λ i. total (hangs s (λ j. eqb j i)) share n) rows
     hung-each q zero l = omega arith
     hung-each q (suc n) l =
-        omega (arith, hung-each q n (omega arith), last (hangs s q n) refl,
-        total-sum q (λ i. total (hangs s (λ j. eqb j i)) share n) at-last rows)
+        omega (
+          arith,
+          hung-each q n (omega arith),
+          last (hangs s q n) refl,
+          total-sum q (λ i. total (hangs s (λ j. eqb j i)) share n) at-last rows,
+        )
       where
         at-last : ℕ → ℕ
         at-last i = pick (hangs s (λ j. eqb j i) n) (share n) 0
@@ -140,13 +148,17 @@ module _ (s : List ℕ) (rows : ℕ) (keys somes below : List ℕ) where
 
     hung-sum : (q : ℕ → Bool) → hung q ≤ total q weight rows
     hung-sum q =
-        omega (arith, hung-each q rows (omega arith),
-        total-more q q (λ i. hung (λ j. eqb j i)) weight rows (λ i l e. (e, omega (arith, weighed .weight i l))))
+        omega (
+          arith,
+          hung-each q rows (omega arith),
+          total-more q q (λ i. hung (λ j. eqb j i)) weight rows (λ i l e. (e, omega (arith, weighed .weight i l))),
+        )
 
     -- ---- one role, by which rows p of one key hang
 
     module _ (depth role key : ℕ) (p : ℕ → Bool) (one : OneKey rows keys key p)
-        (rootless : (j : ℕ) → p j ≡ true → not (eqb j 0) ≡ true) (most : (t : ℕ → Bool) → OneKey rows keys key t → Most depth t) where
+        (rootless : (j : ℕ) → p j ≡ true → not (eqb j 0) ≡ true)
+        (most : (t : ℕ → Bool) → OneKey rows keys key t → Most depth t) where
       abbrev allRows : ℕ → Bool
       allRows = ofKind s kindForAll p
 
@@ -168,48 +180,70 @@ module _ (s : List ℕ) (rows : ℕ) (keys somes below : List ℕ) where
           total-most someRows (λ _. 1) rows count
           (λ i l e.
           let k = one .same-key i l (kind-is kindExists i e .1) in
-          omega (arith, tallied .tally key (subst (λ n. n < keyCount) k (keyed .key-below i l)),
-          total-more someRows (someOf s keys key) (λ _. 1) (λ _. 1) rows
-          (λ j b h. (of-key j b (kind-is kindExists j h), omega arith))))
+          omega (
+            arith,
+            tallied .tally key (subst (λ n. n < keyCount) k (keyed .key-below i l)),
+            total-more someRows (someOf s keys key) (λ _. 1) (λ _. 1) rows
+                (λ j b h. (of-key j b (kind-is kindExists j h), omega arith)),
+          ))
         where
           of-key : (j : ℕ) → j < rows → Is kindExists j → someOf s keys key j ≡ true
           of-key j l (k, h) =
               both-are (not (eqb j 0)) _ (rootless j h)
               (both-are (eqb (kindOf s j) kindExists) _ k (eq-eqb (getD keys j 0) key (one .same-key j l h)))
 
+      abbrev tree : List ℕ → Tree pictureSignature
+      tree v = merged pictureSignature (pictureTable s) depth v
+
       abbrev value : Forest pictureSignature
-      value = valuePart pictureSignature role (λ t. merged pictureSignature (pictureTable s) depth t) (filterBelow allRows rows)
+      value = valuePart pictureSignature role tree (filterBelow allRows rows)
 
       value-most : sizes pictureSignature value ≤ total allRows (λ _. 1) rows + hung allRows
       unfolding mergedAt
       value-most =
           ⊎-elim
           (λ w.
-          omega (arith, value-size role (λ t. merged pictureSignature (pictureTable s) depth t) (filterBelow allRows rows),
-          most allRows (kind-key s rows keys key p one kindForAll), total-one allRows (λ _. 1) rows (w .0) (w .1) (w .2)))
+          omega (
+            arith,
+            value-size role tree (filterBelow allRows rows),
+            most allRows (kind-key s rows keys key p one kindForAll),
+            total-one allRows (λ _. 1) rows (w .0) (w .1) (w .2),
+          ))
           (λ none. rw (filter-none allRows rows none) (omega arith)) (some-passes allRows rows)
 
       abbrev upto : ℕ → Forest pictureSignature
       upto n = existsPartAt s rows depth role someRows allRows n
 
       exists-most : (n : ℕ) → n ≤ rows →
-          sizes pictureSignature (upto n) ≤ total someRows (λ c. 1 + weight c) n + total someRows (λ _. 1) n * hung allRows
+          sizes pictureSignature (upto n)
+          ≤ total someRows (λ c. 1 + weight c) n + total someRows (λ _. 1) n * hung allRows
       exists-most zero l = rw (exists-none s rows depth role someRows allRows) (omega arith)
-      exists-most (suc n) l = turn (total someRows (λ c. 1 + weight c) n) (total someRows (λ _. 1) n) (exists-most n (omega arith)) (someRows n) refl
+      exists-most (suc n) l =
+          turn (total someRows (λ c. 1 + weight c) n) (total someRows (λ _. 1) n) (exists-most n (omega arith))
+          (someRows n) refl
         where
           turn : (a m : ℕ) → sizes pictureSignature (upto n) ≤ a + m * hung allRows → (b : Bool) → someRows n ≡ b →
               sizes pictureSignature (upto (suc n)) ≤ a + pick b (1 + weight n) 0 + (m + pick b 1 0) * hung allRows
           turn a m h true e =
-              let next : upto (suc n) ≡ _ = ap upto (omega arith) ∙ sym (exists-next s rows depth role someRows allRows n e) in
+              let next : upto (suc n) ≡ _ =
+              ap upto (omega arith) ∙ sym (exists-next s rows depth role someRows allRows n e) in
               rw next
-              (omega (arith, h, sizes-append pictureSignature (upto n) (cons exists role (mergedAt s rows depth (also n allRows)) nil),
-              most (also n allRows) (also-key s rows keys key p one kindForAll n (kind-is kindExists n e .1)), hung-also n allRows l))
+              (omega (
+                arith,
+                h,
+                sizes-append pictureSignature (upto n) (cons exists role (mergedAt s rows depth (also n allRows)) nil),
+                most (also n allRows) (also-key s rows keys key p one kindForAll n (kind-is kindExists n e .1)),
+                hung-also n allRows l,
+              ))
           turn a m h false e =
-              let none : (j : ℕ) → n ≤ j → j < suc n → someRows j ≡ false = λ j x y. subst (λ i. someRows i ≡ false) (omega arith) e in
+              let none : (j : ℕ) → n ≤ j → j < suc n → someRows j ≡ false =
+              λ j x y. subst (λ i. someRows i ≡ false) (omega arith) e in
               rw (← (exists-skip s rows depth role someRows allRows n (suc n) (omega arith) none)) (omega arith)
 
       -- an all-row may stand alone and beside each some-row of its key, a some-row stands once
-      shares : total allRows (λ j. 1 + weight j * (1 + count)) rows + total someRows (λ c. 1 + weight c) rows ≤ total p share rows
+      shares :
+          total allRows (λ j. 1 + weight j * (1 + count)) rows + total someRows (λ c. 1 + weight c) rows
+          ≤ total p share rows
       shares =
           total-parts allRows someRows p (λ j. 1 + weight j * (1 + count)) (λ c. 1 + weight c) share rows
           (λ j l e. of-all j l (kind-is kindForAll j e)) (λ j l e. of-some j (kind-is kindExists j e))
@@ -227,9 +261,16 @@ module _ (s : List ℕ) (rows : ℕ) (keys somes below : List ℕ) where
       parts-most : sizes pictureSignature (partsAt s rows depth role p) ≤ total p share rows
       unfolding partsAt
       parts-most =
-          omega (arith, sizes-append pictureSignature value (upto rows), value-most, exists-most rows (omega arith), shares,
-          total-times allRows weight (1 + count) rows,
-          mul-le-mul {n₁ = 1 + total someRows (λ _. 1) rows} {n₂ = 1 + count} (omega (arith, some-count)) (hung-sum allRows))
+          let beside = total someRows (λ _. 1) rows in
+          omega (
+            arith,
+            sizes-append pictureSignature value (upto rows),
+            value-most,
+            exists-most rows (omega arith),
+            shares,
+            total-times allRows weight (1 + count) rows,
+            mul-le-mul {n₁ = 1 + beside} {n₂ = 1 + count} (omega (arith, some-count)) (hung-sum allRows),
+          )
 
     -- ---- all roles, and all depths
 
@@ -242,12 +283,14 @@ module _ (s : List ℕ) (rows : ℕ) (keys somes below : List ℕ) where
       by n = ofRole s n (hangs s q)
 
       in-next : (n j : ℕ) → roleOf s j < suc n → hangs s q j ≡ true → (upTo (suc n) j ≡ true) × (share j ≤ share j)
-      in-next n j l h = (both-are (ltb (roleOf s j) (suc n)) (hangs s q j) (lt-ltb (roleOf s j) (suc n) l) h, omega arith)
+      in-next n j l h =
+          (both-are (ltb (roleOf s j) (suc n)) (hangs s q j) (lt-ltb (roleOf s j) (suc n) l) h, omega arith)
 
       role-apart : (n : ℕ) → total (upTo n) share rows + total (by n) share rows ≤ total (upTo (suc n)) share rows
       role-apart n =
           total-parts (upTo n) (by n) (upTo (suc n)) share share share rows
-          (λ j l e. before j (both (ltb (roleOf s j) n) (hangs s q j) e)) (λ j l e. here j (both (eqb (roleOf s j) n) (hangs s q j) e))
+          (λ j l e. before j (both (ltb (roleOf s j) n) (hangs s q j) e))
+          (λ j l e. here j (both (eqb (roleOf s j) n) (hangs s q j) e))
         where
           before : (j : ℕ) → (ltb (roleOf s j) n ≡ true) × (hangs s q j ≡ true) →
               (by n j ≡ false) × (upTo (suc n) j ≡ true) × (share j ≤ share j)
@@ -256,7 +299,8 @@ module _ (s : List ℕ) (rows : ℕ) (keys somes below : List ℕ) where
               let (i, m) = in-next n j (omega arith) h in
               (rw (ne-eqb (roleOf s j) n (λ z. omega arith)), i, m)
 
-          here : (j : ℕ) → (eqb (roleOf s j) n ≡ true) × (hangs s q j ≡ true) → (upTo (suc n) j ≡ true) × (share j ≤ share j)
+          here : (j : ℕ) → (eqb (roleOf s j) n ≡ true) × (hangs s q j ≡ true) →
+              (upTo (suc n) j ≡ true) × (share j ≤ share j)
           here j (r, h) = let e = eqb-true (roleOf s j) n r in in-next n j (omega arith) h
 
       roles-most : (n : ℕ) → sizes pictureSignature (rolesAt s rows depth (hangs s q) n) ≤ total (upTo n) share rows
@@ -265,19 +309,26 @@ module _ (s : List ℕ) (rows : ℕ) (keys somes below : List ℕ) where
           let next : rolesAt s rows depth (hangs s q) (suc n) ≡ _ =
           ap (rolesAt s rows depth (hangs s q)) (omega arith) ∙ sym (roles-next s rows (hangs s q) depth n) in
           rw next
-          (omega (arith, roles-most n, role-apart n,
-          sizes-append pictureSignature (rolesAt s rows depth (hangs s q) n) (partsAt s rows depth n (by n)),
-          parts-most depth n (keyBelow key n) (by n) (hung-key s rows keys checked keyed key n q one)
-          (λ j e. hangs-from s q j (both (eqb (roleOf s j) n) (hangs s q j) e .1) .0) (most (keyBelow key n))))
+          (omega (
+            arith,
+            roles-most n,
+            role-apart n,
+            sizes-append pictureSignature (rolesAt s rows depth (hangs s q) n) (partsAt s rows depth n (by n)),
+            parts-most depth n (keyBelow key n) (by n) (hung-key s rows keys checked keyed key n q one)
+                (λ j e. hangs-from s q j (both (eqb (roleOf s j) n) (hangs s q j) e .1) .0) (most (keyBelow key n)),
+          ))
 
     merged-most : (depth key : ℕ) (q : ℕ → Bool) → OneKey rows keys key q → Most depth q
     unfolding successorsAt
     merged-most zero key q one = rw (merged-node s rows checked q zero) (omega arith)
     merged-most (suc depth) key q one =
         rw (merged-node s rows checked q (suc depth))
-        (omega (arith, roles-most depth key q one (λ k t o. merged-most depth k t o) roles,
-        total-more (λ j. ltb (roleOf s j) roles && hangs s q j) (hangs s q) share share rows
-        (λ j l e. (both (ltb (roleOf s j) roles) (hangs s q j) e .1, omega arith))))
+        (omega (
+          arith,
+          roles-most depth key q one (λ k t o. merged-most depth k t o) roles,
+          total-more (λ j. ltb (roleOf s j) roles && hangs s q j) (hangs s q) share share rows
+              (λ j l e. (both (ltb (roleOf s j) roles) (hangs s q j) e .1, omega arith)),
+        ))
 
 pub weighed-most : (limits : Limits) (s : List ℕ) (rows : ℕ) (keys somes below : List ℕ) → Checked s rows →
     Keyed s rows keys → Tallied s rows keys somes → Weighed s rows keys somes below →
@@ -285,9 +336,13 @@ pub weighed-most : (limits : Limits) (s : List ℕ) (rows : ℕ) (keys somes bel
 unfolding mergedCount
 weighed-most limits s rows keys somes below checked keyed tallied weighed =
     rw (← (merged-root limits s rows (checked .some)))
-    (omega (arith, hung-also s rows keys somes below checked keyed tallied weighed 0 empty (checked .some),
-    merged-most s rows keys somes below checked keyed tallied weighed (limits .depth) (getD keys 0 0) (also 0 empty)
-    (record { same-key = root }), total-none (hangs s empty) (shareOf s keys somes below) rows none))
+    (omega (
+      arith,
+      hung-also s rows keys somes below checked keyed tallied weighed 0 empty (checked .some),
+      merged-most s rows keys somes below checked keyed tallied weighed (limits .depth) (getD keys 0 0) (also 0 empty)
+          (record { same-key = root }),
+      total-none (hangs s empty) (shareOf s keys somes below) rows none,
+    ))
   where
     empty : ℕ → Bool
     empty j = false

@@ -71,14 +71,18 @@ pub total-parts : (q r t : ℕ → Bool) (f g h : ℕ → ℕ) (n : ℕ) →
     ((j : ℕ) → j < n → r j ≡ true → (t j ≡ true) × (g j ≤ h j)) → total q f n + total r g n ≤ total t h n
 total-parts q r t f g h zero a b = omega arith
 total-parts q r t f g h (suc n) a b =
-    omega (arith, one-parts (q n) (r n) (t n) (f n) (g n) (h n) (a n (omega arith)) (b n (omega arith)),
-    total-parts q r t f g h n (λ j l. a j (omega arith)) (λ j l. b j (omega arith)))
+    omega (
+      arith,
+      one-parts (q n) (r n) (t n) (f n) (g n) (h n) (a n (omega arith)) (b n (omega arith)),
+      total-parts q r t f g h n (λ j l. a j (omega arith)) (λ j l. b j (omega arith)),
+    )
 
 pub total-cover : (q r t : ℕ → Bool) (f : ℕ → ℕ) (n : ℕ) →
     ((j : ℕ) → j < n → q j ≡ true → (r j ≡ true) ⊎ (t j ≡ true)) → total q f n ≤ total r f n + total t f n
 total-cover q r t f zero h = omega arith
 total-cover q r t f (suc n) h =
-    omega (arith, one-cover (q n) (r n) (t n) (f n) (h n (omega arith)), total-cover q r t f n (λ j l. h j (omega arith)))
+    let each = one-cover (q n) (r n) (t n) (f n) (h n (omega arith)) in
+    omega (arith, total-cover q r t f n (λ j l. h j (omega arith)))
 
 pub total-sum : (q : ℕ → Bool) (f g : ℕ → ℕ) (n : ℕ) → total q (λ j. f j + g j) n ≡ total q f n + total q g n
 total-sum q f g zero = refl
