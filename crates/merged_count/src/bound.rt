@@ -10,16 +10,15 @@ ghost use mathlib.Core.Bool.{true};
 ghost use Prim.Native.Nat.{ℕ, _≤_, _<_};
 ghost use lib.Dec.{eqb};
 ghost use lib.ListN.{getD};
-ghost use Rattle.table.specs.Bounds.{Bounded, maxRows};
+ghost use Rattle.table.specs.Bounds.{Bounded};
 ghost use Rattle.table.specs.Fields.{kindOf};
 ghost use Rattle.table.specs.Layout.{kindExists};
 ghost use Rattle.table.specs.Pick.{pick};
 ghost use Rattle.table.specs.declared.layout.Limits as tables;
-ghost use Rattle.table_rows.specs.Links.{Zeros};
 ghost use Rattle.row_sets.specs.Rows.{Checked};
 ghost use Rattle.meaning.specs.NormalTable.{mergedCount};
-ghost use Rattle.merged_count.specs.Bound.{Keyed, Tallied, keyBelow, keyCount, timesOf};
-ghost use Rattle.merged_count.specs.Weighing.{Later, Weighable};
+ghost use Rattle.merged_count.specs.Bound.{keyBelow, keyCount, timesOf};
+ghost use Rattle.merged_count.specs.Weighing.{Blank, Filled, Later, Weighable};
 
 pub const KEYS: usize = 1024;
 
@@ -48,8 +47,8 @@ fn some(s: &[u8], rows: usize, j: usize) -> u8
 
 // Each row's key, and for each key the some-rows that have it.
 fn fill_keys(s: &[u8], rows: usize, keys: &mut [u16; MAX_ROWS], somes: &mut [u8; KEYS])
-    requires { ⌜ (Checked (now s) rows) × ((Zeros maxRows (now keys)) × (Zeros keyCount (now somes))) ⌝ }
-    ensures { λ _. ⌜ (Keyed (now (s .entry)) rows (now (keys .exit))) × (Tallied (now (s .entry)) rows (now (keys .exit)) (now (somes .exit))) ⌝ }
+    requires { ⌜ Blank (now s) rows (now keys) (now somes) ⌝ }
+    ensures { λ _. ⌜ Filled (now (s .entry)) rows (now (keys .exit)) (now (somes .exit)) ⌝ }
 {
     let mut j = 1;
     while j < rows {

@@ -14,23 +14,21 @@ abbrev μ-loop : tie.MeasureT-loop
 μ-loop s rows keys₀ somes₀ j₀ keys somes j = rows - j
 
 loop-holds : tie.Need-loop-holds Inv-loop μ-loop
-loop-holds c =
-    let (checked, (no-keys, no-somes)) = c .before .pre in
-    key-none _ _ _ _ checked no-keys no-somes
+loop-holds c = key-none _ _ _ _ (c .before .pre)
 
 -- row j stands in the file
 inside : (c : tie.In-loop Inv-loop μ-loop) → c .before .loop .j < 256
-inside c = omega (arith, c .before .before .before .pre .0 .most, c .loop-test .taken)
+inside c = omega (arith, c .before .before .before .pre .checked .most, c .loop-test .taken)
 
 parent-requires : tie.Need-parent-requires Inv-loop μ-loop
-parent-requires c κs = (inside c, omega (arith, c .before .before .before .pre .0 .whole, c .loop-test .taken))
+parent-requires c κs = (inside c, omega (arith, c .before .before .before .pre .checked .whole, c .loop-test .taken))
 
 -- and its parent before it
 above : (c : tie.After-parent Inv-loop μ-loop) → c .parent .result < c .before .before .loop .j
 above c =
     let l = c .before .before .loop in
     let some = l .inv .some in
-    omega (arith, c .parent .ensures .0, c .before .before .before .before .pre .0 .parents (l .j) (λ z. omega arith) (c .before .loop-test .taken))
+    omega (arith, c .parent .ensures .0, c .before .before .before .before .pre .checked .parents (l .j) (λ z. omega arith) (c .before .loop-test .taken))
 
 mul-index : tie.Need-mul-index Inv-loop μ-loop
 mul-index c = omega (arith, c .parent .ensures .1)
@@ -44,12 +42,12 @@ index-requires c κs = search needs
 role-requires : tie.Need-role-requires Inv-loop μ-loop
 role-requires c κs =
     let d = c .before .before .before in
-    (inside d, omega (arith, d .before .before .before .pre .0 .whole, d .loop-test .taken))
+    (inside d, omega (arith, d .before .before .before .pre .checked .whole, d .loop-test .taken))
 
 key-below-requires : tie.Need-key-below-requires Inv-loop μ-loop
 key-below-requires c κs =
     let d = c .before .before .before in
-    omega (arith, c .before .index .ensures .0, d .before .before .loop .inv .keyed .key-below (d .parent .result) (above d))
+    omega (arith, c .before .index .ensures .0, d .before .before .loop .inv .filled .keyed .key-below (d .parent .result) (above d))
 
 cast-keys : tie.Need-cast-keys Inv-loop μ-loop
 cast-keys c = omega (arith, c .key-below .ensures .1)
@@ -67,7 +65,7 @@ some-requires : tie.Need-some-requires Inv-loop μ-loop
 some-requires c κs =
     let d = c .before .before .before .before .before .before in
     let some = d .before .loop .inv .some in
-    record { checked = d .before .before .before .pre .0; later = λ z. omega arith; inside = d .loop-test .taken }
+    record { checked = d .before .before .before .pre .checked; later = λ z. omega arith; inside = d .loop-test .taken }
 
 add-somes : tie.Need-add-somes Inv-loop μ-loop
 add-somes c =
@@ -96,7 +94,7 @@ loop-again c =
     let d = c .before .before .before .before .before .before .before in
     let start = d .before .before .before in
     let l = d .before .loop in
-    key-next (now (start .args .s)) (start .args .rows) (l .j) (parent .result) (index .result) (role .result) (key .result) (c .some .result) (l .keys) (l .somes) (start .pre .0) (d .loop-test .taken) (l .inv) (parent .ensures .0) (index .ensures .0) (role .ensures) (key .ensures .0) (key .ensures .1) (c .some .ensures .0)
+    key-next (now (start .args .s)) (start .args .rows) (l .j) (parent .result) (index .result) (role .result) (key .result) (c .some .result) (l .keys) (l .somes) (start .pre .checked) (d .loop-test .taken) (l .inv) (parent .ensures .0) (index .ensures .0) (role .ensures) (key .ensures .0) (key .ensures .1) (c .some .ensures .0)
 
 returns : tie.Need-returns Inv-loop μ-loop
 returns c =

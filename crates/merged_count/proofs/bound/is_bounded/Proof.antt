@@ -8,7 +8,8 @@ use Rattle.merged_count.proofs.bound.is_bounded.Statement.{statement}
 use Rattle.merged_count.proofs.bound.is_bounded.Tie as tie
 
 fill-keys-requires : tie.Need-fill-keys-requires
-fill-keys-requires c κs = (c .before .before .before .pre .0, (blank _ _ refl, blank _ _ refl))
+fill-keys-requires c κs =
+    record { checked = c .before .before .before .pre .0; no-keys = blank _ _ refl; no-somes = blank _ _ refl }
 
 weigh-requires : tie.Need-weigh-requires
 weigh-requires c κs = search needs

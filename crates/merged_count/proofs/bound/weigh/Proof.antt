@@ -48,7 +48,7 @@ times-requires : tie.Need-times-requires Inv-loop μ-loop
 times-requires c κs =
     let d = c .before .before in
     let pre = d .before .before .before .pre in
-    (record { checked = pre .checked; later = λ z. omega (arith, d .loop-test .taken); inside = inside d }, pre .keyed .key-below _ (inside d))
+    (record { checked = pre .checked; later = λ z. omega (arith, d .loop-test .taken); inside = inside d }, pre .filled .keyed .key-below _ (inside d))
 
 product : (c : tie.After-times Inv-loop μ-loop) → c .before .wide .result * c .times .result ≤ 65280
 product c = small _ _ (c .before .wide .ensures .1) (c .times .ensures .1)
@@ -112,7 +112,7 @@ returns-2 c = λ within limits.
     let pre = start .pre in
     let l = c .before .before .loop in
     let weighed = weigh-done (now (a .s)) (a .rows) (now (a .keys)) (now (a .somes)) (l .j) (l .below) (c .before .loop-test .left) (l .inv) in
-    omega (arith, c .wide3 .ensures .0, weighed-most limits (now (a .s)) (a .rows) (now (a .keys)) (now (a .somes)) (l .below) (pre .checked) (pre .keyed) (pre .tallied) weighed)
+    omega (arith, c .wide3 .ensures .0, weighed-most limits (now (a .s)) (a .rows) (now (a .keys)) (now (a .somes)) (l .below) (pre .checked) (pre .filled .keyed) (pre .filled .tallied) weighed)
 
 pub weigh-spec : {M : Type 1} → statement M
 weigh-spec =
