@@ -1,6 +1,7 @@
 -- Sums over the rows that pass a test.
 --   total-none     nothing, if no row passes
 --   total-one      a row that passes is in the sum
+--   total-same     the same number for each row
 --   total-more     more rows, with more each
 --   total-parts    rows that pass one of two tests, and never both
 --   total-cover    rows each of which passes one of two tests
@@ -59,6 +60,11 @@ total-one q f (suc n) j l e =
   where
     here : q n ≡ true → f n ≤ total q f (suc n)
     here h = rw h (omega arith)
+
+pub total-same : (q r : ℕ → Bool) (f g : ℕ → ℕ) (n : ℕ) →
+    ((j : ℕ) → j < n → pick (q j) (f j) 0 ≡ pick (r j) (g j) 0) → total q f n ≡ total r g n
+total-same q r f g zero h = refl
+total-same q r f g (suc n) h = omega (arith, h n (omega arith), total-same q r f g n (λ j l. h j (omega arith)))
 
 pub total-more : (q r : ℕ → Bool) (f g : ℕ → ℕ) (n : ℕ) →
     ((j : ℕ) → j < n → q j ≡ true → (r j ≡ true) × (f j ≤ g j)) → total q f n ≤ total r g n

@@ -1,0 +1,128 @@
+-- At the loop's head the rows before j have their keys, and their some-rows are tallied.
+use Prim.Native.Nat.{_-_, _<_, ℕ}
+use native.Mathlib.Omega.{arith}
+use borrow.Author.Needs.{needs}
+use denote.Ref.{now}
+use Rattle.merged_count.proofs.Keyings.{KeyedTo, key-done, key-next, key-none, key-room}
+use Rattle.merged_count.proofs.bound.fill_keys.Statement.{statement}
+use Rattle.merged_count.proofs.bound.fill_keys.Tie as tie
+
+abbrev Inv-loop : tie.InvT-loop
+Inv-loop s rows keys₀ somes₀ j₀ keys somes j = KeyedTo s rows j keys somes
+
+abbrev μ-loop : tie.MeasureT-loop
+μ-loop s rows keys₀ somes₀ j₀ keys somes j = rows - j
+
+loop-holds : tie.Need-loop-holds Inv-loop μ-loop
+loop-holds c = key-none _ _ _ _ (c .before .pre)
+
+-- row j stands in the file
+inside : (c : tie.In-loop Inv-loop μ-loop) → c .before .loop .j < 256
+inside c = omega (arith, c .before .before .before .pre .checked .most, c .loop-test .taken)
+
+parent-requires : tie.Need-parent-requires Inv-loop μ-loop
+parent-requires c κs = (inside c, omega (arith, c .before .before .before .pre .checked .whole, c .loop-test .taken))
+
+-- and its parent before it
+above : (c : tie.After-parent Inv-loop μ-loop) → c .parent .result < c .before .before .loop .j
+above c =
+    let l = c .before .before .loop in
+    let some = l .inv .some in
+    omega (arith, c .parent .ensures .0, c .before .before .before .before .pre .checked .parents (l .j) (λ z. omega arith) (c .before .loop-test .taken))
+
+mul-index : tie.Need-mul-index Inv-loop μ-loop
+mul-index c = omega (arith, c .parent .ensures .1)
+
+element-copy-out-index : tie.Need-element-copy-out-index Inv-loop μ-loop
+element-copy-out-index c = omega (arith, above c, inside (c .before))
+
+index-requires : tie.Need-index-requires Inv-loop μ-loop
+index-requires c κs = search needs
+
+role-requires : tie.Need-role-requires Inv-loop μ-loop
+role-requires c κs =
+    let d = c .before .before .before in
+    (inside d, omega (arith, d .before .before .before .pre .checked .whole, d .loop-test .taken))
+
+key-below-requires : tie.Need-key-below-requires Inv-loop μ-loop
+key-below-requires c κs =
+    let d = c .before .before .before in
+    omega (arith, c .before .index .ensures .0, d .before .before .loop .inv .filled .keyed .key-below (d .parent .result) (above d))
+
+cast-keys : tie.Need-cast-keys Inv-loop μ-loop
+cast-keys c = omega (arith, c .key-below .ensures .1)
+
+mul-keys : tie.Need-mul-keys Inv-loop μ-loop
+mul-keys c = omega (arith, inside (c .before .before .before .before .before))
+
+element-write-keys : tie.Need-element-write-keys Inv-loop μ-loop
+element-write-keys c = inside (c .before .before .before .before .before)
+
+element-copy-out-somes : tie.Need-element-copy-out-somes Inv-loop μ-loop
+element-copy-out-somes c = c .key-below .ensures .1
+
+some-requires : tie.Need-some-requires Inv-loop μ-loop
+some-requires c κs =
+    let d = c .before .before .before .before .before .before in
+    let some = d .before .loop .inv .some in
+    record { checked = d .before .before .before .pre .checked; later = λ z. omega arith; inside = d .loop-test .taken }
+
+add-somes : tie.Need-add-somes Inv-loop μ-loop
+add-somes c =
+    let key = c .before .before .key-below in
+    let d = c .before .before .before .before .before .before .before in
+    let a = d .before .before .before .args in
+    let l = d .before .loop in
+    let room = key-room (now (a .s)) (a .rows) (l .j) (key .result) (l .keys) (l .somes) (l .inv) (key .ensures .1) in
+    omega (arith, room, inside d, c .some .ensures .1)
+
+element-write-somes : tie.Need-element-write-somes Inv-loop μ-loop
+element-write-somes c = c .before .before .key-below .ensures .1
+
+add-j : tie.Need-add-j Inv-loop μ-loop
+add-j c = omega (arith, inside (c .before .before .before .before .before .before .before))
+
+loop-less : tie.Need-loop-less Inv-loop μ-loop
+loop-less c = omega (arith, c .before .before .before .before .before .before .before .loop-test .taken)
+
+loop-again : tie.Need-loop-again Inv-loop μ-loop
+loop-again c =
+    let key = c .before .before .key-below in
+    let role = c .before .before .before .role in
+    let index = c .before .before .before .before .index in
+    let parent = c .before .before .before .before .before .before .parent in
+    let d = c .before .before .before .before .before .before .before in
+    let start = d .before .before .before in
+    let l = d .before .loop in
+    key-next (now (start .args .s)) (start .args .rows) (l .j) (parent .result) (index .result) (role .result) (key .result) (c .some .result) (l .keys) (l .somes) (start .pre .checked) (d .loop-test .taken) (l .inv) (parent .ensures .0) (index .ensures .0) (role .ensures) (key .ensures .0) (key .ensures .1) (c .some .ensures .0)
+
+returns : tie.Need-returns Inv-loop μ-loop
+returns c =
+    let a = c .before .before .before .args in
+    let l = c .before .loop in
+    key-done (now (a .s)) (a .rows) (l .j) (l .keys) (l .somes) (c .loop-test .left) (l .inv)
+
+pub fill-keys-spec : {M : Type 1} → statement M
+fill-keys-spec =
+    tie.close
+    (tie.spec
+    Inv-loop
+    μ-loop
+    loop-holds
+    parent-requires
+    mul-index
+    element-copy-out-index
+    index-requires
+    role-requires
+    key-below-requires
+    cast-keys
+    mul-keys
+    element-write-keys
+    element-copy-out-somes
+    some-requires
+    add-somes
+    element-write-somes
+    add-j
+    loop-less
+    loop-again
+    returns)

@@ -1,0 +1,101 @@
+// An upper bound on the merged rows, which settles most pictures.
+use table::layout::Limits;
+use table::layout::MAX_ROWS;
+use table::number::wide;
+use table_rows::row::kind;
+use table_rows::row::parent;
+use table_rows::row::role;
+ghost use mathlib.Core.Path.{_≡_};
+ghost use mathlib.Core.Bool.{true};
+ghost use Prim.Native.Nat.{ℕ, _≤_, _<_};
+ghost use lib.Dec.{eqb};
+ghost use lib.ListN.{getD};
+ghost use Rattle.table.specs.Bounds.{Bounded};
+ghost use Rattle.table.specs.Fields.{kindOf};
+ghost use Rattle.table.specs.Layout.{kindExists};
+ghost use Rattle.table.specs.Pick.{pick};
+ghost use Rattle.table.specs.declared.layout.Limits as tables;
+ghost use Rattle.row_sets.specs.Rows.{Checked};
+ghost use Rattle.meaning.specs.NormalTable.{mergedCount};
+ghost use Rattle.merged_count.specs.Bound.{keyBelow, keyCount, timesOf};
+ghost use Rattle.merged_count.specs.Weighing.{Blank, Filled, Later, Weighable};
+
+pub const KEYS: usize = 1024;
+
+// A key, with its range.
+fn index(x: u16) -> usize
+    ensures { λ r. ⌜ (r ≡ x) × (r < 65536) ⌝ }
+{
+    x as usize
+}
+
+// The key of a row, by that of its parent and its role.
+fn key_below(key: usize, role: u8) -> usize
+    requires { ⌜ key < keyCount ⌝ }
+    ensures { λ r. ⌜ (r ≡ keyBelow key role) × (r < keyCount) ⌝ }
+{
+    (37 * key + wide(role) as usize + 1) % KEYS
+}
+
+// 1 of a some-row, 0 of an all-row.
+fn some(s: &[u8], rows: usize, j: usize) -> u8
+    requires { ⌜ Later (now s) rows j ⌝ }
+    ensures { λ r. ⌜ (r ≡ pick (eqb (kindOf (now (s .entry)) j) kindExists) 1 0) × (r ≤ 1) ⌝ }
+{
+    kind(s, j) % 2
+}
+
+// Each row's key, and for each key the some-rows that have it.
+fn fill_keys(s: &[u8], rows: usize, keys: &mut [u16; MAX_ROWS], somes: &mut [u8; KEYS])
+    requires { ⌜ Blank (now s) rows (now keys) (now somes) ⌝ }
+    ensures { λ _. ⌜ Filled (now (s .entry)) rows (now (keys .exit)) (now (somes .exit)) ⌝ }
+{
+    let mut j = 1;
+    while j < rows {
+        let above = parent(s, j);
+        let key = key_below(index(keys[above]), role(s, j));
+        keys[j] = key as u16;
+        somes[key] = somes[key] + some(s, rows, j);
+        j += 1;
+    }
+}
+
+// How often what hangs below row j may stand in the merged table.
+fn times(s: &[u8], rows: usize, keys: &[u16; MAX_ROWS], somes: &[u8; KEYS], j: usize) -> usize
+    requires { ⌜ (Later (now s) rows j) × (getD (now keys) j 0 < keyCount) ⌝ }
+    ensures { λ r. ⌜ (r ≡ timesOf (now (s .entry)) (now (keys .entry)) (now (somes .entry)) j) × (r ≤ 256) ⌝ }
+{
+    let all = 1 - wide(some(s, rows, j)) as usize;
+    1 + all * (wide(somes[index(keys[j])]) as usize)
+}
+
+// The bound, from the last row back; beyond the limit, one more than it.
+fn weigh(s: &[u8], rows: usize, limit: usize, keys: &[u16; MAX_ROWS], somes: &[u8; KEYS]) -> usize
+    requires { ⌜ Weighable (now s) rows limit (now keys) (now somes) ⌝ }
+    ensures { λ r. ⌜ (r ≤ limit → (limits : tables.Limits) → mergedCount limits (now (s .entry)) ≤ r) ⌝ }
+{
+    let mut below = [0u8; MAX_ROWS];
+    let mut j = rows;
+    while 1 < j {
+        j -= 1;
+        let above = parent(s, j);
+        let share = 1 + wide(below[j]) as usize * times(s, rows, keys, somes, j);
+        let sum = wide(below[above]) as usize + share;
+        if limit <= sum {
+            return limit + 1;
+        }
+        below[above] = sum as u8;
+    }
+    1 + wide(below[0]) as usize
+}
+
+// Whether the bound is within the limit; then so are the merged rows.
+pub fn is_bounded(s: &[u8], rows: usize, limits: Limits) -> bool
+    requires { ⌜ (Checked (now s) rows) × (Bounded limits) ⌝ }
+    ensures { λ r. ⌜ (r ≡ true → mergedCount limits (now (s .entry)) ≤ limits .rows) ⌝ }
+{
+    let mut keys = [0u16; MAX_ROWS];
+    let mut somes = [0u8; KEYS];
+    fill_keys(s, rows, &mut keys, &mut somes);
+    weigh(s, rows, limits.rows, &keys, &somes) <= limits.rows
+}
