@@ -1,5 +1,5 @@
 -- At the loop's head the rows before j have their keys, and their some-rows are tallied.
-use Prim.Native.Nat.{_-_, _<_, ℕ}
+use Prim.Native.Nat.{_-_, _<_}
 use native.Mathlib.Omega.{arith}
 use borrow.Author.Needs.{needs}
 use denote.Ref.{now}

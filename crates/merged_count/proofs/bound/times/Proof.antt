@@ -6,7 +6,7 @@ use borrow.Author.Needs.{needs}
 use denote.Ref.{now}
 use lib.Dec.{eqb}
 use lib.ListN.{getD}
-use mathlib.Core.Path.{_∙_, _≡_, ap}
+use mathlib.Core.Path.{_∙_, ap}
 use Rattle.table.specs.Fields.{kindOf}
 use Rattle.table.specs.Layout.{kindExists}
 use Rattle.table.specs.Pick.{pick}
