@@ -38,8 +38,9 @@ from-next q f k zero l = absurd (omega arith)
 from-next q f k (suc n) l =
     by-test (eqb n k)
     (λ e. let same = eqb-true n k e in
-    let none = from-none q f in
-    rw (le-leb k n (omega arith), lt-leb (suc k) n (omega arith), none k n (omega arith), none (suc k) n (omega arith), same))
+    let this = from-none q f k n (omega arith) in
+    let next = from-none q f (suc k) n (omega arith) in
+    rw (le-leb k n (omega arith), lt-leb (suc k) n (omega arith), this, next, same))
     (λ e. let other = eqb-false n k e in
     let less = from-next q f k n (omega (arith, other)) in
     rw (le-leb k n (omega arith), le-leb (suc k) n (omega (arith, other))) (omega arith))

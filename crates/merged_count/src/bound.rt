@@ -7,14 +7,13 @@ use table_rows::row::parent;
 use table_rows::row::role;
 ghost use mathlib.Core.Path.{_≡_};
 ghost use mathlib.Core.Bool.{true};
-ghost use Prim.Native.Nat.{ℕ, _≤_, _<_};
+ghost use Prim.Native.Nat.{_≤_, _<_};
 ghost use lib.Dec.{eqb};
 ghost use lib.ListN.{getD};
 ghost use Rattle.table.specs.Bounds.{Bounded};
 ghost use Rattle.table.specs.Fields.{kindOf};
 ghost use Rattle.table.specs.Layout.{kindExists};
 ghost use Rattle.table.specs.Pick.{pick};
-ghost use Rattle.table.specs.declared.layout.Limits as tables;
 ghost use Rattle.row_sets.specs.Rows.{Checked};
 ghost use Rattle.meaning.specs.NormalTable.{mergedCount};
 ghost use Rattle.merged_count.specs.Bound.{keyBelow, keyCount, timesOf};
@@ -72,7 +71,7 @@ fn times(s: &[u8], rows: usize, keys: &[u16; MAX_ROWS], somes: &[u8; KEYS], j: u
 // The bound, from the last row back; beyond the limit, one more than it.
 fn weigh(s: &[u8], rows: usize, limit: usize, keys: &[u16; MAX_ROWS], somes: &[u8; KEYS]) -> usize
     requires { ⌜ Weighable (now s) rows limit (now keys) (now somes) ⌝ }
-    ensures { λ r. ⌜ (r ≤ limit → (limits : tables.Limits) → mergedCount limits (now (s .entry)) ≤ r) ⌝ }
+    ensures { λ r. ⌜ (r ≤ limit → (limits : Limits) → mergedCount limits (now (s .entry)) ≤ r) ⌝ }
 {
     let mut below = [0u8; MAX_ROWS];
     let mut j = rows;

@@ -1,5 +1,5 @@
 -- At the loop's head the rows before j have their keys, and their some-rows are tallied.
-use Prim.Native.Nat.{_-_, _<_, ℕ}
+use Prim.Native.Nat.{_-_, _<_}
 use native.Mathlib.Omega.{arith}
 use borrow.Author.Needs.{needs}
 use denote.Ref.{now}
@@ -26,9 +26,11 @@ parent-requires c κs = (inside c, omega (arith, c .before .before .before .pre 
 -- and its parent before it
 above : (c : tie.After-parent Inv-loop μ-loop) → c .parent .result < c .before .before .loop .j
 above c =
-    let l = c .before .before .loop in
+    let d = c .before in
+    let l = d .before .loop in
     let some = l .inv .some in
-    omega (arith, c .parent .ensures .0, c .before .before .before .before .pre .checked .parents (l .j) (λ z. omega arith) (c .before .loop-test .taken))
+    let parents = d .before .before .before .pre .checked .parents in
+    omega (arith, c .parent .ensures .0, parents (l .j) (λ z. omega arith) (d .loop-test .taken))
 
 mul-index : tie.Need-mul-index Inv-loop μ-loop
 mul-index c = omega (arith, c .parent .ensures .1)
@@ -47,7 +49,8 @@ role-requires c κs =
 key-below-requires : tie.Need-key-below-requires Inv-loop μ-loop
 key-below-requires c κs =
     let d = c .before .before .before in
-    omega (arith, c .before .index .ensures .0, d .before .before .loop .inv .filled .keyed .key-below (d .parent .result) (above d))
+    let keyed = d .before .before .loop .inv .filled .keyed in
+    omega (arith, c .before .index .ensures .0, keyed .key-below (d .parent .result) (above d))
 
 cast-keys : tie.Need-cast-keys Inv-loop μ-loop
 cast-keys c = omega (arith, c .key-below .ensures .1)
@@ -94,7 +97,11 @@ loop-again c =
     let d = c .before .before .before .before .before .before .before in
     let start = d .before .before .before in
     let l = d .before .loop in
-    key-next (now (start .args .s)) (start .args .rows) (l .j) (parent .result) (index .result) (role .result) (key .result) (c .some .result) (l .keys) (l .somes) (start .pre .checked) (d .loop-test .taken) (l .inv) (parent .ensures .0) (index .ensures .0) (role .ensures) (key .ensures .0) (key .ensures .1) (c .some .ensures .0)
+    let s = now (start .args .s) in
+    let rows = start .args .rows in
+    key-next s rows (l .j) (parent .result) (index .result) (role .result) (key .result) (c .some .result) (l .keys)
+    (l .somes) (start .pre .checked) (d .loop-test .taken) (l .inv) (parent .ensures .0) (index .ensures .0)
+    (role .ensures) (key .ensures .0) (key .ensures .1) (c .some .ensures .0)
 
 returns : tie.Need-returns Inv-loop μ-loop
 returns c =

@@ -24,7 +24,8 @@ returns c =
     let start = c .before .before in
     let a = start .args in
     let later = start .pre in
-    (ap (λ (n : ℕ). n % 2) (c .kind .ensures) ∙ some-is (kindOf (now (a .s)) (a .j)) (later .checked .kinds (a .j) (later .later) (later .inside)), omega arith)
+    let kinds = later .checked .kinds (a .j) (later .later) (later .inside) in
+    (ap (λ (n : ℕ). n % 2) (c .kind .ensures) ∙ some-is (kindOf (now (a .s)) (a .j)) kinds, omega arith)
 
 pub some-spec : {M : Type 1} → statement M
 some-spec = tie.close (tie.spec kind-requires returns)

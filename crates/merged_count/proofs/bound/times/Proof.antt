@@ -6,7 +6,7 @@ use borrow.Author.Needs.{needs}
 use denote.Ref.{now}
 use lib.Dec.{eqb}
 use lib.ListN.{getD}
-use mathlib.Core.Path.{_∙_, _≡_, ap}
+use mathlib.Core.Path.{_∙_, ap}
 use Rattle.table.specs.Fields.{kindOf}
 use Rattle.table.specs.Layout.{kindExists}
 use Rattle.table.specs.Pick.{pick}
@@ -56,9 +56,10 @@ returns c =
     let wide = c .before .before .before .before .wide in
     let some = c .before .before .before .before .before .some in
     let index = c .before .before .index in
-    let is-some = eqb (kindOf (now (a .s)) (a .j)) kindExists in (
+    let is-some = eqb (kindOf (now (a .s)) (a .j)) kindExists in
+    let number = c .wide2 .ensures .0 ∙ ap (λ (k : ℕ). getD (now (a .somes)) k 0) (index .ensures .0) in (
       times-is is-some (wide .result) (c .wide2 .result) (wide .ensures .0 ∙ some .ensures .0)
-          ∙ ap (λ (n : ℕ). pick is-some 1 (1 + n)) (c .wide2 .ensures .0 ∙ ap (λ (k : ℕ). getD (now (a .somes)) k 0) (index .ensures .0)),
+          ∙ ap (λ (n : ℕ). pick is-some 1 (1 + n)) number,
       omega (arith, most c),
     )
 

@@ -1,5 +1,5 @@
 -- At the loop's head each row has the weight of those rows from j on that hang from it.
-use Prim.Native.Nat.{_*_, _-_, _<_, _≤_, ℕ}
+use Prim.Native.Nat.{_*_, _-_, _<_, _≤_}
 use native.Mathlib.Omega.{arith}
 use borrow.Author.Needs.{needs}
 use denote.Ref.{now}
@@ -35,8 +35,10 @@ parent-requires c κs = (low c, omega (arith, inside c, c .before .before .befor
 -- and its parent before it
 above : (c : tie.After-parent Inv-loop μ-loop) → c .parent .result < c .before .before .loop .j - 1
 above c =
-    let l = c .before .before .loop in
-    omega (arith, c .parent .ensures .0, c .before .before .before .before .pre .checked .parents (l .j - 1) (λ z. omega (arith, c .before .loop-test .taken)) (inside (c .before)))
+    let d = c .before in
+    let more = d .loop-test .taken in
+    let parents = d .before .before .before .pre .checked .parents in
+    omega (arith, c .parent .ensures .0, parents (d .before .loop .j - 1) (λ z. omega (arith, more)) (inside d))
 
 array-read-wide : tie.Need-array-read-wide Inv-loop μ-loop
 array-read-wide c = low (c .before)
@@ -47,8 +49,11 @@ wide-requires c κs = search needs
 times-requires : tie.Need-times-requires Inv-loop μ-loop
 times-requires c κs =
     let d = c .before .before in
-    let pre = d .before .before .before .pre in
-    (record { checked = pre .checked; later = λ z. omega (arith, d .loop-test .taken); inside = inside d }, pre .filled .keyed .key-below _ (inside d))
+    let more = d .loop-test .taken in
+    let pre = d .before .before .before .pre in (
+      record { checked = pre .checked; later = λ z. omega (arith, more); inside = inside d },
+      pre .filled .keyed .key-below _ (inside d),
+    )
 
 product : (c : tie.After-times Inv-loop μ-loop) → c .before .wide .result * c .times .result ≤ 65280
 product c = small _ _ (c .before .wide .ensures .1) (c .times .ensures .1)
@@ -78,7 +83,8 @@ cast-below : tie.Need-cast-below Inv-loop μ-loop
 cast-below c = omega (arith, c .if1 .left, c .before .before .before .before .before .before .before .before .pre .low)
 
 array-write-below : tie.Need-array-write-below Inv-loop μ-loop
-array-write-below c = omega (arith, above (c .before .before .before .before), low (c .before .before .before .before .before))
+array-write-below c =
+    let p = c .before .before .before .before in omega (arith, above p, low (p .before))
 
 loop-less : tie.Need-loop-less Inv-loop μ-loop
 loop-less c = omega (arith, c .before .before .before .before .before .loop-test .taken)
@@ -94,7 +100,10 @@ loop-again c =
     let a = start .args in
     let l = d .before .loop in
     let more = d .loop-test .taken in
-    weigh-next (now (a .s)) (a .rows) (now (a .keys)) (now (a .somes)) (l .j - 1) (l .j) (p .parent .result) (wide .result) (times .result) (wide2 .result) (l .below) (start .pre .checked) (omega (arith, more)) (λ z. omega (arith, more)) (p .parent .ensures .0) (above p) (wide .ensures .0) (times .ensures .0) (wide2 .ensures .0) (l .inv)
+    weigh-next (now (a .s)) (a .rows) (now (a .keys)) (now (a .somes)) (l .j - 1) (l .j) (p .parent .result)
+    (wide .result) (times .result) (wide2 .result) (l .below) (start .pre .checked) (omega (arith, more))
+    (λ z. omega (arith, more)) (p .parent .ensures .0) (above p) (wide .ensures .0) (times .ensures .0)
+    (wide2 .ensures .0) (l .inv)
 
 array-read-wide-3 : tie.Need-array-read-wide-3 Inv-loop μ-loop
 array-read-wide-3 c = search needs
@@ -108,11 +117,16 @@ add-result-2 c = omega (arith, c .wide3 .ensures .1)
 returns-2 : tie.Need-returns-2 Inv-loop μ-loop
 returns-2 c = λ within limits.
     let start = c .before .before .before .before in
-    let a = start .args in
-    let pre = start .pre in
+    let s = now (start .args .s) in
+    let rows = start .args .rows in
+    let keys = now (start .args .keys) in
+    let somes = now (start .args .somes) in
+    let checked = start .pre .checked in
+    let filled = start .pre .filled in
     let l = c .before .before .loop in
-    let weighed = weigh-done (now (a .s)) (a .rows) (now (a .keys)) (now (a .somes)) (l .j) (l .below) (c .before .loop-test .left) (l .inv) in
-    omega (arith, c .wide3 .ensures .0, weighed-most limits (now (a .s)) (a .rows) (now (a .keys)) (now (a .somes)) (l .below) (pre .checked) (pre .filled .keyed) (pre .filled .tallied) weighed)
+    let weighed = weigh-done s rows keys somes (l .j) (l .below) (c .before .loop-test .left) (l .inv) in
+    let most = weighed-most limits s rows keys somes (l .below) checked (filled .keyed) (filled .tallied) weighed in
+    omega (arith, c .wide3 .ensures .0, most)
 
 pub weigh-spec : {M : Type 1} → statement M
 weigh-spec =
