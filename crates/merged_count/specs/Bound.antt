@@ -28,7 +28,7 @@ abbrev pub keyCount : ℕ
 keyCount = 1024
 
 unfoldable pub keyBelow : ℕ → ℕ → ℕ
-keyBelow key role = (37 * key + role + 1) % keyCount
+keyBelow key role = (9 * key + role + 1) % keyCount
 
 pub record Keyed (s : List ℕ) (rows : ℕ) (keys : List ℕ) : Type 0 where
   pub key-is : (j : ℕ) → (j ≡ 0 → ⊥) → j < rows → getD keys j 0 ≡ keyBelow (getD keys (parentOf s j) 0) (roleOf s j)

@@ -1,9 +1,11 @@
 // An upper bound on the merged rows, which settles most pictures.
 use table::layout::Limits;
 use table::layout::MAX_ROWS;
+use table::layout::NUMBER_SIZE;
+use table::layout::PARENT_AT;
+use table::layout::place;
 use table::number::wide;
 use table_rows::row::kind;
-use table_rows::row::parent;
 use table_rows::row::role;
 ghost use mathlib.Core.Path.{_≡_};
 ghost use mathlib.Core.Bool.{true};
@@ -11,7 +13,7 @@ ghost use Prim.Native.Nat.{_≤_, _<_};
 ghost use lib.Dec.{eqb};
 ghost use lib.ListN.{getD};
 ghost use Rattle.table.specs.Bounds.{Bounded};
-ghost use Rattle.table.specs.Fields.{kindOf};
+ghost use Rattle.table.specs.Fields.{kindOf, parentOf};
 ghost use Rattle.table.specs.Layout.{kindExists};
 ghost use Rattle.table.specs.Pick.{pick};
 ghost use Rattle.row_sets.specs.Rows.{Checked};
@@ -33,7 +35,15 @@ fn key_below(key: usize, role: u8) -> usize
     requires { ⌜ key < keyCount ⌝ }
     ensures { λ r. ⌜ (r ≡ keyBelow key role) × (r < keyCount) ⌝ }
 {
-    (37 * key + wide(role) as usize + 1) % KEYS
+    (9 * key + wide(role) as usize + 1) % KEYS
+}
+
+// The parent of row j by its last byte: it stands before its row, so that the byte before that is 0.
+fn above(s: &[u8], rows: usize, j: usize) -> usize
+    requires { ⌜ Later (now s) rows j ⌝ }
+    ensures { λ r. ⌜ (r ≡ parentOf (now (s .entry)) j) × (r < j) ⌝ }
+{
+    wide(s[place(j, PARENT_AT + NUMBER_SIZE - 1)]) as usize
 }
 
 // 1 of a some-row, 0 of an all-row.
@@ -51,8 +61,7 @@ fn fill_keys(s: &[u8], rows: usize, keys: &mut [u16; MAX_ROWS], somes: &mut [u8;
 {
     let mut j = 1;
     while j < rows {
-        let above = parent(s, j);
-        let key = key_below(index(keys[above]), role(s, j));
+        let key = key_below(index(keys[above(s, rows, j)]), role(s, j));
         keys[j] = key as u16;
         somes[key] = somes[key] + some(s, rows, j);
         j += 1;
@@ -77,13 +86,13 @@ fn weigh(s: &[u8], rows: usize, limit: usize, keys: &[u16; MAX_ROWS], somes: &[u
     let mut j = rows;
     while 1 < j {
         j -= 1;
-        let above = parent(s, j);
+        let parent = above(s, rows, j);
         let share = 1 + wide(below[j]) as usize * times(s, rows, keys, somes, j);
-        let sum = wide(below[above]) as usize + share;
+        let sum = wide(below[parent]) as usize + share;
         if limit <= sum {
             return limit + 1;
         }
-        below[above] = sum as u8;
+        below[parent] = sum as u8;
     }
     1 + wide(below[0]) as usize
 }

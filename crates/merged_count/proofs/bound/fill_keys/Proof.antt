@@ -3,6 +3,7 @@ use Prim.Native.Nat.{_-_, _<_}
 use native.Mathlib.Omega.{arith}
 use borrow.Author.Needs.{needs}
 use denote.Ref.{now}
+use Rattle.merged_count.specs.Weighing.{Later}
 use Rattle.merged_count.proofs.Keyings.{KeyedTo, key-done, key-next, key-none, key-room}
 use Rattle.merged_count.proofs.bound.fill_keys.Statement.{statement}
 use Rattle.merged_count.proofs.bound.fill_keys.Tie as tie
@@ -20,23 +21,21 @@ loop-holds c = key-none _ _ _ _ (c .before .pre)
 inside : (c : tie.In-loop Inv-loop μ-loop) → c .before .loop .j < 256
 inside c = omega (arith, c .before .before .before .pre .checked .most, c .loop-test .taken)
 
-parent-requires : tie.Need-parent-requires Inv-loop μ-loop
-parent-requires c κs = (inside c, omega (arith, c .before .before .before .pre .checked .whole, c .loop-test .taken))
+-- and is not the first
+later : (c : tie.In-loop Inv-loop μ-loop) → let start = c .before .before .before in
+    Later (now (start .args .s)) (start .args .rows) (c .before .loop .j)
+later c =
+    let some = c .before .loop .inv .some in
+    record { checked = c .before .before .before .pre .checked; later = λ z. omega arith; inside = c .loop-test .taken }
 
--- and its parent before it
-above : (c : tie.After-parent Inv-loop μ-loop) → c .parent .result < c .before .before .loop .j
-above c =
-    let d = c .before in
-    let l = d .before .loop in
-    let some = l .inv .some in
-    let parents = d .before .before .before .pre .checked .parents in
-    omega (arith, c .parent .ensures .0, parents (l .j) (λ z. omega arith) (d .loop-test .taken))
+above-requires : tie.Need-above-requires Inv-loop μ-loop
+above-requires c κs = later c
 
 mul-index : tie.Need-mul-index Inv-loop μ-loop
-mul-index c = omega (arith, c .parent .ensures .1)
+mul-index c = omega (arith, c .above .ensures .1, inside (c .before))
 
 element-copy-out-index : tie.Need-element-copy-out-index Inv-loop μ-loop
-element-copy-out-index c = omega (arith, above c, inside (c .before))
+element-copy-out-index c = omega (arith, c .above .ensures .1, inside (c .before))
 
 index-requires : tie.Need-index-requires Inv-loop μ-loop
 index-requires c κs = search needs
@@ -50,7 +49,7 @@ key-below-requires : tie.Need-key-below-requires Inv-loop μ-loop
 key-below-requires c κs =
     let d = c .before .before .before in
     let keyed = d .before .before .loop .inv .filled .keyed in
-    omega (arith, c .before .index .ensures .0, keyed .key-below (d .parent .result) (above d))
+    omega (arith, c .before .index .ensures .0, keyed .key-below (d .above .result) (d .above .ensures .1))
 
 cast-keys : tie.Need-cast-keys Inv-loop μ-loop
 cast-keys c = omega (arith, c .key-below .ensures .1)
@@ -65,10 +64,7 @@ element-copy-out-somes : tie.Need-element-copy-out-somes Inv-loop μ-loop
 element-copy-out-somes c = c .key-below .ensures .1
 
 some-requires : tie.Need-some-requires Inv-loop μ-loop
-some-requires c κs =
-    let d = c .before .before .before .before .before .before in
-    let some = d .before .loop .inv .some in
-    record { checked = d .before .before .before .pre .checked; later = λ z. omega arith; inside = d .loop-test .taken }
+some-requires c κs = later (c .before .before .before .before .before .before)
 
 add-somes : tie.Need-add-somes Inv-loop μ-loop
 add-somes c =
@@ -93,7 +89,7 @@ loop-again c =
     let key = c .before .before .key-below in
     let role = c .before .before .before .role in
     let index = c .before .before .before .before .index in
-    let parent = c .before .before .before .before .before .before .parent in
+    let parent = c .before .before .before .before .before .before .above in
     let d = c .before .before .before .before .before .before .before in
     let start = d .before .before .before in
     let l = d .before .loop in
@@ -116,7 +112,7 @@ fill-keys-spec =
     Inv-loop
     μ-loop
     loop-holds
-    parent-requires
+    above-requires
     mul-index
     element-copy-out-index
     index-requires

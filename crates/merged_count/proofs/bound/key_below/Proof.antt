@@ -21,7 +21,7 @@ add-result-2 c = search needs
 
 returns : tie.Need-returns
 unfolding keyBelow
-returns c = (ap (λ (n : ℕ). (37 * c .before .args .key + n + 1) % 1024) (c .wide .ensures .0), omega arith)
+returns c = (ap (λ (n : ℕ). (9 * c .before .args .key + n + 1) % 1024) (c .wide .ensures .0), omega arith)
 
 pub key-below-spec : {M : Type 1} → statement M
 key-below-spec = tie.close (tie.spec mul-result wide-requires add-result add-result-2 returns)

@@ -6,6 +6,7 @@ use denote.Ref.{now}
 use mathlib.Core.Path.{refl}
 use Rattle.table_rows.proofs.Stores.{blank}
 use Rattle.merged_count.proofs.Bounds.{weighed-most}
+use Rattle.merged_count.specs.Weighing.{Later}
 use Rattle.merged_count.proofs.Weighings.{WeighedFrom, small, weigh-done, weigh-next, weigh-none}
 use Rattle.merged_count.proofs.bound.weigh.Statement.{statement}
 use Rattle.merged_count.proofs.bound.weigh.Tie as tie
@@ -29,16 +30,15 @@ inside c = omega (arith, c .before .loop .inv .most, c .loop-test .taken)
 low : (c : tie.In-loop Inv-loop μ-loop) → c .before .loop .j - 1 < 256
 low c = omega (arith, inside c, c .before .before .before .pre .checked .most)
 
-parent-requires : tie.Need-parent-requires Inv-loop μ-loop
-parent-requires c κs = (low c, omega (arith, inside c, c .before .before .before .pre .checked .whole))
+-- and is not the first
+later : (c : tie.In-loop Inv-loop μ-loop) → let start = c .before .before .before in
+    Later (now (start .args .s)) (start .args .rows) (c .before .loop .j - 1)
+later c =
+    let more = c .loop-test .taken in
+    record { checked = c .before .before .before .pre .checked; later = λ z. omega (arith, more); inside = inside c }
 
--- and its parent before it
-above : (c : tie.After-parent Inv-loop μ-loop) → c .parent .result < c .before .before .loop .j - 1
-above c =
-    let d = c .before in
-    let more = d .loop-test .taken in
-    let parents = d .before .before .before .pre .checked .parents in
-    omega (arith, c .parent .ensures .0, parents (d .before .loop .j - 1) (λ z. omega (arith, more)) (inside d))
+above-requires : tie.Need-above-requires Inv-loop μ-loop
+above-requires c κs = later c
 
 array-read-wide : tie.Need-array-read-wide Inv-loop μ-loop
 array-read-wide c = low (c .before)
@@ -49,11 +49,7 @@ wide-requires c κs = search needs
 times-requires : tie.Need-times-requires Inv-loop μ-loop
 times-requires c κs =
     let d = c .before .before in
-    let more = d .loop-test .taken in
-    let pre = d .before .before .before .pre in (
-      record { checked = pre .checked; later = λ z. omega (arith, more); inside = inside d },
-      pre .filled .keyed .key-below _ (inside d),
-    )
+    (later d, d .before .before .before .pre .filled .keyed .key-below _ (inside d))
 
 product : (c : tie.After-times Inv-loop μ-loop) → c .before .wide .result * c .times .result ≤ 65280
 product c = small _ _ (c .before .wide .ensures .1) (c .times .ensures .1)
@@ -65,7 +61,7 @@ add-share : tie.Need-add-share Inv-loop μ-loop
 add-share c = omega (arith, product c)
 
 array-read-wide-2 : tie.Need-array-read-wide-2 Inv-loop μ-loop
-array-read-wide-2 c = omega (arith, above (c .before .before), low (c .before .before .before))
+array-read-wide-2 c = omega (arith, c .before .before .above .ensures .1, low (c .before .before .before))
 
 wide-requires-2 : tie.Need-wide-requires-2 Inv-loop μ-loop
 wide-requires-2 c κs = search needs
@@ -84,7 +80,7 @@ cast-below c = omega (arith, c .if1 .left, c .before .before .before .before .be
 
 array-write-below : tie.Need-array-write-below Inv-loop μ-loop
 array-write-below c =
-    let p = c .before .before .before .before in omega (arith, above p, low (p .before))
+    let p = c .before .before .before .before in omega (arith, p .above .ensures .1, low (p .before))
 
 loop-less : tie.Need-loop-less Inv-loop μ-loop
 loop-less c = omega (arith, c .before .before .before .before .before .loop-test .taken)
@@ -100,9 +96,9 @@ loop-again c =
     let a = start .args in
     let l = d .before .loop in
     let more = d .loop-test .taken in
-    weigh-next (now (a .s)) (a .rows) (now (a .keys)) (now (a .somes)) (l .j - 1) (l .j) (p .parent .result)
+    weigh-next (now (a .s)) (a .rows) (now (a .keys)) (now (a .somes)) (l .j - 1) (l .j) (p .above .result)
     (wide .result) (times .result) (wide2 .result) (l .below) (start .pre .checked) (omega (arith, more))
-    (λ z. omega (arith, more)) (p .parent .ensures .0) (above p) (wide .ensures .0) (times .ensures .0)
+    (λ z. omega (arith, more)) (p .above .ensures .0) (p .above .ensures .1) (wide .ensures .0) (times .ensures .0)
     (wide2 .ensures .0) (l .inv)
 
 array-read-wide-3 : tie.Need-array-read-wide-3 Inv-loop μ-loop
@@ -136,7 +132,7 @@ weigh-spec =
     μ-loop
     loop-holds
     sub-j
-    parent-requires
+    above-requires
     array-read-wide
     wide-requires
     times-requires
