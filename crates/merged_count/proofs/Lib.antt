@@ -1,1 +1,3 @@
 -- The laws of the count.
+pub mod Counts
+pub mod Hangings

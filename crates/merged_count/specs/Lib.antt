@@ -1,2 +1,3 @@
 -- What is counted of merged rows.
 pub mod Bound
+pub mod Count
