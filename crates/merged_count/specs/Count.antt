@@ -1,10 +1,11 @@
 -- What the count has of a set, and what it needs of its arguments. Nobody has to believe these.
+--   Counts     a forest was counted after so many merged rows, up to the limit and one more
 --   HungFrom   the rows that hang from those of a set, and their roles
 --   hungWith   what hangs from row c, and these
 --   treeSize   the merged rows of a set from which these hang, down to a depth
---   Counting   so many merged rows were counted of a picture, up to the limit and one more
---   OfRole     the rows that hang from a set, of which those of one role are looked at
---   Beside     the parts of one role: A counts as often as the limit lets it
+--   Counting   a picture is being counted, and so many merged rows were
+--   OneRole    the rows that hang from a set, of which those of one role are to be counted
+--   Beside     the successors of one role: up to the limit, `each` is what A and what hangs from it count
 use Prim.Native.Nat.{_+_, _<_, _≤_, suc, ℕ}
 use lib.Dec.{eqb}
 use mathlib.Core.Bool.{Bool, _||_, false}
@@ -13,19 +14,22 @@ use mathlib.Core.Path.{_≡_}
 use Rattle.table.specs.Bounds.{maxRows}
 use Rattle.table.specs.Layout.{roles}
 use Rattle.ale.specs.PictureSignature.{pictureSignature}
-use Rattle.ale.specs.Tree.{sizes}
+use Rattle.ale.specs.Tree.{Forest, sizes}
 use Rattle.row_sets.specs.Parts.{capped, successorsAt}
 use Rattle.row_sets.specs.Rows.{Known, Surveyed, hangs, holds}
 use Rattle.row_sets.specs.declared.rows.RowSet.{RowSet}
 use Rattle.row_sets.specs.declared.rows.Successors.{Successors}
 use Rattle.merged_count.specs.declared.count.Parts.{Parts}
 
+abbrev pub Counts : ℕ → ℕ → Forest pictureSignature → ℕ → Type 0
+Counts limit merged f r = r ≡ capped limit (merged + sizes pictureSignature f)
+
 pub record HungFrom (s : List ℕ) (rows : ℕ) (q : ℕ → Bool) (successors : Successors) : Type 0 where
   pub set-is : (j : ℕ) → j < rows → holds (successors .set) j ≡ hangs s q j
   pub known : Known s rows successors
 
-abbrev pub hungWith : List ℕ → ℕ → (ℕ → Bool) → ℕ → Bool
-hungWith s c p k = hangs s (λ i. eqb i c) k || p k
+abbrev pub hungWith : List ℕ → ℕ → Successors → ℕ → Bool
+hungWith s c successors k = hangs s (λ i. eqb i c) k || holds (successors .set) k
 
 abbrev pub treeSize : List ℕ → ℕ → ℕ → (ℕ → Bool) → ℕ
 treeSize s rows depth p = suc (sizes pictureSignature (successorsAt s rows depth p))
@@ -35,11 +39,12 @@ pub record Counting (s : List ℕ) (rows : ℕ) (links masks : List ℕ) (limit 
   pub limit-most : limit ≤ maxRows
   pub counted : merged ≤ suc limit
 
-pub record OfRole (set : RowSet) (role : ℕ) : Type 0 where
+pub record OneRole (set : RowSet) (role : ℕ) : Type 0 where
   pub role-below : role < roles
   pub rootless : holds set 0 ≡ false
 
-pub record Beside (s : List ℕ) (rows limit depth merged : ℕ) (parts : Parts) : Type 0 where
+pub record Beside (s : List ℕ) (rows depth limit merged : ℕ) (parts : Parts) : Type 0 where
   pub known : Known s rows (parts .below)
   pub each-most : parts .each ≤ suc limit
-  pub each-is : capped limit (merged + parts .each) ≡ capped limit (merged + treeSize s rows depth (holds (parts .below .set)))
+  pub each-is :
+      capped limit (merged + parts .each) ≡ capped limit (merged + treeSize s rows depth (holds (parts .below .set)))

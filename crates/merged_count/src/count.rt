@@ -1,5 +1,5 @@
-// The merged rows of a picture, counted as the writer makes them, up to the limit and one more. How many there are depends only on
-// what hangs from each set of file rows, so there are no labels here.
+// The merged rows of a picture, counted in the order in which the writer makes them, up to the limit and one more. What
+// hangs from each set of file rows is enough for that, so there are no labels here.
 use row_sets::rows::LINKS;
 use row_sets::rows::MASKS;
 use row_sets::rows::ROLE_BITS;
@@ -17,12 +17,10 @@ ghost use Prim.Native.Nat.{ℕ, _+_, _<_};
 ghost use Rattle.table.specs.Bounds.{Bounded, maxRows};
 ghost use Rattle.table.specs.Fields.{parentOf};
 ghost use Rattle.table_rows.specs.Links.{Linked};
-ghost use Rattle.ale.specs.PictureSignature.{pictureSignature};
-ghost use Rattle.ale.specs.Tree.{sizes};
 ghost use Rattle.meaning.specs.NormalTable.{mergedCount};
 ghost use Rattle.row_sets.specs.Rows.{Checked, Known, holds, ofRole};
 ghost use Rattle.row_sets.specs.Parts.{capped, existsPartAt, partsAt, successorsAt};
-ghost use Rattle.merged_count.specs.Count.{Beside, Counting, HungFrom, OfRole, hungWith, treeSize};
+ghost use Rattle.merged_count.specs.Count.{Beside, Counting, Counts, HungFrom, OneRole, hungWith, treeSize};
 
 // Of one role: the some-successors, what hangs from A, and the merged rows of a set from which the same hangs.
 struct Parts {
@@ -81,7 +79,7 @@ fn count_successors(
     merged: usize,
 ) -> usize
     requires { ⌜ (Counting (now s) rows (now links) (now masks) limit merged) × (Known (now s) rows successors) ⌝ }
-    ensures { λ r. ⌜ r ≡ capped limit (merged + sizes pictureSignature (successorsAt (now (s .entry)) rows depth (holds (successors .set)))) ⌝ }
+    ensures { λ r. ⌜ Counts limit merged (successorsAt (now (s .entry)) rows depth (holds (successors .set))) r ⌝ }
 {
     if depth == 0 {
         return merged;
@@ -121,8 +119,8 @@ fn count_role(
     merged: usize,
     role: u8,
 ) -> usize
-    requires { ⌜ (Counting (now s) rows (now links) (now masks) limit merged) × (OfRole set role) ⌝ }
-    ensures { λ r. ⌜ r ≡ capped limit (merged + sizes pictureSignature (partsAt (now (s .entry)) rows depth role (ofRole (now (s .entry)) role (holds set)))) ⌝ }
+    requires { ⌜ (Counting (now s) rows (now links) (now masks) limit merged) × (OneRole set role) ⌝ }
+    ensures { λ r. ⌜ Counts limit merged (partsAt (now (s .entry)) rows depth role (ofRole (now (s .entry)) role (holds set))) r ⌝ }
 {
     let all = set.of_edge(masks, KIND_FOR_ALL, role);
     let some = set.of_edge(masks, KIND_EXISTS, role);
@@ -149,8 +147,8 @@ fn count_exists(
     depth: usize,
     merged: usize,
 ) -> usize
-    requires { ⌜ (Counting (now s) rows (now links) (now masks) limit merged) × (Beside (now s) rows limit depth merged parts) ⌝ }
-    ensures { λ r. ⌜ ((q : ℕ → Bool) (role : ℕ) → HungFrom (now (s .entry)) rows q (parts .below) → r ≡ capped limit (merged + sizes pictureSignature (existsPartAt (now (s .entry)) rows depth role (holds (parts .some)) q rows))) ⌝ }
+    requires { ⌜ (Counting (now s) rows (now links) (now masks) limit merged) × (Beside (now s) rows depth limit merged parts) ⌝ }
+    ensures { λ r. ⌜ ((q : ℕ → Bool) (role : ℕ) → HungFrom (now (s .entry)) rows q (parts .below) → Counts limit merged (existsPartAt (now (s .entry)) rows depth role (holds (parts .some)) q rows) r) ⌝ }
 {
     let some = parts.some;
     let mut counted = merged;
@@ -177,8 +175,8 @@ fn count_beside(
     merged: usize,
     c: usize,
 ) -> usize
-    requires { ⌜ (Counting (now s) rows (now links) (now masks) limit merged) × ((Beside (now s) rows limit depth merged parts) × (c < rows)) ⌝ }
-    ensures { λ r. ⌜ r ≡ capped limit (merged + treeSize (now (s .entry)) rows depth (hungWith (now (s .entry)) c (holds (parts .below .set)))) ⌝ }
+    requires { ⌜ (Counting (now s) rows (now links) (now masks) limit merged) × ((Beside (now s) rows depth limit merged parts) × (c < rows)) ⌝ }
+    ensures { λ r. ⌜ r ≡ capped limit (merged + treeSize (now (s .entry)) rows depth (hungWith (now (s .entry)) c (parts .below))) ⌝ }
 {
     if links[c] == 0 {
         let counted = merged + parts.each;
