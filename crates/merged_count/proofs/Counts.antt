@@ -6,7 +6,7 @@
 --   role-full, role-end              beyond the limit; all roles
 -- One role: A, if it has a row, and then its some-successors; row j is the next of them, n the one after it.
 --   value-turn                       A
---   role-beside                      what A and what hangs from it count is what is added for a row from which nothing hangs
+--   role-beside                      what it counts is added for each row from which nothing hangs
 --   Turning, turn-start, turn-on     row j is one of the some-successors
 --   turn-full, turn-end              the last that the limit lets in; none is left
 --   role-parts-counted               all of them
@@ -27,14 +27,15 @@ use Rattle.ale.specs.Tree.{Forest, cons, exists, nil, size, sizes}
 use Rattle.ale.proofs.Appends.{sizes-append}
 use Rattle.meaning.specs.NormalTable.{mergedCount}
 use Rattle.row_sets.specs.Parts.{capped, existsPartAt, mergedAt, partsAt, rolesAt, successorsAt, valuePartAt}
-use Rattle.row_sets.specs.Rows.{Checked, Found, Known, Next, also, holds, ofKind, ofRole}
+use Rattle.row_sets.specs.Rows.{Checked, Found, Known, Next, also, holds, ofKind}
 use Rattle.row_sets.specs.declared.rows.RowSet.{RowSet}
 use Rattle.row_sets.specs.declared.rows.Successors.{Successors}
 use Rattle.row_sets.proofs.PartLaws.{exists-more, exists-next, exists-none, exists-skip, role-parts, roles-more}
 use Rattle.row_sets.proofs.PartLaws.{roles-next, roles-none, roles-skip, successors-none, successors-roles}
 use Rattle.row_sets.proofs.PartLaws.{unused-roles, value-none, value-one}
 use Rattle.row_sets.proofs.Roots.{merged-root}
-use Rattle.merged_count.specs.Count.{Beside, Counting, Counts, HungFrom, hungWith, treeSize}
+use Rattle.merged_count.specs.Count.{Beside, Counting, Counts, ExistsCounted, HungFrom}
+use Rattle.merged_count.specs.Count.{besideSize, roleAt, treeSize}
 use Rattle.merged_count.specs.declared.count.Parts.{Parts}
 use Rattle.merged_count.proofs.Hangings.{beside-size, tree-size}
 
@@ -48,10 +49,16 @@ pub counting-on : (s : List ℕ) (rows : ℕ) (links masks : List ℕ) (limit me
 counting-on s rows links masks limit merged counted counting l =
     record { surveyed = counting .surveyed; limit-most = counting .limit-most; counted = l }
 
-pub beside-on : (s : List ℕ) (rows depth limit merged counted : ℕ) (parts : Parts) → merged ≤ counted →
-    Beside s rows depth limit merged parts → Beside s rows depth limit counted parts
-beside-on s rows depth limit merged counted parts l beside =
-    record { known = beside .known; each-most = beside .each-most; each-is = omega (arith, beside .each-is) }
+pub beside-on : (s : List ℕ) (rows : ℕ) (links masks : List ℕ) (depth limit merged counted : ℕ) (parts : Parts) →
+    Beside s rows links masks depth limit merged parts → merged ≤ counted → counted ≤ suc limit →
+    Beside s rows links masks depth limit counted parts
+beside-on s rows links masks depth limit merged counted parts beside rises fits =
+    record {
+      counting = counting-on s rows links masks limit merged counted (beside .counting) fits;
+      known = beside .known;
+      each-most = beside .each-most;
+      each-is = omega (arith, beside .each-is);
+    }
 
 -- one forest after another
 counts-append : (limit merged counted r : ℕ) (f g h : Forest pictureSignature) → append pictureSignature f g ≡ h →
@@ -62,7 +69,8 @@ counts-append limit merged counted r f g h e p q =
 
 -- ---- role by role
 
-module _ (s : List ℕ) (rows depth : ℕ) (successors : Successors) (known : Known s rows successors) (limit merged : ℕ) where
+module _ (s : List ℕ) (rows depth : ℕ) (successors : Successors) (known : Known s rows successors)
+    (limit merged : ℕ) where
   abbrev p : ℕ → Bool
   p = holds (successors .set)
 
@@ -83,7 +91,8 @@ module _ (s : List ℕ) (rows depth : ℕ) (successors : Successors) (known : Kn
       let e = skipped 0 n (omega arith) (omega arith) none ∙ roles-none s rows p (depth - 1) in
       omega (arith, ap (sizes pictureSignature) e)
 
-  module _ (some : depth ≡ 0 → ⊥) (role counted : ℕ) (sooner : Counts limit merged (below (min role roles)) counted) where
+  module _ (some : depth ≡ 0 → ⊥) (role counted : ℕ)
+      (sooner : Counts limit merged (below (min role roles)) counted) where
     pub role-end : roles ≤ role → Counts limit merged (successorsAt s rows depth p) counted
     role-end last =
         let e : min role roles ≡ roles = omega arith in
@@ -91,16 +100,13 @@ module _ (s : List ℕ) (rows depth : ℕ) (successors : Successors) (known : Kn
         ap below e ∙ sym (successors-roles s rows p depth some) in
         omega (arith, sooner, ap (sizes pictureSignature) all)
 
-    module _ (r : ℕ) (l : role < roles)
-        (turn : Counts limit counted (partsAt s rows (depth - 1) role (ofRole s role p)) r) where
+    module _ (r : ℕ) (l : role < roles) (turn : Counts limit counted (roleAt s rows (depth - 1) role p) r) where
       next : Counts limit merged (below (role + 1)) r
       next =
           let e : min role roles ≡ role = omega arith in
-          counts-append limit merged counted r (below (min role roles)) (partsAt s rows (depth - 1) role (ofRole s role p))
-          (below (role + 1))
-          (ap (λ n. append pictureSignature (below n) (partsAt s rows (depth - 1) role (ofRole s role p))) e
-          ∙ roles-next s rows p (depth - 1) role)
-          sooner turn
+          let one : Forest pictureSignature = roleAt s rows (depth - 1) role p in
+          counts-append limit merged counted r (below (min role roles)) one (below (role + 1))
+          (ap (λ n. append pictureSignature (below n) one) e ∙ roles-next s rows p (depth - 1) role) sooner turn
 
       pub role-turn : (n : ℕ) → role + 1 ≤ n →
           ((k : ℕ) → role + 1 ≤ k → k < n → has (successors .roles) k ≡ false) →
@@ -114,10 +120,9 @@ module _ (s : List ℕ) (rows depth : ℕ) (successors : Successors) (known : Kn
 
 -- ---- the some-successors of one role
 
--- those before row j are counted, whatever set q is A, and by whatever role they hang
+-- those before row j were counted
 pub record Turning (s : List ℕ) (rows depth : ℕ) (parts : Parts) (limit merged counted j : ℕ) : Type 0 where
-  pub counts : (q : ℕ → Bool) (role : ℕ) → HungFrom s rows q (parts .below) →
-      Counts limit merged (existsPartAt s rows depth role (holds (parts .some)) q (min j rows)) counted
+  pub counts : ExistsCounted s rows depth parts limit merged (min j rows) counted
   pub held : j < rows → holds (parts .some) j ≡ true
   pub rises : merged ≤ counted
   pub fits : counted ≤ suc limit
@@ -147,16 +152,14 @@ module _ (s : List ℕ) (rows depth : ℕ) (parts : Parts) (limit merged : ℕ) 
       }
 
   module _ (counted j : ℕ) (sooner : Turning s rows depth parts limit merged counted j) where
-    pub turn-end : rows ≤ j → (q : ℕ → Bool) (role : ℕ) → HungFrom s rows q (parts .below) →
-        Counts limit merged (upto q role rows) counted
+    pub turn-end : rows ≤ j → ExistsCounted s rows depth parts limit merged rows counted
     turn-end last q role from =
         let e : min j rows ≡ rows = omega arith in
         omega (arith, sooner .counts q role from, ap (λ n. sizes pictureSignature (upto q role n)) e)
 
     module _ (checked : Checked s rows) (r : ℕ) (l : j < rows)
-        (turn : r ≡ capped limit (counted + treeSize s rows depth (hungWith s j (parts .below)))) where
-      after : (q : ℕ → Bool) (role : ℕ) → HungFrom s rows q (parts .below) →
-          Counts limit merged (upto q role (j + 1)) r
+        (turn : r ≡ capped limit (counted + besideSize s rows depth j (parts .below))) where
+      after : ExistsCounted s rows depth parts limit merged (j + 1) r
       after q role from =
           let e : min j rows ≡ j = omega arith in
           let one : Forest pictureSignature = cons exists role (mergedAt s rows depth (also j q)) nil in
@@ -176,8 +179,7 @@ module _ (s : List ℕ) (rows depth : ℕ) (parts : Parts) (limit merged : ℕ) 
             fits = omega (arith, turn);
           }
 
-      pub turn-full : limit < r → (q : ℕ → Bool) (role : ℕ) → HungFrom s rows q (parts .below) →
-          Counts limit merged (upto q role rows) r
+      pub turn-full : limit < r → ExistsCounted s rows depth parts limit merged rows r
       turn-full over q role from =
           let more = exists-more s rows depth role (holds (parts .some)) q (j + 1) rows (omega arith) in
           omega (arith, after q role from, more)
@@ -197,10 +199,16 @@ module _ (s : List ℕ) (rows depth : ℕ) (all : RowSet) (hung : Successors) (l
       let nothing = ap (sizes pictureSignature) (value-none s rows depth role (holds all) first none) in
       omega (arith, e, nothing)
 
-  pub role-beside : (counted : ℕ) (some : RowSet) → merged ≤ counted →
-      Beside s rows depth limit counted (record { some = some; below = hung; each = with-all - merged })
-  role-beside counted some l =
-      record { known = from .known; each-most = omega arith; each-is = omega (arith, is-all) }
+  pub role-beside : (links masks : List ℕ) (counted : ℕ) (some : RowSet) → merged ≤ counted →
+      Counting s rows links masks limit counted →
+      Beside s rows links masks depth limit counted (record { some = some; below = hung; each = with-all - merged })
+  role-beside links masks counted some l counting =
+      record {
+        counting = counting;
+        known = from .known;
+        each-most = omega arith;
+        each-is = omega (arith, is-all);
+      }
 
 pub role-parts-counted : (s : List ℕ) (rows depth role : ℕ) (all some : RowSet) (first limit merged counted r : ℕ)
     (p : ℕ → Bool) → Next all 0 rows first → ((j : ℕ) → j < rows → holds all j ≡ ofKind s kindForAll p j) →

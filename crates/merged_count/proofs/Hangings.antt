@@ -27,7 +27,7 @@ use Rattle.row_sets.proofs.Gathers.{more, skip}
 use Rattle.row_sets.proofs.LabelLaws.{known-with, none-hangs, same-hangs, with-hangs}
 use Rattle.row_sets.proofs.Links.{hangs-successor}
 use Rattle.row_sets.proofs.PartLaws.{merged-node, successors-same}
-use Rattle.merged_count.specs.Count.{HungFrom, hungWith, treeSize}
+use Rattle.merged_count.specs.Count.{HungFrom, besideSize, hungWith, treeSize}
 
 module _ (s : List ℕ) (rows : ℕ) where
   pub hung-none : (r : Successors) → ((j : ℕ) → holds (r .set) j ≡ false) → HungFrom s rows (λ j. false) r
@@ -56,7 +56,7 @@ module _ (s : List ℕ) (rows : ℕ) where
 
   pub beside-leaf : (links : List ℕ) (below : Successors) (c : ℕ) → Linked (parentOf s) rows maxRows links →
       c < rows → getD links c 0 ≡ 0 → (depth : ℕ) →
-      treeSize s rows depth (hungWith s c below) ≡ treeSize s rows depth (holds (below .set))
+      besideSize s rows depth c below ≡ treeSize s rows depth (holds (below .set))
   beside-leaf links below c linked l leaf =
       tree-same (hungWith s c below) (holds (below .set))
       (λ k b. ap (λ (t : Bool). t || holds (below .set) k) (none k b))
@@ -68,7 +68,7 @@ module _ (s : List ℕ) (rows : ℕ) where
           linked .lowest c l .first k later (omega (arith, later)) b under .0 leaf)
 
   pub beside-more : (c : ℕ) (below r : Successors) → Hung s rows c below r → (depth : ℕ) →
-      treeSize s rows depth (hungWith s c below) ≡ treeSize s rows depth (holds (r .set))
+      besideSize s rows depth c below ≡ treeSize s rows depth (holds (r .set))
   beside-more c below r hung depth =
       sym (tree-same (holds (r .set)) (hungWith s c below) (hung .set-is) depth)
 
@@ -82,7 +82,7 @@ module _ (s : List ℕ) (rows : ℕ) where
       tree-size = size-node q depth ∙ sym (tree-same (holds (below .set)) (hangs s q) (from .set-is) depth)
 
       pub beside-size : (c : ℕ) →
-          size pictureSignature (mergedAt s rows depth (also c q)) ≡ treeSize s rows depth (hungWith s c below)
+          size pictureSignature (mergedAt s rows depth (also c q)) ≡ besideSize s rows depth c below
       beside-size c =
           size-node (also c q) depth
           ∙ sym (tree-same (hungWith s c below) (hangs s (also c q)) (with-is q c below from) depth)

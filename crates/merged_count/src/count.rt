@@ -12,15 +12,15 @@ use table::layout::KIND_EXISTS;
 use table::layout::KIND_FOR_ALL;
 use table::layout::Limits;
 ghost use mathlib.Core.Path.{_≡_};
-ghost use mathlib.Core.Bool.{Bool};
-ghost use Prim.Native.Nat.{ℕ, _+_, _<_};
+ghost use Prim.Native.Nat.{_+_, _<_};
 ghost use Rattle.table.specs.Bounds.{Bounded, maxRows};
 ghost use Rattle.table.specs.Fields.{parentOf};
 ghost use Rattle.table_rows.specs.Links.{Linked};
 ghost use Rattle.meaning.specs.NormalTable.{mergedCount};
-ghost use Rattle.row_sets.specs.Rows.{Checked, Known, holds, ofRole};
-ghost use Rattle.row_sets.specs.Parts.{capped, existsPartAt, partsAt, successorsAt};
-ghost use Rattle.merged_count.specs.Count.{Beside, Counting, Counts, HungFrom, OneRole, hungWith, treeSize};
+ghost use Rattle.row_sets.specs.Rows.{Checked, Known, holds};
+ghost use Rattle.row_sets.specs.Parts.{capped, successorsAt};
+ghost use Rattle.merged_count.specs.Count.{Beside, Counting, Counts, ExistsCounted, HungFrom, OneRole};
+ghost use Rattle.merged_count.specs.Count.{besideSize, roleAt, treeSize};
 
 // Of one role: the some-successors, what hangs from A, and the merged rows of a set from which the same hangs.
 struct Parts {
@@ -120,7 +120,7 @@ fn count_role(
     role: u8,
 ) -> usize
     requires { ⌜ (Counting (now s) rows (now links) (now masks) limit merged) × (OneRole set role) ⌝ }
-    ensures { λ r. ⌜ Counts limit merged (partsAt (now (s .entry)) rows depth role (ofRole (now (s .entry)) role (holds set))) r ⌝ }
+    ensures { λ r. ⌜ Counts limit merged (roleAt (now (s .entry)) rows depth role (holds set)) r ⌝ }
 {
     let all = set.of_edge(masks, KIND_FOR_ALL, role);
     let some = set.of_edge(masks, KIND_EXISTS, role);
@@ -147,8 +147,8 @@ fn count_exists(
     depth: usize,
     merged: usize,
 ) -> usize
-    requires { ⌜ (Counting (now s) rows (now links) (now masks) limit merged) × (Beside (now s) rows depth limit merged parts) ⌝ }
-    ensures { λ r. ⌜ ((q : ℕ → Bool) (role : ℕ) → HungFrom (now (s .entry)) rows q (parts .below) → Counts limit merged (existsPartAt (now (s .entry)) rows depth role (holds (parts .some)) q rows) r) ⌝ }
+    requires { ⌜ Beside (now s) rows (now links) (now masks) depth limit merged parts ⌝ }
+    ensures { λ r. ⌜ ExistsCounted (now (s .entry)) rows depth parts limit merged rows r ⌝ }
 {
     let some = parts.some;
     let mut counted = merged;
@@ -175,8 +175,8 @@ fn count_beside(
     merged: usize,
     c: usize,
 ) -> usize
-    requires { ⌜ (Counting (now s) rows (now links) (now masks) limit merged) × ((Beside (now s) rows depth limit merged parts) × (c < rows)) ⌝ }
-    ensures { λ r. ⌜ r ≡ capped limit (merged + treeSize (now (s .entry)) rows depth (hungWith (now (s .entry)) c (parts .below))) ⌝ }
+    requires { ⌜ (Beside (now s) rows (now links) (now masks) depth limit merged parts) × (c < rows) ⌝ }
+    ensures { λ r. ⌜ r ≡ capped limit (merged + besideSize (now (s .entry)) rows depth c (parts .below)) ⌝ }
 {
     if links[c] == 0 {
         let counted = merged + parts.each;

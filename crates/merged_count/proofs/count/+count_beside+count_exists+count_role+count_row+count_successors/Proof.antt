@@ -123,7 +123,18 @@ abbrev count-exists-claims : ℕ → count-exists-lts.Claims
 count-exists-claims t = (next-reads.Asked, next-reads.Learnt, count-beside-below t, count-beside.Post)
 
 abbrev count-role-claims : ℕ → count-role-lts.Claims
-count-role-claims t = (of-edge-reads.Asked, of-edge-reads.Learnt, hung-reads.Asked, hung-reads.Learnt, count-row-below t, count-row.Post, next-reads.Asked, next-reads.Learnt, count-exists-below t, count-exists.Post)
+count-role-claims t = (
+  of-edge-reads.Asked,
+  of-edge-reads.Learnt,
+  hung-reads.Asked,
+  hung-reads.Learnt,
+  count-row-below t,
+  count-row.Post,
+  next-reads.Asked,
+  next-reads.Learnt,
+  count-exists-below t,
+  count-exists.Post,
+)
 
 abbrev count-row-claims : ℕ → count-row-lts.Claims
 count-row-claims t = (count-successors-below t, count-successors.Post)
@@ -136,21 +147,21 @@ count-beside-element-copy-out-if1 :
     count-beside-lts.Need-element-copy-out-if1 (count-beside-claims t) (count-beside-at t) count-beside.Post
 count-beside-element-copy-out-if1 t c =
     let st = c .before in
-    omega (arith, st .pre .1 .1 .1, st .pre .1 .0 .surveyed .checked .most)
+    omega (arith, st .pre .1 .1, st .pre .1 .0 .counting .surveyed .checked .most)
 
 count-beside-add-counted :
     (t : ℕ) →
     count-beside-lts.Need-add-counted (count-beside-claims t) (count-beside-at t) count-beside.Post
 count-beside-add-counted t c =
     let st = c .before .before .before .before in
-    omega (arith, st .pre .1 .0 .counted, st .pre .1 .0 .limit-most, st .pre .1 .1 .0 .each-most)
+    omega (arith, st .pre .1 .0 .counting .counted, st .pre .1 .0 .counting .limit-most, st .pre .1 .0 .each-most)
 
 count-beside-add-result :
     (t : ℕ) →
     count-beside-lts.Need-add-result (count-beside-claims t) (count-beside-at t) count-beside.Post
 count-beside-add-result t c =
     let st = c .before .before .before .before .before in
-    omega (arith, st .pre .1 .0 .limit-most)
+    omega (arith, st .pre .1 .0 .counting .limit-most)
 
 count-beside-returns :
     (t : ℕ) →
@@ -158,10 +169,9 @@ count-beside-returns :
 count-beside-returns t c =
     let st = c .before .before .before .before .before in
     let a = st .args in
-    let counting = st .pre .1 .0 in
-    let beside = st .pre .1 .1 .0 in
+    let beside = st .pre .1 .0 in
     let leaf = beside-leaf (now (a .s)) (a .rows) (now (a .links)) (a .parts .below) (a .c)
-    (counting .surveyed .linked) (st .pre .1 .1 .1) (c .before .before .if1 .taken) (a .depth) in
+    (beside .counting .surveyed .linked) (st .pre .1 .1) (c .before .before .if1 .taken) (a .depth) in
     omega (arith, leaf, beside .each-is, c .if2 .taken)
 
 count-beside-returns-2 :
@@ -170,10 +180,9 @@ count-beside-returns-2 :
 count-beside-returns-2 t c =
     let st = c .before .before .before .before .before in
     let a = st .args in
-    let counting = st .pre .1 .0 in
-    let beside = st .pre .1 .1 .0 in
+    let beside = st .pre .1 .0 in
     let leaf = beside-leaf (now (a .s)) (a .rows) (now (a .links)) (a .parts .below) (a .c)
-    (counting .surveyed .linked) (st .pre .1 .1 .1) (c .before .before .if1 .taken) (a .depth) in
+    (beside .counting .surveyed .linked) (st .pre .1 .1) (c .before .before .if1 .taken) (a .depth) in
     omega (arith, leaf, beside .each-is, c .if2 .left)
 
 count-beside-add-requires :
@@ -181,7 +190,7 @@ count-beside-add-requires :
     count-beside-lts.Need-add-requires (count-beside-claims t) (count-beside-at t) count-beside.Post
 count-beside-add-requires t c κs =
     let st = c .before .before .before .before in
-    (st .pre .1 .0 .surveyed .checked, (st .pre .1 .0 .surveyed .linked, st .pre .1 .1 .1))
+    (st .pre .1 .0 .counting .surveyed .checked, (st .pre .1 .0 .counting .surveyed .linked, st .pre .1 .1))
 
 count-beside-count-row-requires :
     (t : ℕ) →
@@ -189,11 +198,10 @@ count-beside-count-row-requires :
 count-beside-count-row-requires t c κs =
     let st = c .before .before .before .before .before in
     let a = st .args in
-    let counting = st .pre .1 .0 in
-    let beside = st .pre .1 .1 .0 in
-    let known = known-with (now (a .s)) (a .rows) (a .c) (a .parts .below) (c .add .result) (st .pre .1 .1 .1)
+    let beside = st .pre .1 .0 in
+    let known = known-with (now (a .s)) (a .rows) (a .c) (a .parts .below) (c .add .result) (st .pre .1 .1)
     (beside .known) (c .add .ensures) in
-    (omega (arith, st .pre .0), (counting, known))
+    (omega (arith, st .pre .0), (beside .counting, known))
 
 count-beside-returns-3 :
     (t : ℕ) →
@@ -216,7 +224,7 @@ count-exists-next-requires :
     (t : ℕ) →
     count-exists-lts.Need-next-requires (count-exists-claims t) (count-exists-at t) count-exists.Post
     count-exists-Inv-loop count-exists-μ-loop
-count-exists-next-requires t c κs = c .before .before .pre .1 .0 .surveyed .checked .most
+count-exists-next-requires t c κs = c .before .before .pre .1 .counting .surveyed .checked .most
 
 count-exists-loop-holds :
     (t : ℕ) →
@@ -226,7 +234,7 @@ count-exists-loop-holds t c =
     let st = c .before .before .before in
     let a = st .args in
     turn-start (now (a .s)) (a .rows) (a .depth) (a .parts) (a .limit) (a .merged) (c .next .result)
-    (st .pre .1 .0 .counted) (c .next .ensures)
+    (st .pre .1 .counting .counted) (c .next .ensures)
 
 count-exists-count-beside-requires :
     (t : ℕ) →
@@ -238,13 +246,9 @@ count-exists-count-beside-requires t c κs =
     let l = c .before .loop in (
       omega (arith, st .pre .0),
       (
-        counting-on (now (a .s)) (a .rows) _ _ (a .limit) (a .merged) (l .counted)
-            (st .pre .1 .0) (l .inv .fits),
-        (
-          beside-on (now (a .s)) (a .rows) (a .depth) (a .limit) (a .merged) (l .counted) (a .parts) (l .inv .rises)
-              (st .pre .1 .1),
-          c .loop-test .taken,
-        ),
+        beside-on (now (a .s)) (a .rows) _ _ (a .depth) (a .limit) (a .merged) (l .counted)
+            (a .parts) (st .pre .1) (l .inv .rises) (l .inv .fits),
+        c .loop-test .taken,
       ),
     )
 
@@ -258,7 +262,7 @@ count-exists-returns t c =
     let l = c .before .before .before .loop in
     let more = c .before .before .loop-test .taken in
     let one = c .before .count-beside in
-    let checked = st .pre .1 .0 .surveyed .checked in
+    let checked = st .pre .1 .counting .surveyed .checked in
     turn-full (now (a .s)) (a .rows) (a .depth) (a .parts) (a .limit) (a .merged) (l .counted) (l .j) (l .inv) checked
     (one .result) more (one .ensures) (c .if1 .taken)
 
@@ -268,7 +272,7 @@ count-exists-add-next :
     count-exists-μ-loop
 count-exists-add-next t c =
     let st = c .before .before .before .before .before .before .before in
-    omega (arith, c .before .before .loop-test .taken, st .pre .1 .0 .surveyed .checked .most)
+    omega (arith, c .before .before .loop-test .taken, st .pre .1 .counting .surveyed .checked .most)
 
 count-exists-next-requires-2 :
     (t : ℕ) →
@@ -276,7 +280,7 @@ count-exists-next-requires-2 :
     count-exists-Inv-loop count-exists-μ-loop
 count-exists-next-requires-2 t c κs =
     let st = c .before .before .before .before .before .before .before in
-    st .pre .1 .0 .surveyed .checked .most
+    st .pre .1 .counting .surveyed .checked .most
 
 count-exists-loop-less :
     (t : ℕ) →
@@ -294,7 +298,7 @@ count-exists-loop-again t c =
     let l = c .before .before .before .before .loop in
     let more = c .before .before .before .loop-test .taken in
     let one = c .before .before .count-beside in
-    let checked = st .pre .1 .0 .surveyed .checked in
+    let checked = st .pre .1 .counting .surveyed .checked in
     turn-on (now (a .s)) (a .rows) (a .depth) (a .parts) (a .limit) (a .merged) (l .counted) (l .j) (l .inv) checked
     (one .result) more (one .ensures) (c .next2 .result) (c .next2 .ensures)
 
@@ -378,15 +382,12 @@ count-role-count-exists-requires t c κs =
     let whole = c .before .before .count-row in
     let some = c .before .before .before .before .of-edge2 in
     let value = value-counted t c in
-    let counted = c .if1 .counted in (
+    let counted = c .if1 .counted in
+    let on = counting-on (now (a .s)) (a .rows) _ _ (a .limit) (a .merged) counted counting (omega (arith, value)) in (
       omega (arith, st .pre .0),
-      (
-        counting-on (now (a .s)) (a .rows) _ _ (a .limit) (a .merged) counted counting
-            (omega (arith, value)),
-        role-beside (now (a .s)) (a .rows) (a .depth) (all .result) (hung .result) (a .limit)
-            (a .merged) (whole .result) (hung .ensures) (counting .counted) (whole .ensures) counted (some .result)
-            (omega (arith, value, counting .counted)),
-      ),
+      role-beside (now (a .s)) (a .rows) (a .depth) (all .result) (hung .result) (a .limit)
+          (a .merged) (whole .result) (hung .ensures) (counting .counted) (whole .ensures) _ _ counted (some .result)
+          (omega (arith, value, counting .counted)) on,
     )
 
 count-role-returns : (t : ℕ) → count-role-lts.Need-returns (count-role-claims t) (count-role-at t) count-role.Post

@@ -1,6 +1,6 @@
 -- The root is counted from nothing: no row and row 0 are {root}.
 use mathlib.Core.Bool.{false}
-use mathlib.Core.Path.{_≡_, refl}
+use mathlib.Core.Path.{refl}
 use native.Mathlib.Omega.{arith}
 use borrow.Author.Needs.{needs}
 use denote.Ref.{now}
@@ -25,12 +25,16 @@ add-requires : tie.Need-add-requires
 add-requires c κs = search needs
 
 -- what hangs from the root
-root : (c : tie.After-add) → let a = c .before .before .before .before .before .before .before .before .args in HungFrom (now (a .s)) (a .rows) (also 0 (λ j. false)) (c .add .result)
+root :
+    (c : tie.After-add) →
+    let a = c .before .before .before .before .before .before .before .before .args in
+    HungFrom (now (a .s)) (a .rows) (also 0 (λ j. false)) (c .add .result)
 root c =
     let st = c .before .before .before .before .before .before .before .before in
     let a = st .args in
     let none = c .before .before .none in
-    hung-with (now (a .s)) (a .rows) (λ j. false) 0 (none .result) (c .add .result) (st .pre .0 .some) (hung-none (now (a .s)) (a .rows) (none .result) (none .ensures)) (c .add .ensures)
+    hung-with (now (a .s)) (a .rows) (λ j. false) 0 (none .result) (c .add .result) (st .pre .0 .some)
+    (hung-none (now (a .s)) (a .rows) (none .result) (none .ensures)) (c .add .ensures)
 
 count-row-requires : tie.Need-count-row-requires
 count-row-requires c κs =
@@ -52,7 +56,8 @@ returns c =
     let st = c .before .before .before .before .before .before .before .before .before .before .before in
     let a = st .args in
     let add = c .before .before .before in
-    omega (arith, c .count-row .ensures, count-root (a .limits) (now (a .s)) (a .rows) (add .add .result) (st .pre .0) (root add))
+    let merged = count-root (a .limits) (now (a .s)) (a .rows) (add .add .result) (st .pre .0) (root add) in
+    omega (arith, c .count-row .ensures, merged)
 
 pub count-spec : {M : Type 1} → statement M
 count-spec =

@@ -1,4 +1,5 @@
--- At the loop's head what hangs from the rows of the set before j has been collected; j is the next of them, or past the rows.
+-- At the loop's head what hangs from the rows of the set before j has been collected; j is the next of them, or past
+-- the rows.
 use mathlib.Core.Bool.{_&&_, true}
 use mathlib.Core.Path.{_≡_}
 use Prim.Native.Nat.{_-_, _<_}
@@ -30,7 +31,10 @@ loop-holds c =
     let st = c .before .before .before in
     let a = st .args in
     let none = c .before .none in
-    (walk-start (now (a .s)) (a .rows) (st .pre .0) (a .set) (c .next .result) (none .result) (c .next .ensures) (none .ensures), c .next .ensures .held)
+    let next = c .next .ensures in
+    let hung =
+    walk-start (now (a .s)) (a .rows) (st .pre .0) (a .set) (c .next .result) (none .result) next (none .ensures) in
+    (hung, next .held)
 
 add-requires : tie.Need-add-requires Inv-loop μ-loop
 add-requires c κs =
@@ -53,7 +57,11 @@ loop-again c =
     let l = c .before .before .before .loop in
     let more = c .before .before .loop-test .taken in
     let add = c .before .add in
-    (walk-next (now (a .s)) (a .rows) (st .pre .0) (a .set) (l .j) (c .next2 .result) (l .successors) (add .result) more (l .inv .1 more) (c .next2 .ensures) (l .inv .0) (add .ensures), c .next2 .ensures .held)
+    let next = c .next2 .ensures in
+    let hung =
+    walk-next (now (a .s)) (a .rows) (st .pre .0) (a .set) (l .j) (c .next2 .result) (l .successors) (add .result) more
+    (l .inv .1 more) next (l .inv .0) (add .ensures) in
+    (hung, next .held)
 
 returns : tie.Need-returns Inv-loop μ-loop
 returns c =
