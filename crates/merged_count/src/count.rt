@@ -178,16 +178,13 @@ fn count_beside(
     requires { ⌜ (Beside (now s) rows (now links) (now masks) depth limit merged parts) × (c < rows) ⌝ }
     ensures { λ r. ⌜ r ≡ capped limit (merged + besideSize (now (s .entry)) rows depth c (parts .below)) ⌝ }
 {
-    if links[c] == 0 {
-        let counted = merged + parts.each;
-        if limit < counted {
-            return limit + 1;
-        }
-        return counted;
+    if links[c] != 0 {
+        let below = parts.below;
+        let whole = below.add(s, rows, links, c);
+        return count_row(s, rows, limit, links, masks, whole, depth, merged);
     }
-    let below = parts.below;
-    let whole = below.add(s, rows, links, c);
-    count_row(s, rows, limit, links, masks, whole, depth, merged)
+    let counted = merged + parts.each;
+    if limit < counted { limit + 1 } else { counted }
 }
 
 // How many merged rows a picture has, up to the limit and one more.

@@ -6,12 +6,12 @@ use denote.Ref.{now}
 use Rattle.table.specs.Layout.{kindExists, kindForAll, roles}
 use Rattle.ale.specs.PictureSignature.{pictureSignature}
 use Rattle.ale.specs.Tree.{sizes}
-use Rattle.row_sets.specs.Parts.{rolesAt, valuePartAt}
+use Rattle.row_sets.specs.Parts.{capped, rolesAt, valuePartAt}
 use Rattle.row_sets.specs.Rows.{holds, ofRole}
 use Rattle.row_sets.proofs.LabelLaws.{known-with}
 use Rattle.row_sets.proofs.Masks.{edge-row}
 use Rattle.row_sets.proofs.PartLaws.{successors-leaf}
-use Rattle.merged_count.specs.Count.{Counts}
+use Rattle.merged_count.specs.Count.{Counts, besideSize}
 use Rattle.merged_count.proofs.Counts.{Turning, beside-on, counting-on, leaf-size, role-beside, role-end}
 use Rattle.merged_count.proofs.Counts.{role-full, role-parts-counted, role-start, role-turn}
 use Rattle.merged_count.proofs.Counts.{turn-end, turn-full, turn-on, turn-start, value-turn}
@@ -149,42 +149,6 @@ count-beside-element-copy-out-if1 t c =
     let st = c .before in
     omega (arith, st .pre .1 .1, st .pre .1 .0 .counting .surveyed .checked .most)
 
-count-beside-add-counted :
-    (t : ℕ) →
-    count-beside-lts.Need-add-counted (count-beside-claims t) (count-beside-at t) count-beside.Post
-count-beside-add-counted t c =
-    let st = c .before .before .before .before in
-    omega (arith, st .pre .1 .0 .counting .counted, st .pre .1 .0 .counting .limit-most, st .pre .1 .0 .each-most)
-
-count-beside-add-result :
-    (t : ℕ) →
-    count-beside-lts.Need-add-result (count-beside-claims t) (count-beside-at t) count-beside.Post
-count-beside-add-result t c =
-    let st = c .before .before .before .before .before in
-    omega (arith, st .pre .1 .0 .counting .limit-most)
-
-count-beside-returns :
-    (t : ℕ) →
-    count-beside-lts.Need-returns (count-beside-claims t) (count-beside-at t) count-beside.Post
-count-beside-returns t c =
-    let st = c .before .before .before .before .before in
-    let a = st .args in
-    let beside = st .pre .1 .0 in
-    let leaf = beside-leaf (now (a .s)) (a .rows) (now (a .links)) (a .parts .below) (a .c)
-    (beside .counting .surveyed .linked) (st .pre .1 .1) (c .before .before .if1 .taken) (a .depth) in
-    omega (arith, leaf, beside .each-is, c .if2 .taken)
-
-count-beside-returns-2 :
-    (t : ℕ) →
-    count-beside-lts.Need-returns-2 (count-beside-claims t) (count-beside-at t) count-beside.Post
-count-beside-returns-2 t c =
-    let st = c .before .before .before .before .before in
-    let a = st .args in
-    let beside = st .pre .1 .0 in
-    let leaf = beside-leaf (now (a .s)) (a .rows) (now (a .links)) (a .parts .below) (a .c)
-    (beside .counting .surveyed .linked) (st .pre .1 .1) (c .before .before .if1 .taken) (a .depth) in
-    omega (arith, leaf, beside .each-is, c .if2 .left)
-
 count-beside-add-requires :
     (t : ℕ) →
     count-beside-lts.Need-add-requires (count-beside-claims t) (count-beside-at t) count-beside.Post
@@ -203,15 +167,53 @@ count-beside-count-row-requires t c κs =
     (beside .known) (c .add .ensures) in
     (omega (arith, st .pre .0), (beside .counting, known))
 
-count-beside-returns-3 :
+count-beside-returns :
     (t : ℕ) →
-    count-beside-lts.Need-returns-3 (count-beside-claims t) (count-beside-at t) count-beside.Post
-count-beside-returns-3 t c =
+    count-beside-lts.Need-returns (count-beside-claims t) (count-beside-at t) count-beside.Post
+count-beside-returns t c =
     let st = c .before .before .before .before .before .before in
     let a = st .args in
     let add = c .before .add in
     let more = beside-more (now (a .s)) (a .rows) (a .c) (a .parts .below) (add .result) (add .ensures) (a .depth) in
     omega (arith, c .count-row .ensures, more)
+
+count-beside-add-counted :
+    (t : ℕ) →
+    count-beside-lts.Need-add-counted (count-beside-claims t) (count-beside-at t) count-beside.Post
+count-beside-add-counted t c =
+    let st = c .before .before .before .before in
+    omega (arith, st .pre .1 .0 .counting .counted, st .pre .1 .0 .counting .limit-most, st .pre .1 .0 .each-most)
+
+-- what was added beside A, where nothing hangs from row c
+leaf-counted :
+    (t : ℕ) (c : count-beside-lts.After-struct-known (count-beside-claims t) (count-beside-at t) count-beside.Post) →
+    let a = c .before .before .before .before .args in
+    capped (a .limit) (a .merged + a .parts .each)
+    ≡ capped (a .limit) (a .merged + besideSize (now (a .s)) (a .rows) (a .depth) (a .c) (a .parts .below))
+leaf-counted t c =
+    let st = c .before .before .before .before in
+    let a = st .args in
+    let beside = st .pre .1 .0 in
+    let leaf = beside-leaf (now (a .s)) (a .rows) (now (a .links)) (a .parts .below) (a .c)
+    (beside .counting .surveyed .linked) (st .pre .1 .1) (c .before .if1 .left) (a .depth) in
+    omega (arith, leaf, beside .each-is)
+
+count-beside-add-result :
+    (t : ℕ) →
+    count-beside-lts.Need-add-result (count-beside-claims t) (count-beside-at t) count-beside.Post
+count-beside-add-result t c =
+    let st = c .before .before .before .before .before in
+    omega (arith, st .pre .1 .0 .counting .limit-most)
+
+count-beside-returns-2 :
+    (t : ℕ) →
+    count-beside-lts.Need-returns-2 (count-beside-claims t) (count-beside-at t) count-beside.Post
+count-beside-returns-2 t c = omega (arith, leaf-counted t (c .before), c .if2 .taken)
+
+count-beside-returns-3 :
+    (t : ℕ) →
+    count-beside-lts.Need-returns-3 (count-beside-claims t) (count-beside-at t) count-beside.Post
+count-beside-returns-3 t c = omega (arith, leaf-counted t (c .before), c .if2 .left)
 
 abbrev count-exists-Inv-loop : count-exists-lts.InvT-loop
 count-exists-Inv-loop s rows limit links masks parts depth merged some counted₀ j₀ counted j =
@@ -584,12 +586,12 @@ pub +count-beside+count-exists+count-role+count-row+count-successors-spec :
     (count-beside-at t)
     count-beside.Post
     (count-beside-element-copy-out-if1 t)
-    (count-beside-add-counted t)
-    (count-beside-add-result t)
-    (count-beside-returns t)
-    (count-beside-returns-2 t)
     (count-beside-add-requires t)
     (count-beside-count-row-requires t)
+    (count-beside-returns t)
+    (count-beside-add-counted t)
+    (count-beside-add-result t)
+    (count-beside-returns-2 t)
     (count-beside-returns-3 t))
     (λ t. count-exists-lts.spec (count-exists-claims t)
     (count-exists-at t)
