@@ -183,7 +183,8 @@ fn count_beside(
         let whole = below.add(s, rows, links, c);
         return count_row(s, rows, limit, links, masks, whole, depth, merged);
     }
-    let counted = merged + parts.each;
+    let each = parts.each;
+    let counted = merged + each;
     if limit < counted { limit + 1 } else { counted }
 }
 

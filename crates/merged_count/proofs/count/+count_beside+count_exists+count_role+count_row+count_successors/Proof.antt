@@ -181,28 +181,28 @@ count-beside-add-counted :
     (t : ℕ) →
     count-beside-lts.Need-add-counted (count-beside-claims t) (count-beside-at t) count-beside.Post
 count-beside-add-counted t c =
-    let st = c .before .before .before .before in
+    let st = c .before .before .before in
     omega (arith, st .pre .1 .0 .counting .counted, st .pre .1 .0 .counting .limit-most, st .pre .1 .0 .each-most)
 
 -- what was added beside A, where nothing hangs from row c
 leaf-counted :
-    (t : ℕ) (c : count-beside-lts.After-struct-known (count-beside-claims t) (count-beside-at t) count-beside.Post) →
-    let a = c .before .before .before .before .args in
+    (t : ℕ) (c : count-beside-lts.Else1 (count-beside-claims t) (count-beside-at t) count-beside.Post) →
+    let a = c .before .before .before .args in
     capped (a .limit) (a .merged + a .parts .each)
     ≡ capped (a .limit) (a .merged + besideSize (now (a .s)) (a .rows) (a .depth) (a .c) (a .parts .below))
 leaf-counted t c =
-    let st = c .before .before .before .before in
+    let st = c .before .before .before in
     let a = st .args in
     let beside = st .pre .1 .0 in
     let leaf = beside-leaf (now (a .s)) (a .rows) (now (a .links)) (a .parts .below) (a .c)
-    (beside .counting .surveyed .linked) (st .pre .1 .1) (c .before .if1 .left) (a .depth) in
+    (beside .counting .surveyed .linked) (st .pre .1 .1) (c .if1 .left) (a .depth) in
     omega (arith, leaf, beside .each-is)
 
 count-beside-add-result :
     (t : ℕ) →
     count-beside-lts.Need-add-result (count-beside-claims t) (count-beside-at t) count-beside.Post
 count-beside-add-result t c =
-    let st = c .before .before .before .before .before in
+    let st = c .before .before .before .before in
     omega (arith, st .pre .1 .0 .counting .limit-most)
 
 count-beside-returns-2 :
