@@ -1,3 +1,4 @@
--- What is counted of merged rows.
+-- What is bounded and counted of merged rows.
 pub mod Bound
 pub mod Weighing
+pub mod Count

@@ -1,4 +1,6 @@
 -- Laws of the walk over the rows of a set that collects the values of those that pass a test.
+--   skip          the rows of a set before j are those before n, if it has none between
+--   more          and with row j of the set those before the next
 --   Gathered      those of the rows before j have been collected
 --   gather-none   none, where no row before j passes
 --   gather-yes    row j passes, and none from it on before n
@@ -17,14 +19,14 @@ use Rattle.row_sets.proofs.LabelLaws.{valued-same, valued-with}
 use Rattle.table.proofs.Bools.{by-test}
 
 -- the test of the rows before j, and before n where none between passes
-skip : (p : ℕ → Bool) (j n k : ℕ) → j ≤ n → (j ≤ k → k < n → p k ≡ false) → (ltb k j && p k) ≡ (ltb k n && p k)
+pub skip : (p : ℕ → Bool) (j n k : ℕ) → j ≤ n → (j ≤ k → k < n → p k ≡ false) → (ltb k j && p k) ≡ (ltb k n && p k)
 skip p j n k l fails =
     by-test (ltb k j) (λ e. let m = ltb-true k j e in rw (e, lt-ltb k n (omega arith)))
     (λ e. let m = ltb-false k j e in
     by-test (ltb k n) (λ f. rw (e, f, fails m (ltb-true k n f))) (λ f. rw (e, f)))
 
 -- with row j, which passes
-more : (p : ℕ → Bool) (j k : ℕ) → p j ≡ true → (eqb k j || (ltb k j && p k)) ≡ (ltb k (j + 1) && p k)
+pub more : (p : ℕ → Bool) (j k : ℕ) → p j ≡ true → (eqb k j || (ltb k j && p k)) ≡ (ltb k (j + 1) && p k)
 more p j k yea =
     by-test (eqb k j)
     (λ e. let same = eqb-true k j e in rw (e, lt-ltb k (j + 1) (omega arith), ap p same ∙ yea))

@@ -2,6 +2,9 @@
 --   part-with      a part of the label of a set with row c is that of row c joined with that of the set: a union has no order and takes a row once
 --   part-joined    the same of what is equal to those parts
 --   label-with     so the label of a set, joined with that of row c, is the label of the set with row c
+--   none-hangs     from no rows nothing hangs
+--   with-hangs     what hangs from a set with row c hangs from row c or from the set
+--   same-hangs     from sets of the same rows the same hangs
 --   known-with     the roles of what hangs from a set with row c
 --   valued-none    the values of no rows
 --   valued-with    and of a set with row c
@@ -96,7 +99,7 @@ label-with s rows q values c r l valued joined =
           (eqb (r .bottom) 1) (eqb (impossibleOf s c) 1) (eqb (values .label .bottom) 1) l (joined .bottom-joins) refl (valued .label-is .bottom-is);
     }
 
-none-hangs : (s : List ℕ) (j : ℕ) → hangs s (λ i. false) j ≡ false
+pub none-hangs : (s : List ℕ) (j : ℕ) → hangs s (λ i. false) j ≡ false
 unfolding hangs
 none-hangs s j = by-test (eqb j 0) (λ e. rw e) (λ e. rw e)
 
@@ -110,7 +113,7 @@ valued-none s rows v label empty =
       known = record { rootless = empty 0; known = λ j l h. absurd (false≢true (sym (empty j) ∙ h)) };
     }
 
-with-hangs : (s : List ℕ) (q : ℕ → Bool) (c k : ℕ) → (hangs s (λ i. eqb i c) k || hangs s q k) ≡ hangs s (also c q) k
+pub with-hangs : (s : List ℕ) (q : ℕ → Bool) (c k : ℕ) → (hangs s (λ i. eqb i c) k || hangs s q k) ≡ hangs s (also c q) k
 unfolding hangs
 with-hangs s q c k = by-test (eqb k 0) (λ e. rw e) (λ e. rw e)
 
@@ -138,7 +141,7 @@ valued-with s rows q values c r l valued added =
       known = known-with s rows c (values .successors) (r .successors) l (valued .known) hung;
     }
 
-same-hangs : (s : List ℕ) (rows : ℕ) (q q′ : ℕ → Bool) → Checked s rows → ((j : ℕ) → j < rows → q j ≡ q′ j) → (j : ℕ) → j < rows → hangs s q j ≡ hangs s q′ j
+pub same-hangs : (s : List ℕ) (rows : ℕ) (q q′ : ℕ → Bool) → Checked s rows → ((j : ℕ) → j < rows → q j ≡ q′ j) → (j : ℕ) → j < rows → hangs s q j ≡ hangs s q′ j
 unfolding hangs
 same-hangs s rows q q′ checked same j l =
     by-test (eqb j 0) (λ e. rw e) (λ e. rw e (same (parentOf s j) (omega (arith, checked .parents j (eqb-false j 0 e) l))))

@@ -4,6 +4,7 @@
 --   successors-leaf, successors-roles        none at depth 0; role by role
 --   roles-none, roles-next, roles-skip, roles-more   role after role; roles without successors are skipped
 --   Unused, unused-roles                     a set has no row by a role from one to another; by a role that the code does not have
+--   successors-none                          none where the code has no role of what hangs
 --   merged-leaf                              the tree of a set from which nothing hangs: its label alone
 --   value-none, value-one, code-later        the one for A
 --   role-parts                               those of one role: for A, and for each some-successor with A
@@ -213,7 +214,7 @@ unused-roles s rows successors least to end known l none =
     }
 
 -- a set from which nothing hangs by any role that the code has is a leaf
-successors-none : (s : List ℕ) (rows : ℕ) (successors : Successors) → Known s rows successors → successors .roles ≡ 0 → (depth : ℕ) → successorsAt s rows depth (holds (successors .set)) ≡ nil
+pub successors-none : (s : List ℕ) (rows : ℕ) (successors : Successors) → Known s rows successors → successors .roles ≡ 0 → (depth : ℕ) → successorsAt s rows depth (holds (successors .set)) ≡ nil
 unfolding successorsAt
 successors-none s rows successors known e zero = refl
 successors-none s rows successors known e (suc depth) =
