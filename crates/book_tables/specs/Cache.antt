@@ -5,7 +5,7 @@
 --   withSpan         the spans with that of card k
 --   Storable         what storing the table of card k needs
 --   Stored           the tables are kept still, with card k's or without
---   Findable         what finding the subsumers needs
+--   Findable         what finding the subsumers needs: 14 is answered yes for all, and the work space is there
 --   CardsTestable    what testing all cards needs
 --   Testable         what testing one card needs: its table, and the case's with its links
 --   Addable          there is room for card k's bit and rows
@@ -62,14 +62,13 @@ Stored scratch m k at tables spans r tables₂ spans₂ =
     (limits : Limits) (book : List ℕ) → Cached limits book tables spans at → TableAt limits (card book k) scratch m →
     Cached limits book tables₂ spans₂ r
 
-pub record Findable (limits : Limits) (case book : List ℕ) (cards : Cards) (work spans : List ℕ) : Type 0 where
+pub record Findable (limits : Limits) (case book : List ℕ) (cards : Cards) (work : List ℕ) : Type 0 where
   pub bounded : Bounded limits
   pub readable : Readable limits case
   pub few : mergedCount limits case ≤ limits .rows
   pub placed : Placed book cards
   pub taken : BookTaken limits book
   pub long : length work ≡ workSize limits
-  pub blank : Zeros (mostCards + mostCards) spans
 
 pub record CardsTestable (limits : Limits) (book : List ℕ) (cards : Cards) (n : ℕ) (links work spans : List ℕ) :
     Type 0 where

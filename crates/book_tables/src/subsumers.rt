@@ -15,8 +15,10 @@ use table::layout::Limits;
 ghost use mathlib.Core.Path.{_≡_};
 ghost use Prim.Native.Nat.{_+_, _^_};
 ghost use Rattle.table.specs.Pick.{pick};
+ghost use Rattle.table_rows.specs.Links.{Zeros};
 ghost use Rattle.homomorphism_search.specs.Search.{rowMaps};
 ghost use Rattle.normal_writer.specs.Tables.{tableIn};
+ghost use Rattle.book.specs.Form.{mostCards};
 ghost use Rattle.book.specs.Selection.{cardWord, caseCovered};
 ghost use Rattle.book_tables.specs.Tables.{coversTable};
 ghost use Rattle.book_tables.specs.Cache.{Addable, Cached, CardsTestable, Findable, Stored, Testable};
@@ -105,7 +107,7 @@ pub fn find_subsumers(
     tables: &mut [u8],
     spans: &mut [usize; SPANS],
 ) -> Subsumers
-    requires { ⌜ Findable limits (now case) (now book) cards (now work) (now spans) ⌝ }
+    requires { ⌜ (Findable limits (now case) (now book) cards (now work)) × (Zeros (mostCards + mostCards) (now spans)) ⌝ }
     ensures { λ r. ⌜ (r .word ≡ cardWord (caseCovered limits (now (case .entry)) (now (book .entry))) (cards .count))
         × (Cached limits (now (book .entry)) (now (tables .exit)) (now (spans .exit)) (r .at)) ⌝ }
 {

@@ -15,7 +15,7 @@ use Rattle.book_tables.proofs.subsumers.find_subsumers.Tie as tie
 
 normal-table-requires : tie.Need-normal-table-requires
 normal-table-requires c κs =
-    let pre = c .before .before .before .before .before .pre in
+    let pre = c .before .before .before .before .before .pre .0 in
     record { bounded = pre .bounded; readable = pre .readable; space = omega (arith, pre .long) }
 
 -- the way back from the table that was made to the entry
@@ -25,17 +25,17 @@ entry c = c .before .before .before .before .before .before
 -- it is the case's, and has all that a search needs
 table : (c : tie.After-normal-table) → let a = entry c .args in
     TableAt (a .limits) (now (a .case)) (c .normal-table .last .1 .1 .0) (c .normal-table .result)
-table c = tabled-at _ _ _ _ _ (c .normal-table .ensures) (entry c .pre .few)
+table c = tabled-at _ _ _ _ _ (c .normal-table .ensures) (entry c .pre .0 .few)
 
 checked : (c : tie.After-normal-table) → let made = c .normal-table in
     Checked (tableIn (made .last .1 .1 .0) 0 (made .result)) (made .result)
-checked c = table-checked (entry c .pre .bounded) (table c)
+checked c = table-checked (entry c .pre .0 .bounded) (table c)
 
 table-at-requires : tie.Need-table-at-requires
 table-at-requires c κs =
     let made = c .before .before .before in (
       checked made .most,
-      omega (arith, table-few (table made), made .normal-table .ensures .same, entry made .pre .long),
+      omega (arith, table-few (table made), made .normal-table .ensures .same, entry made .pre .0 .long),
     )
 
 cut-checked : (c : tie.After-table-at) →
@@ -52,7 +52,7 @@ test-cards-requires c κs =
     let linked = c .before .before .before .before .fill-links in
     let cut = c .before .before .before .before .before .before in
     let made = cut .before .before .before .before in
-    let pre = entry made .pre in
+    let pre = entry made .pre .0 in
     record {
       bounded = pre .bounded;
       placed = pre .placed;
@@ -62,7 +62,7 @@ test-cards-requires c κs =
       linked =
           subst (λ t. LinkedTable t (made .normal-table .result) (linked .last .1 .1 .0)) (cut .table-at .ensures)
           (record { checked = cut-checked cut; linked = linked .ensures });
-      blank = pre .blank;
+      blank = entry made .pre .1;
     }
 
 same-length : tie.Need-same-length
@@ -77,7 +77,7 @@ returns c =
     let made = c .before .before .before .before .before .before .before .before .before .before .before .before .before
     .before .before in
     let a = entry made .args in
-    let pre = entry made .pre in (
+    let pre = entry made .pre .0 in (
       case-tested (a .limits) (now (a .case)) (now (a .book)) (a .cards .count) (pre .bounded) (pre .few) (pre .taken)
           (pre .placed .counted) (table made .is) (tested .ensures .0),
       tested .ensures .1,
