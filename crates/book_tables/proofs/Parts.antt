@@ -2,7 +2,7 @@
 --   put-part                            bytes put from a place on are in the place of as many
 --   part-there                          the bytes that were put
 --   front-same                          runs that are the same up to a place have the same parts before it
---   part-long                           the part from a place on, as it is lent
+--   part-long, part-room                the part from a place on, as it is lent
 --   withUpper                           and what is there once it comes back:
 --   made-part, made-before, made-long   that part; what stands before it stays, and so does the length
 use Prim.Native.Nat.{_+_, _-_, _≤_, ℕ}
@@ -46,6 +46,9 @@ front-same d e at start n inside also same l =
 
 pub part-long : (d : List ℕ) (from : ℕ) → length (midOf from (length d - from) d) ≡ length d - from
 part-long d from = ap length (upper-part from d) ∙ length-drop from d
+
+pub part-room : (d : List ℕ) (from n : ℕ) → from + n ≤ length d → n ≤ length (midOf from (length d - from) d)
+part-room d from n room = omega (arith, part-long d from, room)
 
 abbrev pub withUpper : List ℕ → ℕ → List ℕ → List ℕ
 withUpper d from s = putMid from (length d - from) d s

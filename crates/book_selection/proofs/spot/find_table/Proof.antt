@@ -7,7 +7,7 @@ use mathlib.Core.Path.{refl, sym}
 use Rattle.book.proofs.Forms.{count-most}
 use Rattle.book.specs.Form.{mostCards}
 use Rattle.book_tables.proofs.Caches.{made-same}
-use Rattle.book_tables.proofs.Parts.{made-before, part-long}
+use Rattle.book_tables.proofs.Parts.{made-before, part-room}
 use Rattle.book_selection.proofs.Standings.{cached-stands, made-stands}
 use borrow.Author.Needs.{needs}
 use Rattle.book_selection.proofs.spot.find_table.Statement.{statement}
@@ -48,7 +48,7 @@ make-table-requires c κs =
       bounded = pre .bounded;
       taken = pre .cached .taken;
       below = pre .below;
-      space = omega (arith, part-long (now (start .args .work)) (start .args .from), pre .room);
+      space = part-room (now (start .args .work)) _ _ (pre .room);
     }
 
 same-length : tie.Need-same-length

@@ -13,7 +13,7 @@ use Rattle.book.specs.Form.{card}
 use Rattle.book_tables.specs.Cache.{SubsumersBelow}
 use Rattle.book_tables.proofs.CardTables.{card-room, card-tabled}
 use Rattle.book_tables.proofs.CardTests.{addable, test-all, test-half, test-next, test-start, testable}
-use Rattle.book_tables.proofs.Parts.{part-long, withUpper}
+use Rattle.book_tables.proofs.Parts.{part-room, withUpper}
 use Rattle.book_tables.proofs.subsumers.test_cards.Statement.{statement}
 use Rattle.book_tables.proofs.subsumers.test_cards.Tie as tie
 
@@ -57,7 +57,7 @@ normal-table-requires c κs =
     let k = head .loop .k in
     card-room (now (start .args .book)) k (c .before .card .ensures) (pre .bounded)
     (pre .taken .readable k (omega (arith, c .before .before .if1 .taken, pre .placed .counted)))
-    (omega (arith, part-long (head .loop .work) (head .before .half-size .result), inside head))
+    (part-room (head .loop .work) _ _ (omega (arith, inside head)))
 
 -- the ways back from the table that was made: to the entry, to the loop's head, to the turn's beginning
 abbrev entry : (c : tie.After-normal-table Inv-loop μ-loop) → tie.Start Inv-loop μ-loop

@@ -20,49 +20,48 @@ half-size-requires c κs = search needs
 add-size : tie.Need-add-size
 add-size c = search needs
 
+-- the way back to the entry
+abbrev entry : (c : tie.After-half-size) → tie.Start
+entry c = c .before .before .before .before
+
+-- the part of the work space that is lent is as long as both halves
+lent : (c : tie.After-half-size) → let size = c .half-size .result + c .half-size .result in
+    length (take size (now (entry c .args .work))) ≡ size
+lent c =
+    length-take-le (c .half-size .result + c .half-size .result) (now (entry c .args .work))
+    (omega (arith, c .half-size .ensures, entry c .pre .1))
+
 ask-merged-requires : tie.Need-ask-merged-requires
 ask-merged-requires c κs = search needs
 
 enum-told : tie.Need-enum-told
 enum-told c = search needs
 
--- the way back from the answer to the entry
-abbrev entry : (c : tie.After-ask-merged) → tie.Start
-entry c = c .before .before .before .before .before
-
 slice-relend-prefix-specific-cards : tie.Need-slice-relend-prefix-specific-cards
 slice-relend-prefix-specific-cards c = search needs
-
--- the part of the work space that is lent is as long as both halves
-lent : (c : tie.After-ask-merged) → let size = c .before .half-size .result + c .before .half-size .result in
-    length (take size (now (entry c .args .work))) ≡ size
-lent c =
-    let half = c .before .half-size in
-    length-take-le (half .result + half .result) (now (entry c .args .work))
-    (omega (arith, half .ensures, entry c .pre .1))
-
-slice-aggregate-specific-cards : tie.Need-slice-aggregate-specific-cards
-slice-aggregate-specific-cards c = sym (lent (c .before .before .before))
 
 specific-cards-requires : tie.Need-specific-cards-requires
 specific-cards-requires c κs =
     let asked = c .before .before .before in
-    let a = entry asked .args in
-    let pre = entry asked .pre .0 in
+    let a = entry (asked .before) .args in
+    let pre = entry (asked .before) .pre .0 in
     let is = asked .ask-merged .ensures in
     let yes-all = c .before .enum-told .given .1 in
     record {
       bounded = pre .bounded;
       readable = pre .readable;
       few =
-          case-few (a .limits) (now (a .case)) (now (a .book)) (a .cards) (pre .cards-read) (asked .ask-merged .result) is
-          yes-all;
+          case-few (a .limits) (now (a .case)) (now (a .book)) (a .cards) (pre .cards-read)
+          (asked .ask-merged .result) is yes-all;
       placed = pre .cards-read .places-are;
       taken =
-          book-taken (a .limits) (now (a .case)) (now (a .book)) (a .cards) (pre .cards-read) (asked .ask-merged .result)
-          is yes-all;
-      long = lent asked ∙ omega (arith, asked .before .half-size .ensures);
+          book-taken (a .limits) (now (a .case)) (now (a .book)) (a .cards) (pre .cards-read)
+          (asked .ask-merged .result) is yes-all;
+      long = lent (asked .before) ∙ omega (arith, asked .before .half-size .ensures);
     }
+
+slice-aggregate-specific-cards : tie.Need-slice-aggregate-specific-cards
+slice-aggregate-specific-cards c = sym (lent (c .before .before .before .before))
 
 enum-known-refusal : tie.Need-enum-known-refusal
 enum-known-refusal c = search needs
@@ -73,12 +72,12 @@ same-length c = search needs
 returns : tie.Need-returns
 returns c =
     let asked = c .before .before .before .before .before .before in
-    let a = entry asked .args in
+    let a = entry (asked .before) .args in
     let half = asked .before .half-size in
     let chosen = c .before .before .specific-cards in
     done (a .limits) (mostSpecificCards (a .limits) (now (a .case)) (now (a .book))) (now (a .work))
     (afterCards (a .limits) (now (a .case)) (now (a .book)))
-    (merged-passed (a .limits) (now (a .case)) (now (a .book)) (a .cards) (entry asked .pre .0 .cards-read)
+    (merged-passed (a .limits) (now (a .case)) (now (a .book)) (a .cards) (entry (asked .before) .pre .0 .cards-read)
     (asked .ask-merged .result) (asked .ask-merged .ensures) (c .before .before .before .before .enum-told .given .1))
     (chosen .result) _ (chosen .ensures .0)
     (ap (λ l. l ++ drop (half .result + half .result) (now (a .work))) (chosen .ensures .1)
@@ -87,11 +86,11 @@ returns c =
 returns-2 : tie.Need-returns-2
 returns-2 c =
     let asked = c .before .before .before in
-    let a = entry asked .args in
+    let a = entry (asked .before) .args in
     let refusal = c .before .refusal .given in
     stopped (a .limits) (mostSpecificCards (a .limits) (now (a .case)) (now (a .book))) (now (a .work))
     (afterCards (a .limits) (now (a .case)) (now (a .book))) (refusal .0 .0)
-    (merged-refused (a .limits) (now (a .case)) (now (a .book)) (a .cards) (entry asked .pre .0 .cards-read)
+    (merged-refused (a .limits) (now (a .case)) (now (a .book)) (a .cards) (entry (asked .before) .pre .0 .cards-read)
     (asked .ask-merged .result) (asked .ask-merged .ensures) (refusal .0 .0) (refusal .1))
 
 pub select-spec : {M : Type 1} → statement M

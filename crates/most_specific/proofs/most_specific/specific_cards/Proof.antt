@@ -1,5 +1,4 @@
 -- The cards that were found subsume the case, and those that are left are the answer.
-use native.Mathlib.Omega.{arith}
 use denote.Ref.{now}
 use mathlib.Core.Path.{_∙_, refl}
 use Rattle.table_rows.proofs.Stores.{blank}
