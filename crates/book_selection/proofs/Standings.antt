@@ -1,7 +1,5 @@
 -- Laws of the tables of cards, where they stand.
 --   cached-stands      one that is cached
---   part-long          the part of the work space that is lent to make one
---   made-before, made-long   what stands before it stays; and so does the length
 --   made-stands        one that is made in the work space, from a byte on
 --   stands-kept        one in the work space stays when the kept tables change
 --   stands-whole       and it is there whole
@@ -10,34 +8,31 @@
 --   own-kept           with its links it stays where another is made in the second half
 --   spots-order        the search on two of them says which card covers the other
 use Prim.Native.Nat.{_+_, _-_, _<_, _≤_, ℕ}
-use borrow.Rule.Slice.PartMut.{midOf, putMid}
-use lib.ListN.{drop, getD, length, length-append, length-drop, take}
-use lib.Seq.{drop-at, length-take-le, take-at, take-take}
+use borrow.Rule.Slice.PartMut.{midOf}
+use lib.ListN.{drop, getD, length, take}
+use lib.Seq.{take-take}
 use mathlib.Core.Bool.{false, true}
 use mathlib.Core.List.{List}
 use mathlib.Core.Path.{_∙_, _≡_, ap, subst, sym}
 use native.Mathlib.Omega.{arith}
 use Rattle.homomorphism_search.proofs.NormalMaps.{normal-maps}
 use Rattle.homomorphism_search.specs.Search.{LinkedTable, rowMaps}
-use Rattle.meaning.proofs.Normals.{normal-reads}
 use Rattle.meaning.specs.NormalTable.{mergedCount, normalFile}
-use Rattle.row_sets.proofs.Checks.{readable-checked}
-use Rattle.row_sets.specs.Rows.{Checked}
 use Rattle.table.proofs.Bools.{by-test}
 use Rattle.table.specs.Bounds.{Bounded, pictureSize}
 use Rattle.table.specs.Layout.{endSize, «place»}
 use Rattle.table.specs.declared.layout.Limits.{Limits}
-use Rattle.workspace.proofs.Halves.{put-upper, upper-part}
 use Rattle.book.specs.Form.{card, cardCount, mostCards}
 use Rattle.book.specs.Selection.{cardCovers}
-use Rattle.book_tables.proofs.Caches.{table-few, tabled-at}
+use Rattle.book_tables.proofs.Caches.{made-ends, made-table, table-checked, table-few}
+use Rattle.book_tables.proofs.Parts.{withUpper}
 use Rattle.book_tables.specs.Cache.{Cached, TableAt}
+use Rattle.book_tables.specs.Tables.{BookTaken}
 use Rattle.book_selection.specs.Comparing.{Ordered}
-use Rattle.book_selection.specs.Standing.{BookTaken, Checkable, OwnTable, Stands, areaOf, tableAt}
+use Rattle.book_selection.specs.Standing.{Checkable, OwnTable, Stands, areaOf, tableAt}
 use Rattle.book_selection.specs.declared.compare.Order.{Order}
 use Rattle.book_selection.specs.declared.spot.Spot.{Spot}
-use Rattle.normal_writer.proofs.Tablings.{tabled-there}
-use Rattle.normal_writer.specs.Tables.{Tabled, tableRows}
+use Rattle.normal_writer.specs.Tables.{Tabled}
 
 -- ---- where it is found
 
@@ -58,53 +53,17 @@ cached-stands limits book tables spans at bounded so work k l some =
       table = there .table;
     }
 
-pub part-long : (d : List ℕ) (from : ℕ) → length (midOf from (length d - from) d) ≡ length d - from
-part-long d from = ap length (upper-part from d) ∙ length-drop from d
-
-module _ (work : List ℕ) (from : ℕ) (end : List ℕ) (inside : from ≤ length work) where
-  abbrev new : List ℕ
-  new = putMid from (length work - from) work end
-
-  front : length (take from work) ≡ from
-  front = length-take-le from work inside
-
-  from-there : drop from new ≡ end
-  from-there = ap (drop from) (put-upper from work end) ∙ drop-at (take from work) end from front
-
-  pub made-before : take from new ≡ take from work
-  made-before = ap (take from) (put-upper from work end) ∙ take-at (take from work) end from front
-
-  pub made-long : length end ≡ length work - from → length new ≡ length work
-  made-long same =
-      ap length (put-upper from work end)
-      ∙ length-append (take from work) end
-      ∙ omega (arith, front, same, inside)
-
-module _ (limits : Limits) (book tables work : List ℕ) (from k r : ℕ) (end : List ℕ) (bounded : Bounded limits)
-    (few : mergedCount limits (card book k) ≤ limits .rows) (room : from + pictureSize limits ≤ length work)
-    (tabled : Tabled limits (card book k) (midOf from (length work - from) work) r end) where
-  pub made-stands : Stands limits book tables (new work from end (omega (arith, room)))
-      (record { card = k; cached = false; start = from; rows = r })
-  made-stands =
-      let inside : from ≤ length work = omega (arith, room) in
-      let part = part-long work from in
-      let there = tabled-there limits (card book k) (midOf from (length work - from) work) r end bounded tabled few
-      (omega (arith, part, room)) in
-      record {
-        inside = record {
-          few = there .0;
-          ends = omega (
-            arith,
-            there .1,
-            made-long work from end inside (tabled .same ∙ part),
-            tabled .same,
-            part,
-            room,
-          );
-        };
-        table = subst (λ d. TableAt limits (card book k) d r) (sym (from-there work from end inside))
-            (tabled-at limits (card book k) (midOf from (length work - from) work) r end tabled few);
-      }
+pub made-stands : (limits : Limits) (book tables work : List ℕ) (from k r : ℕ) (end : List ℕ) → Bounded limits →
+    mergedCount limits (card book k) ≤ limits .rows → from + pictureSize limits ≤ length work →
+    Tabled limits (card book k) (midOf from (length work - from) work) r end →
+    Stands limits book tables (withUpper work from end)
+    (record { card = k; cached = false; start = from; rows = r })
+made-stands limits book tables work from k r end bounded few room tabled =
+    let ends = made-ends limits (card book k) work from r end bounded few room tabled in
+    record {
+      inside = record { few = ends .0; ends = ends .1 };
+      table = made-table limits (card book k) work from r end bounded few room tabled;
+    }
 
 -- ---- where it is
 
@@ -138,16 +97,7 @@ module _ (limits : Limits) (book work : List ℕ) (spot : Spot) where
 module _ {limits : Limits} {book tables work : List ℕ} {spot : Spot} (bounded : Bounded limits)
     (so : Stands limits book tables work spot) where
   pub stands-checkable : Checkable tables work spot
-  stands-checkable =
-      let s = card book (spot .card) in
-      let whole = readable-checked limits (normalFile limits s) (tableRows limits s)
-      (normal-reads limits s (so .table .few) bounded) bounded in
-      record {
-        inside = so .inside;
-        checked =
-            subst (λ t. Checked t (spot .rows)) (sym (so .table .is))
-            (subst (λ n. Checked (normalFile limits s) n) (sym (so .table .rows-are)) whole);
-      }
+  stands-checkable = record { inside = so .inside; checked = table-checked bounded (so .table) }
 
 module _ {limits : Limits} {book tables work : List ℕ} {own : Spot} {links : List ℕ}
     (so : OwnTable limits book tables work own links) (work₂ : List ℕ) (half : ℕ) (is : half ≡ pictureSize limits)

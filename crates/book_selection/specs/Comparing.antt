@@ -22,8 +22,9 @@ use Rattle.order.specs.Preorder.{passedOver, strict}
 use Rattle.book.specs.Form.{cardCount, mostCards}
 use Rattle.book.specs.Selection.{cardCovers}
 use Rattle.book_form.specs.Places.{WithEach}
-use Rattle.book_tables.specs.Cache.{Cached, keptSize}
-use Rattle.book_selection.specs.Standing.{BookCached, BookTaken, OwnTable, Stands}
+use Rattle.book_tables.specs.Cache.{Cached}
+use Rattle.book_tables.specs.Tables.{BookTaken}
+use Rattle.book_selection.specs.Standing.{BookCached, OwnTable, Stands}
 use Rattle.book_selection.specs.declared.compare.Order.{Order}
 use Rattle.book_selection.specs.declared.compare.Progress.{Progress}
 use Rattle.book_selection.specs.declared.spot.Spot.{Spot}
@@ -82,9 +83,9 @@ pub record CardRoom (limits : Limits) (book tables spans : List ℕ) (covering m
   pub compared : Compared limits book covering m (progress .redundant)
   pub long : length work ≡ workSize limits
 
-pub record SelectRoom (limits : Limits) (book tables spans : List ℕ) (covering : ℕ) (work : List ℕ) : Type 0 where
+pub record SelectRoom (limits : Limits) (book tables spans : List ℕ) (covering at : ℕ) (work : List ℕ) : Type 0 where
   pub bounded : Bounded limits
   pub taken : BookTaken limits book
-  pub cached : Cached limits book tables spans keptSize
+  pub cached : Cached limits book tables spans at
   pub inside : (k : ℕ) → has covering k ≡ true → k < cardCount book
   pub long : length work ≡ workSize limits

@@ -5,8 +5,7 @@
 --   Stands      the table there is that of the spot's card
 --   Checkable   it has all that a search needs
 --   Facing      two tables, of which the first has its links
---   BookTaken   the cards of a book have passed 2 to 14
---   BookCached  and the tables are kept where the spans say
+--   BookCached  the cards of a book have passed 2 to 14, and the tables are kept where the spans say
 --   Makeable    what making the table of card k needs
 --   Placeable   what finding it needs
 --   Found       it is found; what stands before it in the work space stays
@@ -21,13 +20,12 @@ use Rattle.table.specs.Bounds.{Bounded, maxRows, pictureSize}
 use Rattle.table.specs.Layout.{endSize, «place»}
 use Rattle.table.specs.Pick.{pick}
 use Rattle.table.specs.declared.layout.Limits.{Limits}
-use Rattle.picture.specs.Readable.{Readable}
-use Rattle.meaning.specs.NormalTable.{mergedCount}
 use Rattle.row_sets.specs.Rows.{Checked}
 use Rattle.homomorphism_search.specs.Search.{LinkedTable}
 use Rattle.workspace.specs.Prepare.{workSize}
 use Rattle.book.specs.Form.{card, cardCount, mostCards}
 use Rattle.book_tables.specs.Cache.{Cached, TableAt}
+use Rattle.book_tables.specs.Tables.{BookTaken}
 use Rattle.normal_writer.specs.Tables.{tableIn}
 use Rattle.book_selection.specs.declared.spot.Spot.{Spot}
 
@@ -53,10 +51,6 @@ pub record Facing (tables work : List ℕ) (own : Spot) (links : List ℕ) (othe
   pub own-inside : Inside tables work own
   pub linked : LinkedTable (tableAt tables work own) (own .rows) links
   pub other-table : Checkable tables work other
-
-pub record BookTaken (limits : Limits) (book : List ℕ) : Type 0 where
-  pub readable : (k : ℕ) → k < cardCount book → Readable limits (card book k)
-  pub few : (k : ℕ) → k < cardCount book → mergedCount limits (card book k) ≤ limits .rows
 
 pub record BookCached (limits : Limits) (book tables spans : List ℕ) : Type 0 where
   pub taken : BookTaken limits book

@@ -9,7 +9,6 @@ use crate::spot::spot_table;
 use book_form::form::MAX_CARDS;
 use book_form::word::with_card;
 use book_form::word::without;
-use book_tables::cache::KEPT;
 use book_tables::cache::SPANS;
 use book_tables::covering::table_covers;
 use prepare_pair::prepare::half_size;
@@ -188,22 +187,20 @@ fn compare_card(
     Progress { redundant, at }
 }
 
-// Those of the covering cards that are passed over.
+// Those of the covering cards that are passed over; the cached tables end at a place.
 fn compare_cards(
     book: &[u8],
     limits: Limits,
     tables: &mut [u8],
     spans: &mut [usize; SPANS],
     covering: u32,
+    at: usize,
     work: &mut [u8],
 ) -> u32
-    requires { ⌜ SelectRoom limits (now book) (now tables) (now spans) covering (now work) ⌝ }
+    requires { ⌜ SelectRoom limits (now book) (now tables) (now spans) covering at (now work) ⌝ }
     ensures { λ r. ⌜ (Compared limits (now (book .entry)) covering mostCards r) × (length (now (work .exit)) ≡ length (now (work .entry))) ⌝ }
 {
-    let mut progress = Progress {
-        redundant: 0,
-        at: KEPT,
-    };
+    let mut progress = Progress { redundant: 0, at };
     let mut m = next_card(covering, 0);
     while m < MAX_CARDS {
         progress = compare_card(book, limits, tables, spans, covering, m, progress, work);
@@ -219,13 +216,14 @@ pub fn select_cards(
     tables: &mut [u8],
     spans: &mut [usize; SPANS],
     covering: u32,
+    at: usize,
     work: &mut [u8],
 ) -> u32
-    requires { ⌜ SelectRoom limits (now book) (now tables) (now spans) covering (now work) ⌝ }
+    requires { ⌜ SelectRoom limits (now book) (now tables) (now spans) covering at (now work) ⌝ }
     ensures { λ r. ⌜ ((k : ℕ) → has r k ≡ (has covering k && not (passedOver (cardCovers limits (now (book .entry))) (cardCount (now (book .entry))) (has covering) k)))
         × (now (work .exit) ≡ zeros (workSize limits)) ⌝ }
 {
-    let redundant = compare_cards(book, limits, tables, spans, covering, work);
+    let redundant = compare_cards(book, limits, tables, spans, covering, at, work);
     clear(work, 0, work.len());
     without(covering, redundant)
 }

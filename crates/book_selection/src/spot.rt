@@ -12,7 +12,7 @@ ghost use mathlib.Core.List.{List};
 ghost use mathlib.Core.Path.{_≡_};
 ghost use mathlib.Core.Bool.{false};
 ghost use Prim.Native.Nat.{ℕ};
-ghost use lib.ListN.{length, take};
+ghost use lib.ListN.{length};
 ghost use Rattle.book.specs.Form.{«card»};
 ghost use Rattle.normal_writer.specs.Tables.{Tabled};
 ghost use Rattle.book_tables.specs.Cache.{Cached};

@@ -1,13 +1,13 @@
 -- Laws of the tables that are kept.
---   tabled-at                   a table at the start of a part
---   table-same                  one at the start of a part with the same bytes
---   part-tabled, part-checked   one that was made in a part is at the part's start, and has all that a search needs
---   none-cached                 none is kept
---   cached-same                 those that end before a place stay when only bytes from there on change
---   cached-within               they end before any later place
---   cached-more                 one table more, after those that are there
---   cached-stored               one that was put there
---   table-few                   a table has as many rows as it may
+--   tabled-at                           a table at the start of a part
+--   table-same                          one at the start of a part with the same bytes
+--   table-few, table-checked            it has as many rows as it may, and all that a search needs
+--   made-same, made-table, made-ends    one that was made in the part from a byte on
+--   none-cached                         none is kept
+--   cached-same                         those that end before a place stay when only bytes from there on change
+--   cached-within                       they end before any later place
+--   cached-more                         one table more, after those that are there
+--   cached-stored                       one that was put there
 use Prim.Native.Nat.{_+_, _-_, _<_, _≤_, ℕ}
 use borrow.Author.Tests.{le-leb}
 use borrow.Rule.Slice.PartMut.{midOf, putMid, take-put}
@@ -15,16 +15,16 @@ use lib.ListN.{drop, getD, length, length-set, set, take}
 use lib.Seq.{getD-set-other, getD-set-same, length-take-le, take-all}
 use mathlib.Core.Bool.{Bool}
 use mathlib.Core.List.{List}
-use mathlib.Core.Path.{_∙_, _≡_, ap, refl, subst, sym}
+use mathlib.Core.Path.{_∙_, _≡_, ap, subst, sym}
 use native.Mathlib.Decide.{ℕ-discrete}
 use native.Mathlib.Omega.{arith}
-use Rattle.meaning.proofs.Normals.{normal-length, normal-size}
-use Rattle.meaning.specs.NormalTable.{mergedCount}
+use Rattle.meaning.proofs.Normals.{normal-length, normal-reads, normal-size}
+use Rattle.meaning.specs.NormalTable.{mergedCount, normalFile}
+use Rattle.row_sets.proofs.Checks.{readable-checked}
 use Rattle.row_sets.specs.Rows.{Checked}
-use Rattle.normal_writer.proofs.Tablings.{tabled-checked, tabled-fits}
-use Rattle.normal_writer.specs.Tables.{Tabled, tableIn, tableRows}
+use Rattle.normal_writer.specs.Tables.{Tabled, tableRows}
 use Rattle.table.proofs.Puts.{length-put}
-use Rattle.table.specs.Bounds.{Bounded, pictureSize}
+use Rattle.table.specs.Bounds.{Bounded, maxRows, pictureSize}
 use Rattle.table.specs.Layout.{endSize, «place»}
 use Rattle.table_rows.specs.Links.{Zeros}
 use Rattle.table.specs.Pick.{pick}
@@ -32,7 +32,7 @@ use Rattle.table.specs.Put.{put}
 use Rattle.table.specs.declared.layout.Limits.{Limits}
 use Rattle.book.specs.Form.{card, mostCards}
 use Rattle.book_tables.specs.Cache.{Cached, CachedAt, TableAt, withSpan}
-use Rattle.book_tables.proofs.Parts.{front-same, part-there, put-part}
+use Rattle.book_tables.proofs.Parts.{front-same, made-long, made-part, part-long, part-there, put-part, withUpper}
 
 pub tabled-at : (limits : Limits) (s out : List ℕ) (r : ℕ) (end : List ℕ) → Tabled limits s out r end → mergedCount limits s ≤ limits .rows → TableAt limits s end r
 tabled-at limits s out r end tabled few =
@@ -55,31 +55,39 @@ table-same : {limits : Limits} {s part : List ℕ} {rows : ℕ} → TableAt limi
     take (place rows endSize) part₂ ≡ take (place rows endSize) part → TableAt limits s part₂ rows
 table-same so part₂ same = record { few = so .few; rows-are = so .rows-are; is = same ∙ so .is }
 
--- ---- a table that was made in the part from a on, before e
+pub table-few : {limits : Limits} {s part : List ℕ} {rows : ℕ} → TableAt limits s part rows →
+    place rows endSize ≤ pictureSize limits
+table-few {limits} {s} so = omega (arith, so .rows-are, normal-length limits s, normal-size limits s (so .few))
 
-module _ (limits : Limits) (s tables : List ℕ) (a e r : ℕ) (end : List ℕ) (bounded : Bounded limits)
-    (tabled : Tabled limits s (midOf a (e - a) tables) r end) (few : mergedCount limits s ≤ limits .rows)
-    (begins : a ≤ length tables) (room : pictureSize limits ≤ length (midOf a (e - a) tables)) where
-  abbrev made : List ℕ
-  made = putMid a (e - a) tables end
+pub table-checked : {limits : Limits} {s part : List ℕ} {rows : ℕ} → Bounded limits → TableAt limits s part rows →
+    Checked (take (place rows endSize) part) rows
+table-checked {limits} {s} {part} {rows} bounded so =
+    let whole = readable-checked limits (normalFile limits s) (tableRows limits s)
+    (normal-reads limits s (so .few) bounded) bounded in
+    subst (λ t. Checked t rows) (sym (so .is))
+    (subst (λ n. Checked (normalFile limits s) n) (sym (so .rows-are)) whole)
 
-  there : take (place r endSize) (drop a made) ≡ take (place r endSize) end
-  there =
-      part-there tables a (e - a) end (place r endSize) begins
-      (omega (arith, tabled-fits limits s (midOf a (e - a) tables) r end bounded tabled few, tabled .same, room))
+-- ---- a table that was made in the part from a byte on
 
-  pub part-tabled : TableAt limits s (drop a made) r
-  part-tabled = table-same (tabled-at limits s (midOf a (e - a) tables) r end tabled few) (drop a made) there
+module _ (limits : Limits) (s work : List ℕ) (from r : ℕ) (end : List ℕ) (bounded : Bounded limits)
+    (few : mergedCount limits s ≤ limits .rows) (room : from + pictureSize limits ≤ length work)
+    (tabled : Tabled limits s (midOf from (length work - from) work) r end) where
+  pub made-same : length (withUpper work from end) ≡ length work
+  made-same = made-long work from end (omega (arith, room)) (tabled .same ∙ part-long work from)
 
-  pub part-checked : Checked (tableIn made a r) r
-  part-checked =
-      subst (λ t. Checked t r) (sym there)
-      (tabled-checked limits s (midOf a (e - a) tables) r end bounded tabled few (place r endSize) refl)
+  pub made-table : TableAt limits s (drop from (withUpper work from end)) r
+  made-table =
+      subst (λ d. TableAt limits s d r) (sym (made-part work from end (omega (arith, room))))
+      (tabled-at limits s (midOf from (length work - from) work) r end tabled few)
+
+  pub made-ends : (r ≤ maxRows) × (from + place r endSize ≤ length (withUpper work from end))
+  made-ends =
+      let fits = table-few made-table in (omega (arith, fits, bounded .0), omega (arith, fits, made-same, room))
 
 -- ---- those that are kept
 
 module _ (limits : Limits) (book tables spans : List ℕ) (at : ℕ) (so : Cached limits book tables spans at) where
-  pub cached-same : (tables₂ : List ℕ) → at ≤ length tables₂ → take at tables₂ ≡ take at tables →
+  cached-same : (tables₂ : List ℕ) → at ≤ length tables₂ → take at tables₂ ≡ take at tables →
       Cached limits book tables₂ spans at
   cached-same tables₂ inside same =
       record {
@@ -96,7 +104,7 @@ module _ (limits : Limits) (book tables spans : List ℕ) (at : ℕ) (so : Cache
             };
       }
 
-  pub cached-within : (end : ℕ) → at ≤ end → end ≤ length tables → Cached limits book tables spans end
+  cached-within : (end : ℕ) → at ≤ end → end ≤ length tables → Cached limits book tables spans end
   cached-within end later inside =
       record {
         long = inside;
@@ -143,7 +151,7 @@ module _ (limits : Limits) (book tables spans : List ℕ) (at m k : ℕ) (so : C
       (getD-set-other (set spans k at) (mostCards + k) j m 0 (λ z. omega (arith, z)) ∙ getD-set-other spans k j at 0 u)
       (same-rows j u b) (wider .each j b (λ z. some (same-rows j u b ∙ z)))
 
-  pub cached-more : Cached limits book tables new end
+  cached-more : Cached limits book tables new end
   cached-more =
       record {
         long = room;
@@ -164,14 +172,14 @@ module _ (limits : Limits) (book tables spans : List ℕ) (at : ℕ) (so : Cache
   abbrev part : List ℕ
   part = take n scratch
 
-  part-long : length part ≡ n
-  part-long = length-take-le n scratch inside
+  as-many : length part ≡ n
+  as-many = length-take-le n scratch inside
 
   is-put : tables₂ ≡ putMid at (length part) tables part
   is-put = written ∙ put-part tables at part
 
   as-long : length tables₂ ≡ length tables
-  as-long = ap length written ∙ length-put tables at part (omega (arith, part-long, room))
+  as-long = ap length written ∙ length-put tables at part (omega (arith, as-many, room))
 
   kept : Cached limits book tables₂ spans at
   kept =
@@ -183,15 +191,11 @@ module _ (limits : Limits) (book tables spans : List ℕ) (at : ℕ) (so : Cache
       table-same table (drop at tables₂)
       (ap (λ (i : ℕ). take i (drop at tables₂)) (sym e)
       ∙ ap (λ (d : List ℕ). take n (drop at d)) is-put
-      ∙ part-there tables at (length part) part n (so .long) (omega (arith, part-long))
-      ∙ take-all n part (omega (arith, part-long))
+      ∙ part-there tables at (length part) part n (so .long) (omega (arith, as-many))
+      ∙ take-all n part (omega (arith, as-many))
       ∙ ap (λ (i : ℕ). take i scratch) e)
 
   pub cached-stored : Cached limits book tables₂ (withSpan spans k at m) (at + n)
   cached-stored =
       subst (λ i. Cached limits book tables₂ (withSpan spans k at m) (at + i)) (sym e)
       (cached-more limits book tables₂ spans at m k kept l stored (omega (arith, e, as-long, room)))
-
-pub table-few : {limits : Limits} {s part : List ℕ} {rows : ℕ} → TableAt limits s part rows →
-    place rows endSize ≤ pictureSize limits
-table-few {limits} {s} so = omega (arith, so .rows-are, normal-length limits s, normal-size limits s (so .few))

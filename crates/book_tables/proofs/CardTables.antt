@@ -1,7 +1,8 @@
 -- Laws of the table of card k, of a book whose cards are readable: it is made of the part of the book that is the card.
---   card-room     what making its table needs
---   card-tabled   the table of that part is the card's
-use Prim.Native.Nat.{_<_, _≤_, ℕ}
+--   card-readable   that part can be read
+--   card-room       what making its table needs
+--   card-tabled     the table of that part is the card's
+use Prim.Native.Nat.{_≤_, ℕ}
 use lib.ListN.{length}
 use mathlib.Core.List.{List}
 use mathlib.Core.Path.{_≡_, subst, sym}
@@ -10,13 +11,15 @@ use Rattle.table.specs.declared.layout.Limits.{Limits}
 use Rattle.picture.specs.Readable.{Readable}
 use Rattle.normal_writer.specs.Tables.{TableRoom, Tabled}
 use Rattle.book.specs.Form.{card}
-use Rattle.book_form.specs.declared.form.Cards.{Cards}
-use Rattle.book_tables.specs.Tables.{CardsRead}
 
-module _ {limits : Limits} {book : List ℕ} {cards : Cards} (so : CardsRead limits book cards) {k : ℕ} (l : k < cards .count) where
-  pub card-room : {part out : List ℕ} → Bounded limits → part ≡ card book k → pictureSize limits ≤ length out → TableRoom limits part out
-  card-room bounded is room =
-      record { bounded = bounded; readable = subst (λ s. Readable limits s) (sym is) (so .readable k l); space = room }
+module _ {limits : Limits} (book : List ℕ) (k : ℕ) {part : List ℕ} (is : part ≡ card book k) where
+  pub card-readable : Readable limits (card book k) → Readable limits part
+  card-readable = subst (λ s. Readable limits s) (sym is)
 
-  pub card-tabled : {part out : List ℕ} {r : ℕ} {end : List ℕ} → part ≡ card book k → Tabled limits part out r end → Tabled limits (card book k) out r end
-  card-tabled {part} {out} {r} {end} is = subst (λ s. Tabled limits s out r end) is
+  pub card-room : {out : List ℕ} → Bounded limits → Readable limits (card book k) → pictureSize limits ≤ length out →
+      TableRoom limits part out
+  card-room bounded readable room = record { bounded = bounded; readable = card-readable readable; space = room }
+
+  pub card-tabled : {out : List ℕ} {r : ℕ} {end : List ℕ} → Tabled limits part out r end →
+      Tabled limits (card book k) out r end
+  card-tabled {out} {r} {end} = subst (λ s. Tabled limits s out r end) is

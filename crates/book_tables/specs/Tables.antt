@@ -1,19 +1,17 @@
--- What the parts of the call do. Nobody has to believe these.
---   CardsRead               the cards have passed 2 to 13
---   selectedOn              a word of cards where all is answered yes, else the refusal
---   coversTable             card k covers what a normal table is of
-use Prim.Native.Nat.{_<_, ℕ}
+-- What the parts of the call need and do. Nobody has to believe these.
+--   CardsRead     the cards have passed 2 to 13
+--   AllRead       and so has the case
+--   BookTaken     the cards of a book have passed 2 to 14
+--   coversTable   card k covers what a normal table is of
+use Prim.Native.Nat.{_<_, _≤_, ℕ}
 use mathlib.Core.Bool.{Bool}
 use mathlib.Core.List.{List}
+use Rattle.table.specs.Bounds.{Bounded}
 use Rattle.table.specs.declared.layout.Limits.{Limits}
-use Rattle.picture.specs.Asked.{onAsked}
 use Rattle.picture.specs.Readable.{Readable}
-use Rattle.picture.specs.declared.answer.Asked.{Asked}
-use Rattle.meaning.specs.NormalTable.{normalFile}
+use Rattle.meaning.specs.NormalTable.{mergedCount, normalFile}
 use Rattle.homomorphism_search.specs.Search.{rowMaps}
-use Rattle.book.specs.Form.{card}
-use Rattle.book.specs.declared.answer.Selected.{Selected}
-use Rattle.book.specs.declared.answer.Selected.the-variants as selected
+use Rattle.book.specs.Form.{card, cardCount}
 use Rattle.book_form.specs.Places.{Placed}
 use Rattle.book_form.specs.declared.form.Cards.{Cards}
 
@@ -21,8 +19,14 @@ pub record CardsRead (limits : Limits) (book : List ℕ) (cards : Cards) : Type 
   pub places-are : Placed book cards
   pub readable : (k : ℕ) → k < cards .count → Readable limits (card book k)
 
-abbrev pub selectedOn : Asked → ℕ → Selected
-selectedOn a word = onAsked selected.Refused a (selected.Cards word)
+pub record AllRead (limits : Limits) (case book : List ℕ) (cards : Cards) : Type 0 where
+  pub bounded : Bounded limits
+  pub readable : Readable limits case
+  pub cards-read : CardsRead limits book cards
+
+pub record BookTaken (limits : Limits) (book : List ℕ) : Type 0 where
+  pub readable : (k : ℕ) → k < cardCount book → Readable limits (card book k)
+  pub few : (k : ℕ) → k < cardCount book → mergedCount limits (card book k) ≤ limits .rows
 
 abbrev pub coversTable : Limits → List ℕ → List ℕ → ℕ → Bool
 coversTable limits t book k = rowMaps t (normalFile limits (card book k)) (limits .depth) 0 0

@@ -1,24 +1,17 @@
-// The tables of the case and of the cards, in one array of the call's own: the case's, and behind it those of covering
-// cards, one after the other, so that they need not be made again.
+// The tables of covering cards in an array of the call's own, one after the other, so that they need not be made again.
 use book_form::form::MAX_CARDS;
 use normal_writer::write::TABLE;
 use table::layout::END_SIZE;
 use table::layout::place;
 use table::number::copy_in;
-ghost use mathlib.Core.List.{List};
 ghost use mathlib.Core.Path.{_≡_};
-ghost use Prim.Native.Nat.{ℕ, _+_, _≤_, _<_};
+ghost use Prim.Native.Nat.{_+_, _<_};
 ghost use lib.ListN.{length};
-ghost use Rattle.table.specs.Bounds.{maxRows};
-ghost use Rattle.table.specs.Layout.{endSize, «place»};
-ghost use Rattle.table.specs.declared.layout.Limits.{Limits};
-ghost use Rattle.book.specs.Form.{«card», mostCards};
-ghost use Rattle.book_tables.specs.Cache.{Cached, Storable, TableAt, withSpan};
+ghost use Rattle.book.specs.Form.{mostCards};
+ghost use Rattle.book_tables.specs.Cache.{Storable, Stored, withSpan};
 
-// While cards are tested, the tables that are kept end before this byte; behind them there is room for one more.
-pub const KEPT: usize = 2 * TABLE;
-
-pub const TABLES: usize = KEPT + TABLE;
+// As many bytes as the cache has. Nothing that is proved asks how many.
+pub const TABLES: usize = TABLE;
 
 // For each card where its table begins, and then for each card its rows; 0 if it is not cached.
 pub const SPANS: usize = 2 * MAX_CARDS;
@@ -42,8 +35,7 @@ pub fn store(
     spans: &mut [usize; SPANS],
 ) -> usize
     requires { ⌜ Storable (now scratch) m k at (now tables) (now spans) ⌝ }
-    ensures { λ r. ⌜ ((limits : Limits) (book : List ℕ) → Cached limits book (now (tables .entry)) (now (spans .entry)) at →
-        TableAt limits («card» book k) (now (scratch .entry)) m → Cached limits book (now (tables .exit)) (now (spans .exit)) r)
+    ensures { λ r. ⌜ (Stored (now (scratch .entry)) m k at (now (tables .entry)) (now (spans .entry)) r (now (tables .exit)) (now (spans .exit)))
         × (length (now (tables .exit)) ≡ length (now (tables .entry))) ⌝ }
 {
     let size = place(m, END_SIZE);

@@ -1,4 +1,5 @@
 // The tables of the cards: 14, which cards cover the case, and the cache of their tables.
 pub mod cache;
 pub mod covering;
+pub mod merged;
 pub mod subsumers;

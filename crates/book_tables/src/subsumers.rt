@@ -1,133 +1,118 @@
-// Which cards cover the case. 14 is asked of the case and of each card in turn; nothing that the call was lent is
-// written before all are answered yes, so the tables stand in an array of its own: the case's first, each card's behind
-// those that are kept. That of a covering card is kept if it ends early enough.
-use crate::cache::KEPT;
+// Which cards cover the case. 14 is answered yes for all, so tables are made in the work space: the case's at its start,
+// each card's in the second half. That of a covering card is cached, if it fits.
 use crate::cache::SPANS;
-use crate::cache::keep_span;
+use crate::cache::store;
 use crate::covering::table_covers;
-use book::answer::Selected;
 use book_form::form::Cards;
 use book_form::form::card;
 use book_form::word::bit;
-use normal_writer::write::TABLE;
 use normal_writer::write::normal_table;
 use normal_writer::write::table_at;
-use picture::answer::Input;
-use picture::answer::too_many;
+use prepare_pair::prepare::half_size;
 use row_sets::rows::LINKS;
 use row_sets::rows::fill_links;
-use table::layout::END_SIZE;
 use table::layout::Limits;
-use table::layout::place;
 ghost use mathlib.Core.Path.{_≡_};
+ghost use Prim.Native.Nat.{_+_, _^_};
+ghost use Rattle.table.specs.Pick.{pick};
+ghost use Rattle.table_rows.specs.Links.{Zeros};
 ghost use Rattle.homomorphism_search.specs.Search.{rowMaps};
-ghost use Rattle.picture.specs.Asked.{andThen, askedFrom};
-ghost use Rattle.normal.specs.Call.{mergedAsked};
 ghost use Rattle.normal_writer.specs.Tables.{tableIn};
-ghost use Rattle.book.specs.Call.{cardMerged};
+ghost use Rattle.book.specs.Form.{mostCards};
 ghost use Rattle.book.specs.Selection.{cardWord, caseCovered};
-ghost use Rattle.book_tables.specs.Tables.{coversTable, selectedOn};
-ghost use Rattle.book_tables.specs.Cache.{Addable, Added, CachedAfter, CardsTestable, Findable, Testable};
+ghost use Rattle.book_tables.specs.Tables.{coversTable};
+ghost use Rattle.book_tables.specs.Cache.{Addable, Cached, CardsTestable, Findable, Stored, Testable};
 
-// Of the cards tested so far those that subsume the case, and where the tables kept of them end.
+// Of the cards tested so far those that subsume the case, and where the cached tables end.
 pub struct Subsumers {
     pub word: u32,
     pub at: usize,
 }
 
-// Whether the card whose table of m rows begins at a byte covers the case, whose normal table has n rows.
+// Whether the card whose table of m rows begins at a byte covers the case, whose table of n rows stands at the start.
 fn covers_case(
-    tables: &[u8],
+    work: &[u8],
     n: usize,
     links: &[u8; LINKS],
     at: usize,
     m: usize,
-    limits: Limits,
+    depth: usize,
 ) -> bool
-    requires { ⌜ Testable (now tables) n (now links) at m ⌝ }
-    ensures { λ r. ⌜ r ≡ rowMaps (tableIn (now (tables .entry)) 0 n) (tableIn (now (tables .entry)) at m) (limits .depth) 0 0 ⌝ }
+    requires { ⌜ Testable (now work) n (now links) at m ⌝ }
+    ensures { λ r. ⌜ r ≡ rowMaps (tableIn (now (work .entry)) 0 n) (tableIn (now (work .entry)) at m) depth 0 0 ⌝ }
 {
-    let table = table_at(tables, 0, n);
-    let other = table_at(tables, at, m);
+    let table = table_at(work, 0, n);
+    let other = table_at(work, at, m);
     let mut others = [0u8; LINKS];
     fill_links(other, m, &mut others);
-    table_covers(table, n, links, other, m, &others, limits.depth)
+    table_covers(table, n, links, other, m, &others, depth)
 }
 
-// The subsumers with card k if it covers the case; its table, which begins where those that are kept end, is kept then
-// too, unless it ends too late.
+// The subsumers with card k, whose table begins a part, if it covers the case; the table is cached then.
 fn add_card(
     covers: bool,
+    part: &[u8],
     m: usize,
     k: usize,
     subsumers: Subsumers,
+    tables: &mut [u8],
     spans: &mut [usize; SPANS],
 ) -> Subsumers
-    requires { ⌜ Addable m k subsumers (now spans) ⌝ }
-    ensures { λ r. ⌜ Added covers m k subsumers (now (spans .entry)) r (now (spans .exit)) ⌝ }
+    requires { ⌜ Addable (now part) m k subsumers (now tables) (now spans) ⌝ }
+    ensures { λ r. ⌜ (r .word ≡ subsumers .word + pick covers (2 ^ k) 0)
+        × (Stored (now (part .entry)) m k (subsumers .at) (now (tables .entry)) (now (spans .entry)) (r .at) (now (tables .exit)) (now (spans .exit))) ⌝ }
 {
     if !covers {
         return subsumers;
     }
-    let at = subsumers.at;
     let word = subsumers.word + bit(k);
-    let end = at + place(m, END_SIZE);
-    if KEPT < end {
-        return Subsumers { word, at };
-    }
-    keep_span(k, at, m, spans);
-    Subsumers { word, at: end }
+    let at = store(part, m, k, subsumers.at, tables, spans);
+    Subsumers { word, at }
 }
 
-// 14 of every card in turn, and whether it covers the case.
+// Whether each card in turn covers the case.
 fn test_cards(
     book: &[u8],
     cards: Cards,
     limits: Limits,
     n: usize,
     links: &[u8; LINKS],
+    work: &mut [u8],
     tables: &mut [u8],
     spans: &mut [usize; SPANS],
-) -> Selected
-    requires { ⌜ CardsTestable limits (now book) cards n (now links) (now tables) (now spans) ⌝ }
-    ensures { λ r. ⌜ (r ≡ selectedOn (askedFrom (cardMerged limits (now (book .entry))) (cards .count) 0) (cardWord (coversTable limits (tableIn (now (tables .entry)) 0 n) (now (book .entry))) (cards .count))) × (CachedAfter r limits (now (book .entry)) (now (tables .exit)) (now (spans .exit))) ⌝ }
+) -> Subsumers
+    requires { ⌜ CardsTestable limits (now book) cards n (now links) (now work) (now spans) ⌝ }
+    ensures { λ r. ⌜ (r .word ≡ cardWord (coversTable limits (tableIn (now (work .entry)) 0 n) (now (book .entry))) (cards .count))
+        × (Cached limits (now (book .entry)) (now (tables .exit)) (now (spans .exit)) (r .at)) ⌝ }
 {
-    let mut subsumers = Subsumers {
-        word: 0,
-        at: place(n, END_SIZE),
-    };
+    let half = half_size(limits);
+    let mut subsumers = Subsumers { word: 0, at: 0 };
     let mut k = 0;
     while k < cards.count {
-        let at = subsumers.at;
-        let end = at + TABLE;
-        let m = normal_table(card(book, cards, k), limits, &mut tables[at..end]);
-        if m == 0 {
-            return Selected::Refused(too_many(Input::Card(k as u8)));
-        }
-        let covers = covers_case(tables, n, links, at, m, limits);
-        subsumers = add_card(covers, m, k, subsumers, spans);
+        let m = normal_table(card(book, cards, k), limits, &mut work[half..]);
+        let covers = covers_case(work, n, links, half, m, limits.depth);
+        subsumers = add_card(covers, &work[half..], m, k, subsumers, tables, spans);
         k += 1;
     }
-    Selected::Cards(subsumers.word)
+    subsumers
 }
 
-// 14 of the case, then of each card; the cards that cover the case, and their tables, as many as fit.
+// The cards that cover the case, and their tables, as many as fit.
 pub fn find_subsumers(
     case: &[u8],
     book: &[u8],
     cards: Cards,
     limits: Limits,
+    work: &mut [u8],
     tables: &mut [u8],
     spans: &mut [usize; SPANS],
-) -> Selected
-    requires { ⌜ Findable limits (now case) (now book) cards (now tables) (now spans) ⌝ }
-    ensures { λ r. ⌜ (r ≡ selectedOn (andThen (mergedAsked limits Input.First (now (case .entry))) (askedFrom (cardMerged limits (now (book .entry))) (cards .count) 0)) (cardWord (caseCovered limits (now (case .entry)) (now (book .entry))) (cards .count))) × (CachedAfter r limits (now (book .entry)) (now (tables .exit)) (now (spans .exit))) ⌝ }
+) -> Subsumers
+    requires { ⌜ (Findable limits (now case) (now book) cards (now work)) × (Zeros (mostCards + mostCards) (now spans)) ⌝ }
+    ensures { λ r. ⌜ (r .word ≡ cardWord (caseCovered limits (now (case .entry)) (now (book .entry))) (cards .count))
+        × (Cached limits (now (book .entry)) (now (tables .exit)) (now (spans .exit)) (r .at)) ⌝ }
 {
-    let n = normal_table(case, limits, tables);
-    if n == 0 {
-        return Selected::Refused(too_many(Input::First));
-    }
+    let n = normal_table(case, limits, work);
     let mut links = [0u8; LINKS];
-    fill_links(table_at(tables, 0, n), n, &mut links);
-    test_cards(book, cards, limits, n, &links, tables, spans)
+    fill_links(table_at(work, 0, n), n, &mut links);
+    test_cards(book, cards, limits, n, &links, work, tables, spans)
 }

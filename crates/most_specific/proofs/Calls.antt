@@ -4,7 +4,7 @@
 --   covering-inside                                         a covering card is a card of the book
 --   cleared-part                                            the work space, cleared
 --   Left, stopped, done, left-as                            what is answered and left by what the questions answer
---   found-refused, found-taken, found-is, found-all         14 of the case and of the cards
+--   merged-refused, merged-passed, case-few, book-taken     14 of the case and of the cards
 --   form-refused, cards-refused, cards-readable, cards-passed    24, and 2 to 13 of the cards
 --   short-call, case-refused, case-readable, case-passed         1, and 2 to 13 of the case
 use Prim.Native.Nat.{_+_, _-_, _<_, _≤_, ℕ}
@@ -16,7 +16,7 @@ use mathlib.Core.List.{List, _++_}
 use mathlib.Core.Path.{_∙_, _≡_, ap, refl, subst, sym}
 use native.Mathlib.Omega.{arith}
 use Rattle.picture.specs.Refusal.{shortBuffer}
-use Rattle.picture.proofs.Orders.{YesTo, and-yes, given, read-decides, refused-by, refused-no, rows-yes, to-no, to-yes, yes-on, yes-to}
+use Rattle.picture.proofs.Orders.{YesTo, and-yes, read-decides, refused-no, rows-yes, to-no, to-yes, yes-on, yes-to}
 use Rattle.picture.specs.Asked.{andThen, askedFrom, kept}
 use Rattle.picture.specs.Read.{answerOf}
 use Rattle.picture.specs.Readable.{Readable}
@@ -31,15 +31,15 @@ use Rattle.table.specs.NameSet.{has}
 use Rattle.table.specs.Put.{put, zeros}
 use Rattle.table.specs.declared.layout.Limits.{Limits}
 use Rattle.workspace.specs.Prepare.{workSize}
+use Rattle.meaning.specs.NormalTable.{mergedCount}
 use Rattle.normal.proofs.Answers.{merged-decides}
 use Rattle.normal.specs.Call.{mergedAsked}
 use Rattle.book.specs.Call.{bookAsked, cardMerged, cardRead, mostSpecificAnswer, mostSpecificAsked, mostSpecificWork, noBook}
 use Rattle.book.specs.Form.{bookForm, card, cardCount}
 use Rattle.order.specs.Preorder.{minimal, passedOver, strict}
 use Rattle.book.specs.Selection.{cardCovers, cardWord, caseCovered, mostSpecific, mostSpecificCards}
-use Rattle.book_selection.specs.Standing.{BookTaken}
-use Rattle.book_tables.specs.Tables.{CardsRead, selectedOn}
-use Rattle.most_specific.specs.Asking.{afterCards, afterCase}
+use Rattle.book_tables.specs.Tables.{BookTaken, CardsRead}
+use Rattle.most_specific.specs.Asking.{afterCards, afterCase, selectedOn}
 use Rattle.book_form.specs.Places.{Placed}
 use Rattle.book_form.specs.declared.form.Cards.{Cards}
 use Rattle.picture.specs.declared.answer.Asked.{Asked}
@@ -135,34 +135,28 @@ module _ (limits : Limits) (case book : List ℕ) (cards : Cards) (so : CardsRea
   merged-is : afterCards limits case book ≡ merged
   merged-is = sym (ap (λ (n : ℕ). andThen (mergedAsked limits First case) (askedFrom (cardMerged limits book) n 0)) (so .places-are .counted))
 
-  module _ (found : Selected) (is : found ≡ selectedOn merged (cardWord (caseCovered limits case book) (cards .count))) where
-    pub found-refused : (r : Refusal) → found ≡ selected.Refused r → afterCards limits case book ≡ No r
-    found-refused r e =
-        merged-is
-        ∙ refused-by selected.Refused (selected.Cards (cardWord (caseCovered limits case book) (cards .count))) (λ q s h. cc) r
-        (λ h. let z : _≡_ {A = ℕ} 0 1 = cc in omega arith) merged (sym is ∙ e)
+  module _ (a : Asked) (is : a ≡ merged) where
+    pub merged-refused : (r : Refusal) → a ≡ No r → afterCards limits case book ≡ No r
+    merged-refused r e = merged-is ∙ sym is ∙ e
 
-    module _ (covering : ℕ) (e : found ≡ selected.Cards covering) where
-      parts : (merged ≡ Yes) × (selected.Cards (cardWord (caseCovered limits case book) (cards .count)) ≡ selected.Cards covering)
-      parts = given selected.Refused (selected.Cards (cardWord (caseCovered limits case book) (cards .count))) (selected.Cards covering)
-          (λ r h. let z : _≡_ {A = ℕ} 0 1 = cc in omega arith) merged (sym is ∙ e)
+    module _ (e : a ≡ Yes) where
+      parts : (mergedAsked limits First case ≡ Yes) × (askedFrom (cardMerged limits book) (cards .count) 0 ≡ Yes)
+      parts = and-yes (mergedAsked limits First case) (askedFrom (cardMerged limits book) (cards .count) 0) .0 (sym is ∙ e)
 
-      pub found-is : covering ≡ cardWord (caseCovered limits case book) (cards .count)
-      found-is = let same = parts .1 in cc
+      pub merged-passed : afterCards limits case book ≡ Yes
+      merged-passed = merged-is ∙ sym is ∙ e
 
-      pub found-all : afterCards limits case book ≡ Yes
-      found-all = merged-is ∙ parts .0
+      pub case-few : mergedCount limits case ≤ limits .rows
+      case-few = merged-decides limits First case .yes .0 (parts .0)
 
-      pub found-taken : BookTaken limits book
-      found-taken =
-          let cards-merged = and-yes (mergedAsked limits First case)
-          (askedFrom (cardMerged limits book) (cards .count) 0) .0 (parts .0) .1 in
+      pub book-taken : BookTaken limits book
+      book-taken =
           let counted = so .places-are .counted in
           record {
             readable = λ k l. so .readable k (omega (arith, l, counted));
             few = λ k l.
                 merged-decides limits (Card k) (card book k) .yes .0
-                (yes-to (cardMerged limits book) (cards .count) cards-merged k (omega (arith, l, counted)));
+                (yes-to (cardMerged limits book) (cards .count) (parts .1) k (omega (arith, l, counted)));
           }
 
 -- ---- 24, and 2 to 13 of the cards

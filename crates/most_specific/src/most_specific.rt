@@ -7,6 +7,7 @@ use book_form::form::has_form;
 use book_selection::compare::select_cards;
 use book_tables::cache::SPANS;
 use book_tables::cache::TABLES;
+use book_tables::merged::ask_merged;
 use book_tables::subsumers::find_subsumers;
 use picture::answer::Answer;
 use picture::answer::Asked;
@@ -17,6 +18,7 @@ use picture_reader::read::read;
 use prepare_pair::prepare::half_size;
 use table::layout::Limits;
 ghost use mathlib.Core.Path.{_≡_};
+ghost use Prim.Native.Nat.{_≤_};
 ghost use lib.ListN.{length};
 ghost use Rattle.table.specs.Bounds.{Bounded};
 ghost use Rattle.table.specs.Put.{put, zeros};
@@ -24,8 +26,9 @@ ghost use Rattle.workspace.specs.Prepare.{workSize};
 ghost use Rattle.picture.specs.Asked.{askedFrom, kept};
 ghost use Rattle.book.specs.Call.{cardRead, mostSpecificAnswer, mostSpecificWork};
 ghost use Rattle.book.specs.Selection.{mostSpecificCards};
-ghost use Rattle.book_tables.specs.Tables.{selectedOn};
-ghost use Rattle.most_specific.specs.Asking.{BookRoom, CardsRoom, afterCase, afterCards};
+ghost use Rattle.book_tables.specs.Cache.{Findable};
+ghost use Rattle.book_tables.specs.Tables.{AllRead};
+ghost use Rattle.most_specific.specs.Asking.{BookRoom, afterCase, afterCards, selectedOn};
 ghost use Rattle.book_form.specs.Places.{Placed};
 
 // 2 to 13 of each card in turn.
@@ -47,30 +50,39 @@ fn read_cards(book: &[u8], cards: Cards, limits: Limits) -> Asked
     Asked::Yes
 }
 
+// The word, once 14 is answered yes for all; the work space is cleared.
+fn specific_cards(case: &[u8], book: &[u8], cards: Cards, limits: Limits, work: &mut [u8]) -> u32
+    requires { ⌜ Findable limits (now case) (now book) cards (now work) ⌝ }
+    ensures { λ r. ⌜ (r ≡ mostSpecificCards limits (now (case .entry)) (now (book .entry)))
+        × (now (work .exit) ≡ zeros (workSize limits)) ⌝ }
+{
+    let mut tables = [0u8; TABLES];
+    let mut spans = [0usize; SPANS];
+    let found = find_subsumers(case, book, cards, limits, work, &mut tables, &mut spans);
+    select_cards(
+        book,
+        limits,
+        &mut tables,
+        &mut spans,
+        found.word,
+        found.at,
+        work,
+    )
+}
+
 // 14 of the case and of each card; then the word.
 fn select(case: &[u8], book: &[u8], cards: Cards, limits: Limits, work: &mut [u8]) -> Selected
-    requires { ⌜ CardsRoom limits (now case) (now book) cards (now work) ⌝ }
+    requires { ⌜ (AllRead limits (now case) (now book) cards) × (workSize limits ≤ length (now work)) ⌝ }
     ensures { λ r. ⌜ (r ≡ selectedOn (afterCards limits (now (case .entry)) (now (book .entry)))
         (mostSpecificCards limits (now (case .entry)) (now (book .entry))))
         × (now (work .exit) ≡ kept (afterCards limits (now (case .entry)) (now (book .entry)))
         (put (now (work .entry)) 0 (zeros (workSize limits))) (now (work .entry))) ⌝ }
 {
-    let mut tables = [0u8; TABLES];
-    let mut spans = [0usize; SPANS];
-    match find_subsumers(case, book, cards, limits, &mut tables, &mut spans) {
-        Selected::Cards(covering) => {
-            let half = half_size(limits);
-            let size = half + half;
-            Selected::Cards(select_cards(
-                book,
-                limits,
-                &mut tables,
-                &mut spans,
-                covering,
-                &mut work[..size],
-            ))
-        }
-        Selected::Refused(refusal) => Selected::Refused(refusal),
+    let half = half_size(limits);
+    let size = half + half;
+    match ask_merged(case, book, cards, limits) {
+        Asked::Yes => Selected::Cards(specific_cards(case, book, cards, limits, &mut work[..size])),
+        Asked::No(refusal) => Selected::Refused(refusal),
     }
 }
 

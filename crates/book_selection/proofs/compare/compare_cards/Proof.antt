@@ -16,13 +16,13 @@ use Rattle.book_selection.proofs.compare.compare_cards.Statement.{state
 use Rattle.book_selection.proofs.compare.compare_cards.Tie as tie
 
 abbrev Inv-loop : tie.InvT-loop
-Inv-loop book limits cache₀ spans₀ covering work₀ progress₀ m₀ tables spans work progress m =
+Inv-loop book limits cache₀ spans₀ covering at work₀ progress₀ m₀ tables spans work progress m =
     ((m < mostCards → has covering m ≡ true)
     × (Compared limits book covering m (progress .redundant) × Cached limits book tables spans (progress .at)))
     × ((length tables ≡ length cache₀) × (length work ≡ workSize limits))
 
 abbrev μ-loop : tie.MeasureT-loop
-μ-loop book limits cache₀ spans₀ covering work₀ progress₀ m₀ tables spans work progress m = mostCards - m
+μ-loop book limits cache₀ spans₀ covering at work₀ progress₀ m₀ tables spans work progress m = mostCards - m
 
 next-card-requires : tie.Need-next-card-requires Inv-loop μ-loop
 next-card-requires c κs = omega arith

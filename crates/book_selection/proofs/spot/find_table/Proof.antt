@@ -3,10 +3,12 @@ use Prim.Native.Nat.{_<_}
 use native.Mathlib.Omega.{arith}
 use denote.Ref.{now}
 use mathlib.Core.Bool.{false≢true}
-use mathlib.Core.Path.{_∙_, refl, sym}
+use mathlib.Core.Path.{refl, sym}
 use Rattle.book.proofs.Forms.{count-most}
 use Rattle.book.specs.Form.{mostCards}
-use Rattle.book_selection.proofs.Standings.{cached-stands, made-before, made-long, made-stands, part-long}
+use Rattle.book_tables.proofs.Caches.{made-same}
+use Rattle.book_tables.proofs.Parts.{made-before, part-room}
+use Rattle.book_selection.proofs.Standings.{cached-stands, made-stands}
 use borrow.Author.Needs.{needs}
 use Rattle.book_selection.proofs.spot.find_table.Statement.{statement}
 use Rattle.book_selection.proofs.spot.find_table.Tie as tie
@@ -46,7 +48,7 @@ make-table-requires c κs =
       bounded = pre .bounded;
       taken = pre .cached .taken;
       below = pre .below;
-      space = omega (arith, part-long (now (start .args .work)) (start .args .from), pre .room);
+      space = part-room (now (start .args .work)) _ _ (pre .room);
     }
 
 same-length : tie.Need-same-length
@@ -67,9 +69,8 @@ returns c =
       card-is = refl;
       first = λ _. refl;
       front = made-before (now (a .work)) (a .from) end (omega (arith, pre .room));
-      same =
-          made-long (now (a .work)) (a .from) end (omega (arith, pre .room))
-          (made .ensures .same ∙ part-long (now (a .work)) (a .from));
+      same = made-same (a .limits) _ (now (a .work)) (a .from) (made .result) end (pre .bounded) few (pre .room)
+          (made .ensures);
     }
 
 mul-start : tie.Need-mul-start

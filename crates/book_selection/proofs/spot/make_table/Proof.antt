@@ -1,10 +1,7 @@
 -- The card is the part of the book that is looked up.
 use native.Mathlib.Omega.{arith}
 use denote.Ref.{now}
-use mathlib.Core.Path.{subst, sym}
-use Rattle.picture.specs.Readable.{Readable}
-use Rattle.book.specs.Form.{card}
-use Rattle.normal_writer.specs.Tables.{Tabled}
+use Rattle.book_tables.proofs.CardTables.{card-room, card-tabled}
 use borrow.Author.Needs.{needs}
 use Rattle.book_selection.proofs.spot.make_table.Statement.{statement}
 use Rattle.book_selection.proofs.spot.make_table.Tie as tie
@@ -14,27 +11,15 @@ find-cards-requires c κs = search needs
 
 card-requires : tie.Need-card-requires
 card-requires c κs =
-    let placed = c .find-cards .ensures in (
-      placed,
-      omega (
-        arith,
-        placed .counted,
-        c .before .before .before .pre
-            .below,
-      ),
-    )
+    let placed = c .find-cards .ensures in (placed, omega (arith, placed .counted, c .before .before .before .pre .below))
 
 normal-table-requires : tie.Need-normal-table-requires
 normal-table-requires c κs =
     let start = c .before .before .before .before .before in
     let a = start .args in
     let pre = start .pre in
-    record {
-      bounded = pre .bounded;
-      readable = subst (λ s. Readable (a .limits) s) (sym (c .before .card .ensures))
-          (pre .taken .readable (a .k) (pre .below));
-      space = pre .space;
-    }
+    card-room (now (a .book)) (a .k) (c .before .card .ensures) (pre .bounded)
+    (pre .taken .readable (a .k) (pre .below)) (pre .space)
 
 same-length : tie.Need-same-length
 same-length c = search needs
@@ -42,9 +27,8 @@ same-length c = search needs
 returns : tie.Need-returns
 returns c =
     let a = c .before .before .before .before .before .before .before .before .args in
-    let made = c .before .before .normal-table in
-    subst (λ s. Tabled (a .limits) s (now (a .out)) (made .result) (made .last .1 .1 .0))
-    (c .before .before .before .before .card .ensures) (made .ensures)
+    card-tabled (now (a .book)) (a .k) (c .before .before .before .before .card .ensures)
+    (c .before .before .normal-table .ensures)
 
 pub make-table-spec : {M : Type 1} → statement M
 make-table-spec =

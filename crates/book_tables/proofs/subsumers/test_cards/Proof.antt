@@ -1,60 +1,67 @@
--- At the loop's head the cards below k are tested. The table of card k is made behind those that are kept; where 14 is
--- answered yes, the search on both tables says whether it covers the case.
-use Prim.Native.Nat.{_+_, _-_}
+-- At the loop's head the cards below k are tested. The table of card k is made in the second half, and the search on
+-- both tables says whether it covers the case.
+use Prim.Native.Nat.{_+_, _-_, _≤_}
 use native.Mathlib.Omega.{arith}
-use borrow.Author.Needs.{needs}
 use borrow.Rule.Slice.PartMut.{midOf}
 use denote.Ref.{now}
-use mathlib.Core.Path.{_∙_, refl, sym}
+use lib.ListN.{length}
+use mathlib.Core.Path.{_∙_, _≡_, refl, sym}
+use Rattle.table.specs.Bounds.{pictureSize}
 use Rattle.normal_writer.specs.Tables.{Tabled, tableIn}
+use Rattle.meaning.specs.NormalTable.{mergedCount}
 use Rattle.book.specs.Form.{card}
-use Rattle.book_tables.specs.Cache.{SubsumersBelow, tableSize}
+use Rattle.book_tables.specs.Cache.{SubsumersBelow}
 use Rattle.book_tables.proofs.CardTables.{card-room, card-tabled}
-use Rattle.book_tables.proofs.CardTests.{addable, testable}
-use Rattle.book_tables.proofs.CardTests.{test-all, test-long, test-many, test-next, test-room, test-start}
+use Rattle.book_tables.proofs.CardTests.{addable, test-all, test-half, test-next, test-start, testable}
+use Rattle.book_tables.proofs.Parts.{part-room, withUpper}
 use Rattle.book_tables.proofs.subsumers.test_cards.Statement.{statement}
 use Rattle.book_tables.proofs.subsumers.test_cards.Tie as tie
 
 abbrev Inv-loop : tie.InvT-loop
-Inv-loop book cards limits n links tables₀ spans₀ subsumers₀ k₀ tables spans subsumers k =
-    SubsumersBelow limits (tableIn tables₀ 0 n) book (cards .count) n tables spans subsumers k
+Inv-loop book cards limits n links work₀ tables₀ spans₀ half subsumers₀ k₀ work tables spans subsumers k =
+    SubsumersBelow limits (tableIn work₀ 0 n) book (cards .count) n work tables spans subsumers k
+    × (length tables ≡ length tables₀)
 
 abbrev μ-loop : tie.MeasureT-loop
-μ-loop book cards limits n links tables₀ spans₀ subsumers₀ k₀ tables spans subsumers k = cards .count - k
+μ-loop book cards limits n links work₀ tables₀ spans₀ half subsumers₀ k₀ work tables spans subsumers k =
+    cards .count - k
 
-place-requires : tie.Need-place-requires Inv-loop μ-loop
-place-requires c κs = (omega (arith, c .before .before .pre .linked .checked .most), omega arith)
+half-size-requires : tie.Need-half-size-requires Inv-loop μ-loop
+half-size-requires c κs = c .before .before .before .pre .bounded
 
 loop-holds : tie.Need-loop-holds Inv-loop μ-loop
-loop-holds c =
-    let pre = c .before .before .before .pre in
-    test-start (pre .long) refl (pre .linked .checked .most) (pre .blank) (c .place .result) (c .place .ensures)
-
-add-end : tie.Need-add-end Inv-loop μ-loop
-add-end c = let so = c .before .before .loop .inv in omega arith
+loop-holds c = let pre = c .before .before .before .before .pre in (test-start (pre .long) refl (pre .blank), refl)
 
 card-requires : tie.Need-card-requires Inv-loop μ-loop
-card-requires c κs = (c .before .before .before .before .before .before .pre .cards-read .places-are, c .if1 .taken)
+card-requires c κs = (c .before .before .before .before .before .before .before .pre .placed, c .if1 .taken)
+
+-- the second half is there, and as long as the longest table
+inside : (c : tie.At-loop Inv-loop μ-loop) →
+    c .before .half-size .result + pictureSize (c .before .before .before .before .before .args .limits) ≤ length (c .loop .work)
+inside c = omega (arith, c .before .half-size .ensures, c .loop .inv .0 .long)
 
 sub-normal-table : tie.Need-sub-normal-table Inv-loop μ-loop
-sub-normal-table c = omega arith
+sub-normal-table c = omega (arith, inside (c .before .before .before))
 
 part-normal-table-start : tie.Need-part-normal-table-start Inv-loop μ-loop
-part-normal-table-start c = omega arith
+part-normal-table-start c = omega (arith, inside (c .before .before .before))
 
 part-normal-table-end : tie.Need-part-normal-table-end Inv-loop μ-loop
-part-normal-table-end c = let so = c .before .before .before .loop .inv in omega arith
+part-normal-table-end c = omega (arith, inside (c .before .before .before))
 
 normal-table-requires : tie.Need-normal-table-requires Inv-loop μ-loop
 normal-table-requires c κs =
-    let pre = c .before .before .before .before .before .before .before .before .pre in
-    let less = c .before .before .if1 .taken in
-    card-room (pre .cards-read) less (pre .bounded) (c .before .card .ensures)
-    (test-room (c .before .before .before .before .loop .inv) less (pre .bounded))
+    let head = c .before .before .before .before in
+    let start = head .before .before .before .before .before in
+    let pre = start .pre in
+    let k = head .loop .k in
+    card-room (now (start .args .book)) k (c .before .card .ensures) (pre .bounded)
+    (pre .taken .readable k (omega (arith, c .before .before .if1 .taken, pre .placed .counted)))
+    (part-room (head .loop .work) _ _ (omega (arith, inside head)))
 
--- the way back from the table that was made to the entry, to the loop's head, and to the turn's beginning
+-- the ways back from the table that was made: to the entry, to the loop's head, to the turn's beginning
 abbrev entry : (c : tie.After-normal-table Inv-loop μ-loop) → tie.Start Inv-loop μ-loop
-entry c = c .before .before .before .before .before .before .before .before .before
+entry c = c .before .before .before .before .before .before .before .before .before .before
 
 abbrev head : (c : tie.After-normal-table Inv-loop μ-loop) → tie.At-loop Inv-loop μ-loop
 head c = c .before .before .before .before .before
@@ -62,70 +69,83 @@ head c = c .before .before .before .before .before
 abbrev turn : (c : tie.After-normal-table Inv-loop μ-loop) → tie.Then1 Inv-loop μ-loop
 turn c = c .before .before .before
 
--- it is card k's
+-- it is card k's, and 14 is answered yes for that
 tabled : (c : tie.After-normal-table Inv-loop μ-loop) → let a = entry c .args in let l = head c .loop in
-    let at = l .subsumers .at in
-    Tabled (a .limits) (card (now (a .book)) (l .k)) (midOf at (at + tableSize - at) (l .tables))
+    let half = head c .before .half-size .result in
+    Tabled (a .limits) (card (now (a .book)) (l .k)) (midOf half (length (l .work) - half) (l .work))
     (c .normal-table .result) (c .normal-table .last .1 .1 .0)
 tabled c =
-    card-tabled (entry c .pre .cards-read) (turn c .if1 .taken) (c .before .before .card .ensures)
+    card-tabled (now (entry c .args .book)) (head c .loop .k) (c .before .before .card .ensures)
     (c .normal-table .ensures)
 
-cast-t22 : tie.Need-cast-t22 Inv-loop μ-loop
-cast-t22 c =
-    let made = c .before .before .before in
-    omega (arith, turn made .if1 .taken, entry made .pre .cards-read .places-are .most)
-
-too-many-requires : tie.Need-too-many-requires Inv-loop μ-loop
-too-many-requires c κs = search needs
-
-same-length : tie.Need-same-length Inv-loop μ-loop
-same-length c =
-    let made = c .before .before .before .before in
-    test-long (head made .loop .inv) (turn made .if1 .taken) (entry made .pre .bounded) (tabled made)
-    ∙ sym (entry made .pre .long)
-
-returns : tie.Need-returns Inv-loop μ-loop
-returns c =
-    let made = c .before .before .before .before in
-    rw (c .too-many .ensures) (
-      test-many (head made .loop .inv) (turn made .if1 .taken) (entry made .pre .bounded) (tabled made)
-          (c .before .if2 .taken),
-      tt,
-    )
+few : (c : tie.After-normal-table Inv-loop μ-loop) → let a = entry c .args in
+    mergedCount (a .limits) (card (now (a .book)) (head c .loop .k)) ≤ a .limits .rows
+few c =
+    let pre = entry c .pre in
+    pre .taken .few (head c .loop .k) (omega (arith, turn c .if1 .taken, pre .placed .counted))
 
 covers-case-requires : tie.Need-covers-case-requires Inv-loop μ-loop
 covers-case-requires c κs =
-    let made = c .before .before .before .before in
-    testable (head made .loop .inv) (turn made .if1 .taken) (entry made .pre .bounded) (tabled made)
-    (c .before .if2 .left) (entry made .pre .linked)
+    let made = c .before .before .before in
+    let pre = entry made .pre in
+    testable (head made .loop .inv .0) (turn made .if1 .taken) (pre .bounded) (few made) (pre .lower)
+    (head made .before .half-size .ensures) (tabled made) (pre .linked)
+
+-- the second half is there still
+half-there : (c : tie.After-normal-table Inv-loop μ-loop) → let half = head c .before .half-size .result in
+    half ≤ length (withUpper (head c .loop .work) half (c .normal-table .last .1 .1 .0))
+half-there c =
+    let pre = entry c .pre in
+    test-half (head c .loop .inv .0) (turn c .if1 .taken) (pre .bounded) (few c) (pre .lower)
+    (head c .before .half-size .ensures) (tabled c)
+
+sub-add-card : tie.Need-sub-add-card Inv-loop μ-loop
+sub-add-card c = half-there (c .before .before .before .before)
+
+part-add-card-start : tie.Need-part-add-card-start Inv-loop μ-loop
+part-add-card-start c = omega (arith, half-there (c .before .before .before .before .before))
+
+part-add-card-end : tie.Need-part-add-card-end Inv-loop μ-loop
+part-add-card-end c = omega (arith, half-there (c .before .before .before .before .before))
 
 add-card-requires : tie.Need-add-card-requires Inv-loop μ-loop
 add-card-requires c κs =
-    let made = c .before .before .before .before .before .before in
-    addable (head made .loop .inv) (turn made .if1 .taken) (entry made .pre .bounded) (tabled made)
-    (c .before .before .before .if2 .left) (entry made .pre .cards-read .places-are .most)
+    let made = c .before .before .before .before .before .before .before .before in
+    let pre = entry made .pre in
+    addable (head made .loop .inv .0) (turn made .if1 .taken) (pre .bounded) (few made) (pre .lower)
+    (head made .before .half-size .ensures) (tabled made) (pre .placed .most)
+
+-- the way back from the end of the turn
+abbrev made-in : (c : tie.After-slice-known4 Inv-loop μ-loop) → tie.After-normal-table Inv-loop μ-loop
+made-in c = c .before .before .before .before .before .before .before .before .before .before .before
 
 add-k : tie.Need-add-k Inv-loop μ-loop
-add-k c =
-    let made = c .before .before .before .before .before .before .before in
-    omega (arith, turn made .if1 .taken, entry made .pre .cards-read .places-are .most)
+add-k c = omega (arith, turn (made-in c) .if1 .taken, entry (made-in c) .pre .placed .most)
 
 loop-less : tie.Need-loop-less Inv-loop μ-loop
-loop-less c = omega (arith, turn (c .before .before .before .before .before .before .before) .if1 .taken)
+loop-less c = omega (arith, turn (made-in c) .if1 .taken)
 
 loop-again : tie.Need-loop-again Inv-loop μ-loop
 loop-again c =
-    let made = c .before .before .before .before .before .before .before in
-    test-next (head made .loop .inv) (turn made .if1 .taken) (entry made .pre .bounded) (tabled made)
-    (c .before .before .before .before .if2 .left) (c .before .before .covers-case .ensures) (c .add-card .ensures)
+    let made = made-in c in
+    let pre = entry made .pre in
+    let added = c .before .before .add-card in (
+      test-next (head made .loop .inv .0) (turn made .if1 .taken) (pre .bounded) (few made) (pre .lower)
+          (head made .before .half-size .ensures) (tabled made)
+          (c .before .before .before .before .before .before .before .covers-case .ensures) (added .ensures .0)
+          (added .ensures .1),
+      added .kept .1 .1 .1 .1 .1 .0 ∙ head made .loop .inv .1,
+    )
+
+same-length : tie.Need-same-length Inv-loop μ-loop
+same-length c = c .before .before .loop .inv .0 .long ∙ sym (c .before .before .before .before .before .before .before
+    .pre .long)
 
 same-length-2 : tie.Need-same-length-2 Inv-loop μ-loop
-same-length-2 c = c .before .before .loop .inv .long ∙ sym (c .before .before .before .before .before .before .pre
-    .long)
+same-length-2 c = c .before .before .loop .inv .1
 
-returns-2 : tie.Need-returns-2 Inv-loop μ-loop
-returns-2 c = test-all (c .before .before .loop .inv) (c .if1 .left)
+returns : tie.Need-returns Inv-loop μ-loop
+returns c = let so = c .before .before .loop .inv .0 in (test-all so (c .if1 .left), so .cache-is)
 
 pub test-cards-spec : {M : Type 1} → statement M
 test-cards-spec =
@@ -133,22 +153,21 @@ test-cards-spec =
     (tie.spec
     Inv-loop
     μ-loop
-    place-requires
+    half-size-requires
     loop-holds
-    add-end
     card-requires
     sub-normal-table
     part-normal-table-start
     part-normal-table-end
     normal-table-requires
-    cast-t22
-    too-many-requires
-    same-length
-    returns
     covers-case-requires
+    sub-add-card
+    part-add-card-start
+    part-add-card-end
     add-card-requires
     add-k
     loop-less
     loop-again
+    same-length
     same-length-2
-    returns-2)
+    returns)

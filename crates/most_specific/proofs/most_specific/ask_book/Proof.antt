@@ -33,18 +33,19 @@ select-requires c κs =
     let pre = c .before .before .before .before .before .before .before .before .before .before .pre in
     let args = c .before .before .before .before .before .before .before .before .before .before .args in
     let find-cards = c .before .before .before .before .before .before .find-cards in
-    let read-cards = c .before .before .before .read-cards in
-    record {
-      bounded = pre .bounded;
-      readable = pre .readable;
-      cards-read =
-          cards-readable (args .limits) (now (args .case)) (now (args .book))
-          (sym (c .before .before .before .before .before .has-form .ensures)
-          ∙ not-false _ (c .before .before .before .before .if1 .left))
-          (find-cards .result) (find-cards .ensures) (read-cards .result) (read-cards .ensures)
-          (c .before .enum-told .given .1);
-      room = pre .room;
-    }
+    let read-cards = c .before .before .before .read-cards in (
+      record {
+        bounded = pre .bounded;
+        readable = pre .readable;
+        cards-read =
+            cards-readable (args .limits) (now (args .case)) (now (args .book))
+            (sym (c .before .before .before .before .before .has-form .ensures)
+            ∙ not-false _ (c .before .before .before .before .if1 .left))
+            (find-cards .result) (find-cards .ensures) (read-cards .result) (read-cards .ensures)
+            (c .before .enum-told .given .1);
+      },
+      pre .room,
+    )
 
 enum-known-refusal : tie.Need-enum-known-refusal
 enum-known-refusal c = search needs

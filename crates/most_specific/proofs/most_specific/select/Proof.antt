@@ -1,31 +1,18 @@
--- Where 14 is answered yes for all, the cards that were found subsume the case, and those that are left are the answer.
+-- Where 14 is answered yes for all, the word is that of the most specific cards; else nothing is written.
 use Prim.Native.Nat.{_+_}
-use denote.Ref.{now}
 use native.Mathlib.Omega.{arith}
+use borrow.Author.Needs.{needs}
+use denote.Ref.{now}
+use lib.ListN.{drop, length, take}
 use lib.Seq.{length-take-le}
-use lib.ListN.{drop}
 use mathlib.Core.List.{_++_}
-use mathlib.Core.Path.{_∙_, ap, refl, subst, sym}
-use Rattle.table_rows.proofs.Stores.{blank}
+use mathlib.Core.Path.{_∙_, _≡_, ap, sym}
 use Rattle.workspace.specs.Prepare.{workSize}
 use Rattle.book.specs.Selection.{mostSpecificCards}
-use Rattle.book_tables.specs.Cache.{CachedAfter}
 use Rattle.most_specific.specs.Asking.{afterCards}
-use Rattle.most_specific.proofs.Calls.{cleared-part, covering-inside, done, found-all, found-is, found-refused, found-taken, selected-word, stopped}
-use borrow.Author.Needs.{needs}
+use Rattle.most_specific.proofs.Calls.{book-taken, case-few, cleared-part, done, merged-passed, merged-refused, stopped}
 use Rattle.most_specific.proofs.most_specific.select.Statement.{statement}
 use Rattle.most_specific.proofs.most_specific.select.Tie as tie
-
-slice-aggregate-find-subsumers : tie.Need-slice-aggregate-find-subsumers
-slice-aggregate-find-subsumers c = search needs
-
-find-subsumers-requires : tie.Need-find-subsumers-requires
-find-subsumers-requires c κs =
-    let pre = c .before .before .before .before .before .pre in
-    record { bounded = pre .bounded; readable = pre .readable; cards-read = pre .cards-read; long = refl; blank = blank 64 64 refl }
-
-enum-known-covering : tie.Need-enum-known-covering
-enum-known-covering c = search needs
 
 half-size-requires : tie.Need-half-size-requires
 half-size-requires c κs = search needs
@@ -33,42 +20,48 @@ half-size-requires c κs = search needs
 add-size : tie.Need-add-size
 add-size c = search needs
 
-slice-aggregate-select-cards : tie.Need-slice-aggregate-select-cards
-slice-aggregate-select-cards c = search needs
+-- the way back to the entry
+abbrev entry : (c : tie.After-half-size) → tie.Start
+entry c = c .before .before .before .before
 
-slice-relend-prefix-select-cards : tie.Need-slice-relend-prefix-select-cards
-slice-relend-prefix-select-cards c = search needs
+-- the part of the work space that is lent is as long as both halves
+lent : (c : tie.After-half-size) → let size = c .half-size .result + c .half-size .result in
+    length (take size (now (entry c .args .work))) ≡ size
+lent c =
+    length-take-le (c .half-size .result + c .half-size .result) (now (entry c .args .work))
+    (omega (arith, c .half-size .ensures, entry c .pre .1))
 
-slice-aggregate-select-cards-2 : tie.Need-slice-aggregate-select-cards-2
-slice-aggregate-select-cards-2 c =
-    let half-size = c .before .before .before .half-size in
-    sym (length-take-le (half-size .result + half-size .result) (now (c .before .before .before .before .before .before .before .before .before .before .before .before .before .before .args .work)) (omega (arith, half-size .ensures, c .before .before .before .before .before .before .before .before .before .before .before .before .before .before .pre .room)))
+ask-merged-requires : tie.Need-ask-merged-requires
+ask-merged-requires c κs = search needs
 
-select-cards-requires : tie.Need-select-cards-requires
-select-cards-requires c κs =
-    let args = c .before .before .before .before .before .before .before .before .before .before .before .before .before .before .args in
-    let pre = c .before .before .before .before .before .before .before .before .before .before .before .before .before .before .pre in
-    let find-subsumers = c .before .before .before .before .before .before .before .before .find-subsumers in
-    let covering = c .before .before .before .before .before .covering in
-    let half-size = c .before .before .before .half-size in
-    let lent = length-take-le (half-size .result + half-size .result) (now (args .work)) (omega (arith, half-size .ensures, pre .room)) in
-    let found = find-subsumers .result in
-    let found-is-asked = find-subsumers .ensures .0 in
+enum-told : tie.Need-enum-told
+enum-told c = search needs
+
+slice-relend-prefix-specific-cards : tie.Need-slice-relend-prefix-specific-cards
+slice-relend-prefix-specific-cards c = search needs
+
+specific-cards-requires : tie.Need-specific-cards-requires
+specific-cards-requires c κs =
+    let asked = c .before .before .before in
+    let a = entry (asked .before) .args in
+    let pre = entry (asked .before) .pre .0 in
+    let is = asked .ask-merged .ensures in
+    let yes-all = c .before .enum-told .given .1 in
     record {
       bounded = pre .bounded;
-      taken = found-taken (args .limits) (now (args .case)) (now (args .book)) (args .cards) (pre .cards-read)
-          found found-is-asked (covering .given .0 .0) (covering .given .1);
-      cached = subst (λ r. CachedAfter r (args .limits) (now (args .book)) (find-subsumers .last .1 .1 .1 .1 .0)
-          (find-subsumers .last .1 .1 .1 .1 .1 .0))
-          (covering .given .1) (find-subsumers .ensures .1);
-      inside = covering-inside (args .limits) (now (args .case)) (now (args .book)) (args .cards .count)
-          (covering .given .0 .0)
-          (pre .cards-read .places-are .counted)
-          (found-is (args .limits) (now (args .case)) (now (args .book)) (args .cards) (pre .cards-read) found
-          found-is-asked
-          (covering .given .0 .0) (covering .given .1));
-      long = lent ∙ omega (arith, half-size .ensures);
+      readable = pre .readable;
+      few =
+          case-few (a .limits) (now (a .case)) (now (a .book)) (a .cards) (pre .cards-read)
+          (asked .ask-merged .result) is yes-all;
+      placed = pre .cards-read .places-are;
+      taken =
+          book-taken (a .limits) (now (a .case)) (now (a .book)) (a .cards) (pre .cards-read)
+          (asked .ask-merged .result) is yes-all;
+      long = lent (asked .before) ∙ omega (arith, asked .before .half-size .ensures);
     }
+
+slice-aggregate-specific-cards : tie.Need-slice-aggregate-specific-cards
+slice-aggregate-specific-cards c = sym (lent (c .before .before .before .before))
 
 enum-known-refusal : tie.Need-enum-known-refusal
 enum-known-refusal c = search needs
@@ -78,41 +71,39 @@ same-length c = search needs
 
 returns : tie.Need-returns
 returns c =
-    let args = c .before .before .before .before .before .before .before .before .before .before .before .before .before
-    .before .before .before .before .before .args in
-    let pre = c .before .before .before .before .before .before .before .before .before .before .before .before .before
-    .before .before .before .before .before .pre in
-    let find-subsumers = c .before .before .before .before .before .before .before .before .before .before .before
-    .before .find-subsumers in
-    let covering = c .before .before .before .before .before .before .before .before .before .covering in
-    let half-size = c .before .before .before .before .before .before .before .half-size in
-    let select-cards = c .before .before .before .select-cards in
-    let is = found-is (args .limits) (now (args .case)) (now (args .book)) (args .cards) (pre .cards-read) (find-subsumers .result) (find-subsumers .ensures .0) (covering .given .0 .0) (covering .given .1) in
-    done (args .limits) (mostSpecificCards (args .limits) (now (args .case)) (now (args .book))) (now (args .work)) (afterCards (args .limits) (now (args .case)) (now (args .book)))
-    (found-all (args .limits) (now (args .case)) (now (args .book)) (args .cards) (pre .cards-read) (find-subsumers .result) (find-subsumers .ensures .0) (covering .given .0 .0) (covering .given .1))
-    (select-cards .result) _ (selected-word (args .limits) (now (args .case)) (now (args .book)) (args .cards .count) (covering .given .0 .0) (pre .cards-read .places-are .counted) is (select-cards .result) (select-cards .ensures .0))
-    (ap (λ l. l ++ drop (half-size .result + half-size .result) (now (args .work))) (select-cards .ensures .1) ∙ cleared-part (now (args .work)) (workSize (args .limits)) (half-size .result + half-size .result) (omega (arith, half-size .ensures)))
+    let asked = c .before .before .before .before .before .before in
+    let a = entry (asked .before) .args in
+    let half = asked .before .half-size in
+    let chosen = c .before .before .specific-cards in
+    done (a .limits) (mostSpecificCards (a .limits) (now (a .case)) (now (a .book))) (now (a .work))
+    (afterCards (a .limits) (now (a .case)) (now (a .book)))
+    (merged-passed (a .limits) (now (a .case)) (now (a .book)) (a .cards) (entry (asked .before) .pre .0 .cards-read)
+    (asked .ask-merged .result) (asked .ask-merged .ensures) (c .before .before .before .before .enum-told .given .1))
+    (chosen .result) _ (chosen .ensures .0)
+    (ap (λ l. l ++ drop (half .result + half .result) (now (a .work))) (chosen .ensures .1)
+    ∙ cleared-part (now (a .work)) (workSize (a .limits)) (half .result + half .result) (omega (arith, half .ensures)))
 
 returns-2 : tie.Need-returns-2
 returns-2 c =
-    let args = c .before .before .before .before .before .before .before .before .before .before .args in
-    let find-subsumers = c .before .before .before .before .find-subsumers in
-    let no-is = found-refused (args .limits) (now (args .case)) (now (args .book)) (args .cards) (c .before .before .before .before .before .before .before .before .before .before .pre .cards-read) (find-subsumers .result) (find-subsumers .ensures .0) (c .before .refusal .given .0 .0) (c .before .refusal .given .1) in
-    stopped (args .limits) (mostSpecificCards (args .limits) (now (args .case)) (now (args .book))) (now (args .work)) (afterCards (args .limits) (now (args .case)) (now (args .book))) (c .before .refusal .given .0 .0) no-is
+    let asked = c .before .before .before in
+    let a = entry (asked .before) .args in
+    let refusal = c .before .refusal .given in
+    stopped (a .limits) (mostSpecificCards (a .limits) (now (a .case)) (now (a .book))) (now (a .work))
+    (afterCards (a .limits) (now (a .case)) (now (a .book))) (refusal .0 .0)
+    (merged-refused (a .limits) (now (a .case)) (now (a .book)) (a .cards) (entry (asked .before) .pre .0 .cards-read)
+    (asked .ask-merged .result) (asked .ask-merged .ensures) (refusal .0 .0) (refusal .1))
 
 pub select-spec : {M : Type 1} → statement M
 select-spec =
     tie.close
     (tie.spec
-    slice-aggregate-find-subsumers
-    find-subsumers-requires
-    enum-known-covering
     half-size-requires
     add-size
-    slice-aggregate-select-cards
-    slice-relend-prefix-select-cards
-    slice-aggregate-select-cards-2
-    select-cards-requires
+    ask-merged-requires
+    enum-told
+    slice-relend-prefix-specific-cards
+    slice-aggregate-specific-cards
+    specific-cards-requires
     enum-known-refusal
     same-length
     returns
