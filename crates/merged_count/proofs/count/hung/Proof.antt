@@ -29,7 +29,8 @@ loop-holds c =
     let a = st .args in
     let next = st .pre .next in
     let hung =
-    walk-start (now (a .s)) (a .rows) (st .pre .checked) (a .set) (a .first) (c .none .result) next (c .none .ensures) in
+    walk-start (now (a .s)) (a .rows) (st .pre .checked) (a .set) (a .first) (c .none .result) next
+    (c .none .ensures) in
     (hung, next .held)
 
 add-requires : tie.Need-add-requires Inv-loop μ-loop
