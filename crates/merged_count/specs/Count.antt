@@ -1,6 +1,7 @@
 -- What the count has of a set, and what it needs of its arguments. Nobody has to believe these.
 --   Counts          a forest was counted after so many merged rows, up to the limit and one more
 --   roleAt          the successors of one role, where p are those of all roles
+--   FirstOf         a set of rows, and its first row
 --   HungFrom        the rows that hang from those of a set, and their roles
 --   treeSize        the merged rows of a set from which these hang, down to a depth
 --   hungWith        what hangs from row c, and these
@@ -15,11 +16,13 @@ use mathlib.Core.Bool.{Bool, _||_, false}
 use mathlib.Core.List.{List}
 use mathlib.Core.Path.{_≡_}
 use Rattle.table.specs.Bounds.{maxRows}
+use Rattle.table.specs.Fields.{parentOf}
 use Rattle.table.specs.Layout.{roles}
+use Rattle.table_rows.specs.Links.{Linked}
 use Rattle.ale.specs.PictureSignature.{pictureSignature}
 use Rattle.ale.specs.Tree.{Forest, sizes}
 use Rattle.row_sets.specs.Parts.{capped, existsPartAt, partsAt, successorsAt}
-use Rattle.row_sets.specs.Rows.{Known, Surveyed, hangs, holds, ofRole}
+use Rattle.row_sets.specs.Rows.{Checked, Known, Next, Surveyed, hangs, holds, ofRole}
 use Rattle.row_sets.specs.declared.rows.RowSet.{RowSet}
 use Rattle.row_sets.specs.declared.rows.Successors.{Successors}
 use Rattle.merged_count.specs.declared.count.Parts.{Parts}
@@ -29,6 +32,11 @@ Counts limit merged f r = r ≡ capped limit (merged + sizes pictureSignature f)
 
 abbrev pub roleAt : List ℕ → ℕ → ℕ → ℕ → (ℕ → Bool) → Forest pictureSignature
 roleAt s rows depth role p = partsAt s rows depth role (ofRole s role p)
+
+pub record FirstOf (s : List ℕ) (rows : ℕ) (links : List ℕ) (set : RowSet) (first : ℕ) : Type 0 where
+  pub checked : Checked s rows
+  pub linked : Linked (parentOf s) rows maxRows links
+  pub next : Next set 0 rows first
 
 pub record HungFrom (s : List ℕ) (rows : ℕ) (q : ℕ → Bool) (successors : Successors) : Type 0 where
   pub set-is : (j : ℕ) → j < rows → holds (successors .set) j ≡ hangs s q j

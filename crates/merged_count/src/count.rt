@@ -13,14 +13,12 @@ use table::layout::KIND_FOR_ALL;
 use table::layout::Limits;
 ghost use mathlib.Core.Path.{_≡_};
 ghost use Prim.Native.Nat.{_+_, _<_};
-ghost use Rattle.table.specs.Bounds.{Bounded, maxRows};
-ghost use Rattle.table.specs.Fields.{parentOf};
-ghost use Rattle.table_rows.specs.Links.{Linked};
+ghost use Rattle.table.specs.Bounds.{Bounded};
 ghost use Rattle.meaning.specs.NormalTable.{mergedCount};
 ghost use Rattle.row_sets.specs.Rows.{Checked, Known, holds};
 ghost use Rattle.row_sets.specs.Parts.{capped, successorsAt};
-ghost use Rattle.merged_count.specs.Count.{Beside, Counting, Counts, ExistsCounted, HungFrom, OneRole};
-ghost use Rattle.merged_count.specs.Count.{besideSize, roleAt, treeSize};
+ghost use Rattle.merged_count.specs.Count.{Beside, Counting, Counts, ExistsCounted, FirstOf, HungFrom};
+ghost use Rattle.merged_count.specs.Count.{OneRole, besideSize, roleAt, treeSize};
 
 // Of one role: the some-successors, what hangs from A, and the merged rows of a set from which the same hangs.
 struct Parts {
@@ -29,13 +27,13 @@ struct Parts {
     each: usize,
 }
 
-// The rows that hang from those of a set.
-fn hung(s: &[u8], rows: usize, links: &[u8; LINKS], set: RowSet) -> Successors
-    requires { ⌜ (Checked (now s) rows) × (Linked (parentOf (now s)) rows maxRows (now links)) ⌝ }
+// The rows that hang from those of a set, the first of which is given.
+fn hung(s: &[u8], rows: usize, links: &[u8; LINKS], set: RowSet, first: usize) -> Successors
+    requires { ⌜ FirstOf (now s) rows (now links) set first ⌝ }
     ensures { λ r. ⌜ HungFrom (now (s .entry)) rows (holds set) r ⌝ }
 {
     let mut successors = Successors::none();
-    let mut j = set.next(0, rows);
+    let mut j = first;
     while j < rows {
         successors = successors.add(s, rows, links, j);
         j = set.next(j + 1, rows);
@@ -124,15 +122,12 @@ fn count_role(
 {
     let all = set.of_edge(masks, KIND_FOR_ALL, role);
     let some = set.of_edge(masks, KIND_EXISTS, role);
-    let below = hung(s, rows, links, all);
+    let first = all.next(0, rows);
+    let below = hung(s, rows, links, all, first);
     let whole = count_row(s, rows, limit, links, masks, below, depth, merged);
     let each = whole - merged;
     let parts = Parts { some, below, each };
-    let counted = if all.next(0, rows) < rows {
-        whole
-    } else {
-        merged
-    };
+    let counted = if first < rows { whole } else { merged };
     count_exists(s, rows, limit, links, masks, parts, depth, counted)
 }
 

@@ -126,12 +126,12 @@ abbrev count-role-claims : ℕ → count-role-lts.Claims
 count-role-claims t = (
   of-edge-reads.Asked,
   of-edge-reads.Learnt,
+  next-reads.Asked,
+  next-reads.Learnt,
   hung-reads.Asked,
   hung-reads.Learnt,
   count-row-below t,
   count-row.Post,
-  next-reads.Asked,
-  next-reads.Learnt,
   count-exists-below t,
   count-exists.Post,
 )
@@ -325,47 +325,48 @@ count-role-of-edge-requires-2 :
     count-role-lts.Need-of-edge-requires-2 (count-role-claims t) (count-role-at t) count-role.Post
 count-role-of-edge-requires-2 t c κs = c .before .before .pre .1 .1 .role-below
 
+count-role-next-requires :
+    (t : ℕ) →
+    count-role-lts.Need-next-requires (count-role-claims t) (count-role-at t) count-role.Post
+count-role-next-requires t c κs =
+    let st = c .before .before .before in
+    st .pre .1 .0 .surveyed .checked .most
+
 count-role-hung-requires :
     (t : ℕ) →
     count-role-lts.Need-hung-requires (count-role-claims t) (count-role-at t) count-role.Post
 count-role-hung-requires t c κs =
-    let surveyed = c .before .before .before .pre .1 .0 .surveyed in
-    (surveyed .checked, surveyed .linked)
+    let surveyed = c .before .before .before .before .pre .1 .0 .surveyed in
+    record { checked = surveyed .checked; linked = surveyed .linked; next = c .next .ensures }
 
 count-role-count-row-requires :
     (t : ℕ) →
     count-role-lts.Need-count-row-requires (count-role-claims t) (count-role-at t) count-role.Post
 count-role-count-row-requires t c κs =
-    let st = c .before .before .before .before in
+    let st = c .before .before .before .before .before in
     (omega (arith, st .pre .0), (st .pre .1 .0, c .hung .ensures .known))
 
 count-role-sub-each : (t : ℕ) → count-role-lts.Need-sub-each (count-role-claims t) (count-role-at t) count-role.Post
 count-role-sub-each t c =
-    let st = c .before .before .before .before .before in
+    let st = c .before .before .before .before .before .before in
     omega (arith, c .count-row .ensures, st .pre .1 .0 .counted)
-
-count-role-next-requires :
-    (t : ℕ) →
-    count-role-lts.Need-next-requires (count-role-claims t) (count-role-at t) count-role.Post
-count-role-next-requires t c κs =
-    let st = c .before .before .before .before .before in
-    st .pre .1 .0 .surveyed .checked .most
 
 -- A was counted before the some-successors, if it has a row
 value-counted :
     (t : ℕ) (c : count-role-lts.Joined1 (count-role-claims t) (count-role-at t) count-role.Post) →
     let a = c .before .before .before .before .before .before .before .args in
     let all = c .before .before .before .before .before .of-edge .result in
-    let value = valuePartAt (now (a .s)) (a .rows) (a .depth) (a .role) (holds all) (c .before .next .result) in
+    let value = valuePartAt (now (a .s)) (a .rows) (a .depth) (a .role) (holds all)
+    (c .before .before .before .next .result) in
     Counts (a .limit) (a .merged) value (c .if1 .counted)
 value-counted t c =
     let st = c .before .before .before .before .before .before .before in
     let a = st .args in
     let counting = st .pre .1 .0 in
     let all = c .before .before .before .before .before .of-edge in
-    let hung = c .before .before .before .hung in
-    let whole = c .before .before .count-row in
-    let first = c .before .next .result in
+    let hung = c .before .before .hung in
+    let whole = c .before .count-row in
+    let first = c .before .before .before .next .result in
     let counted = c .if1 .counted in
     value-turn (now (a .s)) (a .rows) (a .depth) (all .result) (hung .result) (a .limit) (a .merged) (whole .result)
     (hung .ensures) (counting .counted) (whole .ensures) first counted (a .role) (counting .surveyed .checked)
@@ -380,8 +381,8 @@ count-role-count-exists-requires t c κs =
     let a = st .args in
     let counting = st .pre .1 .0 in
     let all = c .before .before .before .before .before .of-edge in
-    let hung = c .before .before .before .hung in
-    let whole = c .before .before .count-row in
+    let hung = c .before .before .hung in
+    let whole = c .before .count-row in
     let some = c .before .before .before .before .of-edge2 in
     let value = value-counted t c in
     let counted = c .if1 .counted in
@@ -399,7 +400,7 @@ count-role-returns t c =
     let surveyed = st .pre .1 .0 .surveyed in
     let all = c .before .before .before .before .before .before .of-edge in
     let some = c .before .before .before .before .before .of-edge2 in
-    let first = c .before .before .next in
+    let first = c .before .before .before .before .next in
     let joined = c .before in
     let rest = c .count-exists in
     role-parts-counted (now (a .s)) (a .rows) (a .depth) (a .role) (all .result) (some .result) (first .result)
@@ -409,8 +410,7 @@ count-role-returns t c =
     (surveyed .masked) (st .pre .1 .1 .role-below) (inr refl) (st .pre .1 .1 .rootless) (all .ensures))
     (edge-row (now (a .s)) (a .rows) (now (a .masks)) (some .result) (a .set) kindExists (a .role) (surveyed .checked)
     (surveyed .masked) (st .pre .1 .1 .role-below) (inl refl) (st .pre .1 .1 .rootless) (some .ensures))
-    (value-counted t joined) (rest .ensures (holds (all .result)) (a .role)
-    (c .before .before .before .before .hung .ensures))
+    (value-counted t joined) (rest .ensures (holds (all .result)) (a .role) (c .before .before .before .hung .ensures))
 
 count-row-add-result : (t : ℕ) → count-row-lts.Need-add-result (count-row-claims t) (count-row-at t) count-row.Post
 count-row-add-result t c =
@@ -612,10 +612,10 @@ pub +count-beside+count-exists+count-role+count-row+count-successors-spec :
     count-role.Post
     (count-role-of-edge-requires t)
     (count-role-of-edge-requires-2 t)
+    (count-role-next-requires t)
     (count-role-hung-requires t)
     (count-role-count-row-requires t)
     (count-role-sub-each t)
-    (count-role-next-requires t)
     (count-role-count-exists-requires t)
     (count-role-returns t))
     (λ t. count-row-lts.spec
