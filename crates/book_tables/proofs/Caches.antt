@@ -32,7 +32,8 @@ use Rattle.table.specs.Put.{put}
 use Rattle.table.specs.declared.layout.Limits.{Limits}
 use Rattle.book.specs.Form.{card, mostCards}
 use Rattle.book_tables.specs.Cache.{Cached, CachedAt, TableAt, withSpan}
-use Rattle.book_tables.proofs.Parts.{front-same, made-long, made-part, part-long, part-there, put-part, withUpper}
+use Rattle.book_tables.proofs.Parts.{front-same, made-long, made-part, part-long, part-there}
+use Rattle.book_tables.proofs.Parts.{put-part, withUpper}
 
 pub tabled-at : (limits : Limits) (s out : List ℕ) (r : ℕ) (end : List ℕ) → Tabled limits s out r end → mergedCount limits s ≤ limits .rows → TableAt limits s end r
 tabled-at limits s out r end tabled few =

@@ -35,7 +35,8 @@ pub fn store(
     spans: &mut [usize; SPANS],
 ) -> usize
     requires { ⌜ Storable (now scratch) m k at (now tables) (now spans) ⌝ }
-    ensures { λ r. ⌜ (Stored (now (scratch .entry)) m k at (now (tables .entry)) (now (spans .entry)) r (now (tables .exit)) (now (spans .exit)))
+    ensures { λ r. ⌜ (Stored (now (scratch .entry)) m k at (now (tables .entry)) (now (spans .entry)) r
+        (now (tables .exit)) (now (spans .exit)))
         × (length (now (tables .exit)) ≡ length (now (tables .entry))) ⌝ }
 {
     let size = place(m, END_SIZE);

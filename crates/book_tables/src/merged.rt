@@ -29,7 +29,8 @@ fn ask_cards(book: &[u8], cards: Cards, limits: Limits) -> Asked
 
 pub fn ask_merged(case: &[u8], book: &[u8], cards: Cards, limits: Limits) -> Asked
     requires { ⌜ AllRead limits (now case) (now book) cards ⌝ }
-    ensures { λ r. ⌜ r ≡ andThen (mergedAsked limits Input.First (now (case .entry))) (askedFrom (cardMerged limits (now (book .entry))) (cards .count) 0) ⌝ }
+    ensures { λ r. ⌜ r ≡ andThen (mergedAsked limits Input.First (now (case .entry)))
+        (askedFrom (cardMerged limits (now (book .entry))) (cards .count) 0) ⌝ }
 {
     if !is_within(case, limits) {
         return Asked::No(too_many(Input::First));

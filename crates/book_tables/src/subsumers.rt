@@ -1,5 +1,5 @@
-// Which cards cover the case. 14 is answered yes for all, so tables are made in the work space: the case's at its start,
-// each card's in the second half. That of a covering card is cached, if it fits.
+// Which cards cover the case. 14 is answered yes for all, so tables are made in the work space: the case's at its
+// start, each card's in the second half. That of a covering card is cached, if it fits.
 use crate::cache::SPANS;
 use crate::cache::store;
 use crate::covering::table_covers;
@@ -60,7 +60,8 @@ fn add_card(
 ) -> Subsumers
     requires { ⌜ Addable (now part) m k subsumers (now tables) (now spans) ⌝ }
     ensures { λ r. ⌜ (r .word ≡ subsumers .word + pick covers (2 ^ k) 0)
-        × (Stored (now (part .entry)) m k (subsumers .at) (now (tables .entry)) (now (spans .entry)) (r .at) (now (tables .exit)) (now (spans .exit))) ⌝ }
+        × (Stored (now (part .entry)) m k (subsumers .at) (now (tables .entry)) (now (spans .entry)) (r .at)
+        (now (tables .exit)) (now (spans .exit))) ⌝ }
 {
     if !covers {
         return subsumers;
@@ -82,7 +83,8 @@ fn test_cards(
     spans: &mut [usize; SPANS],
 ) -> Subsumers
     requires { ⌜ CardsTestable limits (now book) cards n (now links) (now work) (now spans) ⌝ }
-    ensures { λ r. ⌜ (r .word ≡ cardWord (coversTable limits (tableIn (now (work .entry)) 0 n) (now (book .entry))) (cards .count))
+    ensures { λ r. ⌜ (r .word ≡ cardWord
+        (coversTable limits (tableIn (now (work .entry)) 0 n) (now (book .entry))) (cards .count))
         × (Cached limits (now (book .entry)) (now (tables .exit)) (now (spans .exit)) (r .at)) ⌝ }
 {
     let half = half_size(limits);
@@ -107,7 +109,8 @@ pub fn find_subsumers(
     tables: &mut [u8],
     spans: &mut [usize; SPANS],
 ) -> Subsumers
-    requires { ⌜ (Findable limits (now case) (now book) cards (now work)) × (Zeros (mostCards + mostCards) (now spans)) ⌝ }
+    requires { ⌜ (Findable limits (now case) (now book) cards (now work))
+        × (Zeros (mostCards + mostCards) (now spans)) ⌝ }
     ensures { λ r. ⌜ (r .word ≡ cardWord (caseCovered limits (now (case .entry)) (now (book .entry))) (cards .count))
         × (Cached limits (now (book .entry)) (now (tables .exit)) (now (spans .exit)) (r .at)) ⌝ }
 {

@@ -141,7 +141,8 @@ module _ (limits : Limits) (case book : List ℕ) (cards : Cards) (so : CardsRea
 
     module _ (e : a ≡ Yes) where
       parts : (mergedAsked limits First case ≡ Yes) × (askedFrom (cardMerged limits book) (cards .count) 0 ≡ Yes)
-      parts = and-yes (mergedAsked limits First case) (askedFrom (cardMerged limits book) (cards .count) 0) .0 (sym is ∙ e)
+      parts =
+          and-yes (mergedAsked limits First case) (askedFrom (cardMerged limits book) (cards .count) 0) .0 (sym is ∙ e)
 
       pub merged-passed : afterCards limits case book ≡ Yes
       merged-passed = merged-is ∙ sym is ∙ e

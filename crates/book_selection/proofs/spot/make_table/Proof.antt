@@ -11,7 +11,9 @@ find-cards-requires c κs = search needs
 
 card-requires : tie.Need-card-requires
 card-requires c κs =
-    let placed = c .find-cards .ensures in (placed, omega (arith, placed .counted, c .before .before .before .pre .below))
+    let placed = c .find-cards .ensures in
+    let below = c .before .before .before .pre .below in
+    (placed, omega (arith, placed .counted, below))
 
 normal-table-requires : tie.Need-normal-table-requires
 normal-table-requires c κs =

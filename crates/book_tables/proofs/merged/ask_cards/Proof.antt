@@ -54,7 +54,7 @@ says c =
 
 cast-t9 : tie.Need-cast-t9 Inv-loop μ-loop
 cast-t9 c =
-    let start = entry (c .before) in omega (arith, c .before .before .before .if1 .taken, start .pre .1 .places-are .most)
+    let most = entry (c .before) .pre .1 .places-are .most in omega (arith, c .before .before .before .if1 .taken, most)
 
 too-many-requires : tie.Need-too-many-requires Inv-loop μ-loop
 too-many-requires c κs = search needs
@@ -72,7 +72,7 @@ returns c =
 
 add-k : tie.Need-add-k Inv-loop μ-loop
 add-k c =
-    let start = entry (c .before) in omega (arith, c .before .before .before .if1 .taken, start .pre .1 .places-are .most)
+    let most = entry (c .before) .pre .1 .places-are .most in omega (arith, c .before .before .before .if1 .taken, most)
 
 loop-less : tie.Need-loop-less Inv-loop μ-loop
 loop-less c = omega (arith, c .before .before .before .if1 .taken)
@@ -83,7 +83,8 @@ loop-again c =
     let a = entry asked .args in
     let k = head asked .loop .k in
     let s = card (now (a .book)) k in
-    let few = leb-true (mergedCount (a .limits) s) (a .limits .rows) (sym (says asked) ∙ not-false _ (c .if2 .left)) in (
+    let few = leb-true (mergedCount (a .limits) s) (a .limits .rows)
+    (sym (says asked) ∙ not-false _ (c .if2 .left)) in (
       omega (arith, asked .before .before .if1 .taken),
       yes-on (cardMerged (a .limits) (now (a .book))) k (merged-decides (a .limits) (Card k) s .yes .1 few)
           (head asked .loop .inv .1),

@@ -36,8 +36,8 @@ card-requires : tie.Need-card-requires Inv-loop μ-loop
 card-requires c κs = (c .before .before .before .before .before .before .before .pre .placed, c .if1 .taken)
 
 -- the second half is there, and as long as the longest table
-inside : (c : tie.At-loop Inv-loop μ-loop) →
-    c .before .half-size .result + pictureSize (c .before .before .before .before .before .args .limits) ≤ length (c .loop .work)
+inside : (c : tie.At-loop Inv-loop μ-loop) → let a = c .before .before .before .before .before .args in
+    c .before .half-size .result + pictureSize (a .limits) ≤ length (c .loop .work)
 inside c = omega (arith, c .before .half-size .ensures, c .loop .inv .0 .long)
 
 sub-normal-table : tie.Need-sub-normal-table Inv-loop μ-loop

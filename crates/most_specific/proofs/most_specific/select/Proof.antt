@@ -10,7 +10,8 @@ use mathlib.Core.Path.{_∙_, _≡_, ap, sym}
 use Rattle.workspace.specs.Prepare.{workSize}
 use Rattle.book.specs.Selection.{mostSpecificCards}
 use Rattle.most_specific.specs.Asking.{afterCards}
-use Rattle.most_specific.proofs.Calls.{book-taken, case-few, cleared-part, done, merged-passed, merged-refused, stopped}
+use Rattle.most_specific.proofs.Calls.{book-taken, case-few, merged-passed, merged-refused}
+use Rattle.most_specific.proofs.Calls.{cleared-part, done, stopped}
 use Rattle.most_specific.proofs.most_specific.select.Statement.{statement}
 use Rattle.most_specific.proofs.most_specific.select.Tie as tie
 

@@ -1,20 +1,19 @@
 -- The cards that were found subsume the case, and those that are left are the answer.
 use denote.Ref.{now}
-use mathlib.Core.Path.{_∙_, refl}
+use mathlib.Core.Path.{_∙_, refl, sym}
 use Rattle.table_rows.proofs.Stores.{blank}
 use Rattle.most_specific.proofs.Calls.{covering-inside, selected-word}
-use borrow.Author.Needs.{needs}
 use Rattle.most_specific.proofs.most_specific.specific_cards.Statement.{statement}
 use Rattle.most_specific.proofs.most_specific.specific_cards.Tie as tie
 
 slice-aggregate-find-subsumers : tie.Need-slice-aggregate-find-subsumers
-slice-aggregate-find-subsumers c = search needs
+slice-aggregate-find-subsumers c = refl
 
 find-subsumers-requires : tie.Need-find-subsumers-requires
 find-subsumers-requires c κs = (c .before .before .before .before .before .before .pre, blank 64 64 refl)
 
 slice-aggregate-select-cards : tie.Need-slice-aggregate-select-cards
-slice-aggregate-select-cards c = search needs
+slice-aggregate-select-cards c = sym (c .before .before .before .before .find-subsumers .kept .1 .1 .1 .1 .1 .0)
 
 -- the way back from the cards that were found to the entry
 abbrev entry : (c : tie.After-find-subsumers) → tie.Start
@@ -36,7 +35,10 @@ select-cards-requires c κs =
     }
 
 same-length : tie.Need-same-length
-same-length c = search needs
+same-length c =
+    let found = c .before .before .before .before .before .before .before .before .before .before in
+    c .before .before .before .select-cards .kept .1 .1 .1 .1 .1 .1 .0
+    ∙ found .find-subsumers .kept .1 .1 .1 .1 .0
 
 returns : tie.Need-returns
 returns c =
