@@ -10,8 +10,8 @@ ghost use lib.ListN.{length};
 ghost use Rattle.book.specs.Form.{mostCards};
 ghost use Rattle.book_tables.specs.Cache.{Storable, Stored, withSpan};
 
-// As many bytes as the cache has. Nothing that is proved asks how many.
-pub const TABLES: usize = TABLE;
+// As many bytes as the cache has: twice as many as the longest table. Nothing that is proved asks how many.
+pub const TABLES: usize = 2 * TABLE;
 
 // For each card where its table begins, and then for each card its rows; 0 if it is not cached.
 pub const SPANS: usize = 2 * MAX_CARDS;
