@@ -1,4 +1,5 @@
--- The root: the merged tree that the code begins with is never dropped, and so what was grown from nothing is the normal table.
+-- The root: the merged tree that the code begins with is never dropped, and so what was grown from nothing is the normal
+-- table.
 --   grown-built     what was grown from nothing with it is the normal table
 use Prim.Native.Nat.{_<_, ℕ}
 use mathlib.Core.Bool.{false}

@@ -5,12 +5,12 @@
 --   rows-few                           then the rows are those of the normal table
 --   tabled-fits, tabled-there          the table fits a half, and so the part
 --   tabled-file, tabled-checked        it is the normal file, and has all that a search needs
-use Prim.Native.Nat.{_+_, _/_, _<_, _≤_, ℕ}
+use Prim.Native.Nat.{_+_, _<_, _≤_, ℕ}
 use borrow.Author.Tests.{le-leb, leb-true, lt-leb}
 use lib.Dec.{leb}
 use lib.ListN.{length, take}
 use lib.Seq.{length-take-le}
-use mathlib.Core.Bool.{Bool, false, true}
+use mathlib.Core.Bool.{Bool, false}
 use mathlib.Core.List.{List, _++_}
 use mathlib.Core.Path.{_∙_, _≡_, ap, subst, sym}
 use native.Mathlib.Omega.{arith}
@@ -18,7 +18,6 @@ use Rattle.ale.specs.PictureSignature.{pictureSignature}
 use Rattle.ale.specs.Tree.{size}
 use Rattle.meaning.proofs.Normals.{normal-length, normal-reads, normal-size}
 use Rattle.meaning.specs.NormalTable.{mergedCount, normalFile, normalTreeOf}
-use Rattle.picture.specs.Readable.{Readable, rowCount}
 use Rattle.row_sets.proofs.Checks.{readable-checked}
 use Rattle.row_sets.specs.Rows.{Checked}
 use Rattle.table.proofs.Bools.{by-test}
@@ -26,7 +25,7 @@ use Rattle.table.proofs.Puts.{length-put, put-put}
 use Rattle.table.proofs.Rows.{length-endBytes}
 use Rattle.table.specs.Bounds.{Bounded, maxRows, pictureSize}
 use Rattle.table.specs.Fields.{endBytes}
-use Rattle.table.specs.Layout.{endSize, rowSize, «place»}
+use Rattle.table.specs.Layout.{endSize, «place»}
 use Rattle.table.specs.Pick.{pick}
 use Rattle.table.specs.Put.{put}
 use Rattle.table.specs.declared.layout.Limits.{Limits}

@@ -7,7 +7,7 @@
 --   Entered                           a row was written, and what hangs from it is to follow
 --   clash, bare                       a label is broken by itself; it has no names
 --   isInconsistent, isDropped, Left   01, "broken", "dropped": how a row is left once what hangs from it is there
-use Prim.Native.Nat.{_+_, _<_, _≤_, suc, ℕ}
+use Prim.Native.Nat.{_+_, _≤_, suc, ℕ}
 use lib.Dec.{eqb}
 use lib.ListN.{length, take}
 use mathlib.Core.Bool.{Bool, _&&_, _||_, false, not}

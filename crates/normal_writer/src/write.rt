@@ -11,7 +11,7 @@ use table::number::copy_in;
 use table_rows::builder::Builder;
 ghost use mathlib.Core.Path.{_≡_};
 ghost use mathlib.Core.List.{_++_};
-ghost use Prim.Native.Nat.{ℕ, _+_, _≤_};
+ghost use Prim.Native.Nat.{_+_, _≤_};
 ghost use lib.ListN.{length, take};
 ghost use Rattle.table.specs.Bounds.{maxRows};
 ghost use Rattle.table.specs.Fields.{endBytes};

@@ -7,12 +7,12 @@
 --   join-lower, join-upper  of both put at the start the bytes of the one and of the other
 use Prim.Native.Nat.{_+_, _-_, _≤_, ℕ}
 use borrow.Rule.Slice.PartMut.{midOf, putMid}
-use lib.ListN.{drop, drop-of-length-le, getD, length, length-append, length-drop, take}
+use lib.ListN.{drop, drop-of-length-le, length, length-append, length-drop, take}
 use lib.Seq.{drop-append-le, drop-at, drop-drop, length-take-le, take-all, take-append-le, take-at}
 use mathlib.Core.List.{List, _++_, append-assoc, append-nil}
 use mathlib.Core.Path.{_∙_, _≡_, ap, sym}
 use native.Mathlib.Omega.{arith}
-use Rattle.table.proofs.Puts.{put-after, put-start}
+use Rattle.table.proofs.Puts.{put-start}
 use Rattle.table.specs.Put.{put}
 
 module _ (a : ℕ) (d : List ℕ) where

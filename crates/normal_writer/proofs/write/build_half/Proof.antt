@@ -4,8 +4,8 @@ use native.Mathlib.Omega.{arith}
 use borrow.Author.Needs.{needs}
 use denote.Ref.{now}
 use lib.ListN.{length}
-use mathlib.Core.Path.{_∙_, _≡_, ap, sym}
-use Rattle.table.specs.Bounds.{maxRows, pictureSize}
+use mathlib.Core.Path.{_∙_}
+use Rattle.table.specs.Bounds.{maxRows}
 use Rattle.table.specs.Layout.{endSize, «place»}
 use Rattle.meaning.proofs.Normals.{normal-length, normal-size}
 use Rattle.meaning.specs.NormalTable.{normalFile}
@@ -20,7 +20,9 @@ normal-table-requires c κs = search needs
 abbrev entry : (c : tie.After-normal-table) → tie.Start
 entry c = c .before .before .before .before
 
-there : (c : tie.After-normal-table) → (c .normal-table .result ≤ maxRows) × (place (c .normal-table .result) endSize ≤ length (c .normal-table .last .1 .1 .0))
+-- the table is there, and the half holds it
+there : (c : tie.After-normal-table) → let made = c .normal-table in
+    (made .result ≤ maxRows) × (place (made .result) endSize ≤ length (made .last .1 .1 .0))
 there c =
     let pre = entry c .pre in
     tabled-there _ _ _ _ _ (pre .bounded) (c .normal-table .ensures) (pre .few) (omega (arith, pre .long))

@@ -1,5 +1,5 @@
--- Each half is as long as the longest picture, so what the writer leaves in it is the normal file and zeros, and the upper
--- one begins where the lower one ends.
+-- Each half is as long as the longest picture, so what the writer leaves in it is the normal file and zeros, and the
+-- upper one begins where the lower one ends.
 use Prim.Native.Nat.{_+_}
 use mathlib.Core.Path.{_∙_, refl, sym}
 use native.Mathlib.Omega.{arith}
@@ -74,8 +74,8 @@ returns c =
     let upper = c .before .before .build-half2 in (
       rw (lower .ensures .0, upper .ensures .0),
       halves-built (a .limits) (now (a .first)) (now (a .second)) (now (a .work)) (lower .last .1 .1 .0)
-          (upper .last .1 .1 .0) (half .result) (half .result + half .result) (start .pre .accepted) (half .ensures) refl
-          (lower .ensures .1) (upper .ensures .1),
+          (upper .last .1 .1 .0) (half .result) (half .result + half .result) (start .pre .accepted)
+          (half .ensures) refl (lower .ensures .1) (upper .ensures .1),
     )
 
 pub build-halves-spec : {M : Type 1} → statement M
