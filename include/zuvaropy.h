@@ -47,9 +47,9 @@ extern "C" {
  */
 
 #define ZUVAROPY_VERSION_MAJOR  3
-#define ZUVAROPY_VERSION_MINOR  1
+#define ZUVAROPY_VERSION_MINOR  2
 #define ZUVAROPY_VERSION_PATCH  0
-#define ZUVAROPY_VERSION_STRING "3.1.0"
+#define ZUVAROPY_VERSION_STRING "3.2.0"
 
 /*
  * Pictures and sizes
@@ -197,10 +197,10 @@ extern "C" {
  */
 #define ZUVAROPY_VALIDATE_STACK_BYTES       512
 #define ZUVAROPY_NORMALIZE_STACK_BYTES      (17 * 1024)
-#define ZUVAROPY_SUBSUMES_STACK_BYTES       (25 * 1024)
-#define ZUVAROPY_VERIFY_STACK_BYTES         (37 * 1024)
-#define ZUVAROPY_LCS_STACK_BYTES            (30 * 1024)
-#define ZUVAROPY_MOST_SPECIFIC_STACK_BYTES  (31 * 1024)
+#define ZUVAROPY_SUBSUMES_STACK_BYTES       (13 * 1024)
+#define ZUVAROPY_VERIFY_STACK_BYTES         (24 * 1024)
+#define ZUVAROPY_LCS_STACK_BYTES            (18 * 1024)
+#define ZUVAROPY_MOST_SPECIFIC_STACK_BYTES  (25 * 1024)
 
 /*
  * Codes
@@ -736,8 +736,8 @@ uint64_t zuvaropy_verify(const uint8_t *first, size_t first_len, const uint8_t *
  * The call takes at most ZUVAROPY_MOST_SPECIFIC_STACK_BYTES of stack. The normal
  * table of each card is made once and compared with that of the case. Then each
  * two cards that subsume the case are compared at most once, both ways, and not
- * where one is passed over already. Tables are kept as long as they fit into that
- * stack, those of 32 cards of 23 rows and of a case of 23; others are made again.
+ * where one is passed over already. The tables of such cards are kept as long as
+ * they fit into that stack, those of 32 cards of 15 rows; others are made again.
  */
 ZUVAROPY_MUST_USE
 uint64_t zuvaropy_most_specific(const uint8_t *case_picture, size_t case_picture_len, const uint8_t *book,

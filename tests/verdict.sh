@@ -19,7 +19,7 @@ trap 'rm -rf "$room"' EXIT
 mkdir "$room/files"
 
 # KB of stack for the process. An environment would take some of it.
-stack=112
+stack=100
 
 # lay FIRST SECOND: the two files, in $room/folder. '-' is no file; a folder and a link are copied as such.
 lay() {
