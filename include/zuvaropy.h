@@ -12,7 +12,9 @@
  *
  * A buffer is a pointer and a length in bytes, and has as many bytes as its
  * length says, but a NULL pointer has none whatever the length (see NULL, at the
- * end). A buffer lent for writing overlaps no other buffer of its call.
+ * end). A buffer lent for writing overlaps no other buffer of its call: if it does,
+ * nothing is promised (but see WORK SPACE APART, at the end). A table that stands
+ * in a work space is copied before it is given to a call with that work space.
  *
  * It is proved, for every input, that a call's word and every byte that it writes
  * are what the definitions lay down, and that these mean what is said here: yes
@@ -736,8 +738,9 @@ uint64_t zuvaropy_verify(const uint8_t *first, size_t first_len, const uint8_t *
  * The call takes at most ZUVAROPY_MOST_SPECIFIC_STACK_BYTES of stack. The normal
  * table of each card is made once and compared with that of the case. Then each
  * two cards that subsume the case are compared at most once, both ways, and not
- * where one is passed over already. The tables of such cards are kept as long as
- * they fit into that stack, those of 32 cards of 15 rows; others are made again.
+ * where one is passed over already. The tables of cards that subsume the case are
+ * kept in the order of the book as long as they fit into that stack, those of 32
+ * cards of 15 rows; others are made again, so that long cards had better stand last.
  */
 ZUVAROPY_MUST_USE
 uint64_t zuvaropy_most_specific(const uint8_t *case_picture, size_t case_picture_len, const uint8_t *book,
@@ -774,6 +777,25 @@ static inline size_t zuvaropy_lent_length(const uint8_t *buffer, size_t length)
     return buffer ? length : 0;
 }
 
+/*
+ * WORK SPACE APART
+ *
+ * A call builds its tables in the work space while it still reads the other
+ * buffers. With one of them in it the word would be wrong, and memory that is no
+ * buffer might be written. So the same inline functions make of a work space that
+ * has a byte in common with another buffer of the call one without bytes, which
+ * question 1 refuses. Only the bytes count that a call may write. The library's
+ * functions themselves do not look.
+ */
+
+/* The length of a work space beside another buffer. */
+static inline size_t zuvaropy_lent_work(const uint8_t *work, size_t work_len, const uint8_t *other, size_t other_len)
+{
+    const uintptr_t at = (uintptr_t)work, there = (uintptr_t)other;
+    const size_t length = zuvaropy_lent_length(other, other_len);
+    return length != 0 && (there - at < ZUVAROPY_WORK_BYTES || at - there < length) ? 0 : work_len;
+}
+
 ZUVAROPY_MUST_USE
 static inline uint64_t zuvaropy_validate_lent(const uint8_t *picture, size_t picture_len)
 {
@@ -795,9 +817,14 @@ static inline uint64_t zuvaropy_subsumes_lent(const uint8_t *first, size_t first
                                               size_t second_len, uint8_t *work, size_t work_len, uint8_t *result,
                                               size_t result_len)
 {
+    size_t lent = zuvaropy_lent_length(work, work_len);
+
+    lent = zuvaropy_lent_work(work, lent, first, first_len);
+    lent = zuvaropy_lent_work(work, lent, second, second_len);
+    lent = zuvaropy_lent_work(work, lent, result, ZUVAROPY_MAX_EVIDENCE_BYTES);
     return zuvaropy_subsumes(zuvaropy_lent(first), zuvaropy_lent_length(first, first_len),
                              zuvaropy_lent(second), zuvaropy_lent_length(second, second_len),
-                             zuvaropy_lent_writable(work), zuvaropy_lent_length(work, work_len),
+                             zuvaropy_lent_writable(work), lent,
                              zuvaropy_lent_writable(result), zuvaropy_lent_length(result, result_len));
 }
 #define zuvaropy_subsumes(...) zuvaropy_subsumes_lent(__VA_ARGS__)
@@ -807,9 +834,14 @@ static inline uint64_t zuvaropy_lcs_lent(const uint8_t *first, size_t first_len,
                                          size_t second_len, uint8_t *work, size_t work_len, uint8_t *result,
                                          size_t result_len)
 {
+    size_t lent = zuvaropy_lent_length(work, work_len);
+
+    lent = zuvaropy_lent_work(work, lent, first, first_len);
+    lent = zuvaropy_lent_work(work, lent, second, second_len);
+    lent = zuvaropy_lent_work(work, lent, result, ZUVAROPY_MAX_PICTURE_BYTES);
     return zuvaropy_lcs(zuvaropy_lent(first), zuvaropy_lent_length(first, first_len),
                         zuvaropy_lent(second), zuvaropy_lent_length(second, second_len),
-                        zuvaropy_lent_writable(work), zuvaropy_lent_length(work, work_len),
+                        zuvaropy_lent_writable(work), lent,
                         zuvaropy_lent_writable(result), zuvaropy_lent_length(result, result_len));
 }
 #define zuvaropy_lcs(...) zuvaropy_lcs_lent(__VA_ARGS__)
@@ -819,10 +851,15 @@ static inline uint64_t zuvaropy_verify_lent(const uint8_t *first, size_t first_l
                                             size_t second_len, const uint8_t *evidence, size_t evidence_len,
                                             uint8_t *work, size_t work_len)
 {
+    size_t lent = zuvaropy_lent_length(work, work_len);
+
+    lent = zuvaropy_lent_work(work, lent, first, first_len);
+    lent = zuvaropy_lent_work(work, lent, second, second_len);
+    lent = zuvaropy_lent_work(work, lent, evidence, evidence_len);
     return zuvaropy_verify(zuvaropy_lent(first), zuvaropy_lent_length(first, first_len),
                            zuvaropy_lent(second), zuvaropy_lent_length(second, second_len),
                            zuvaropy_lent(evidence), zuvaropy_lent_length(evidence, evidence_len),
-                           zuvaropy_lent_writable(work), zuvaropy_lent_length(work, work_len));
+                           zuvaropy_lent_writable(work), lent);
 }
 #define zuvaropy_verify(...) zuvaropy_verify_lent(__VA_ARGS__)
 
@@ -830,9 +867,13 @@ ZUVAROPY_MUST_USE
 static inline uint64_t zuvaropy_most_specific_lent(const uint8_t *case_picture, size_t case_picture_len,
                                                    const uint8_t *book, size_t book_len, uint8_t *work, size_t work_len)
 {
+    size_t lent = zuvaropy_lent_length(work, work_len);
+
+    lent = zuvaropy_lent_work(work, lent, case_picture, case_picture_len);
+    lent = zuvaropy_lent_work(work, lent, book, book_len);
     return zuvaropy_most_specific(zuvaropy_lent(case_picture), zuvaropy_lent_length(case_picture, case_picture_len),
                                   zuvaropy_lent(book), zuvaropy_lent_length(book, book_len),
-                                  zuvaropy_lent_writable(work), zuvaropy_lent_length(work, work_len));
+                                  zuvaropy_lent_writable(work), lent);
 }
 #define zuvaropy_most_specific(...) zuvaropy_most_specific_lent(__VA_ARGS__)
 

@@ -518,6 +518,75 @@ static void test_commas(void)
         CHECK_WORD(words[call], (uint64_t)question[call] << 48 | (uint64_t)input[call] << 40, call);
 }
 
+/* One run of bytes, in which a work space and another buffer may have bytes in common. */
+enum { FRONT = 64, AREA = FRONT + ZUVAROPY_WORK_BYTES + FRONT };
+static uint8_t area[AREA], before[AREA];
+
+enum { FIRST, SECOND, EVIDENCE, CASE, BOOK, BUFFERS };
+
+/* A call with the bytes from a place of the area on as one of its buffers. */
+static uint64_t call_with(unsigned int which, size_t at, size_t length, size_t work_length)
+{
+    static const uint8_t map[ZUVAROPY_MAP_BYTES(1)] = {ZUVAROPY_TAG_MAP, 0, 2, 0, 0, ZUVAROPY_TAG_END, 0, 0};
+    const uint8_t *whole = which == BOOK ? book : which == EVIDENCE ? map : bytes, *there = area + at;
+    uint8_t *lent = area + FRONT;
+
+    memset(area, 7, sizeof area);
+    memcpy(area + at, whole, length);
+    memcpy(before, area, sizeof area);
+    if (which == FIRST)
+        return zuvaropy_subsumes(there, length, bytes, sizeof bytes, lent, work_length, evidence, sizeof evidence);
+    if (which == SECOND)
+        return zuvaropy_lcs(bytes, sizeof bytes, there, length, lent, work_length, result, sizeof result);
+    if (which == EVIDENCE)
+        return zuvaropy_verify(bytes, sizeof bytes, bytes, sizeof bytes, there, length, lent, work_length);
+    if (which == CASE)
+        return zuvaropy_most_specific(there, length, book, sizeof book, lent, work_length);
+    return zuvaropy_most_specific(bytes, sizeof bytes, there, length, lent, work_length);
+}
+
+/* A work space that has a byte in common with another buffer is refused, and nothing is written; one beside it, or one
+ * of which only bytes are shared that no call writes, is not. */
+static void test_apart(void)
+{
+    const size_t sizes[BUFFERS] = {sizeof bytes, sizeof bytes, ZUVAROPY_MAP_BYTES(1), sizeof bytes, sizeof book};
+    const uint64_t no_buffer = (uint64_t)1 << 48;
+    const size_t end = FRONT + ZUVAROPY_WORK_BYTES;
+    unsigned int which;
+
+    make_book();
+    for (which = 0; which < BUFFERS; which++) {
+        const size_t size = sizes[which];
+        const size_t shared[] = {FRONT - size + 1, FRONT, FRONT + 1, FRONT + ZUVAROPY_SECOND_TABLE_AT, end - 1};
+        size_t n;
+
+        for (n = 0; n < sizeof shared / sizeof *shared; n++) {
+            CHECK_WORD(call_with(which, shared[n], size, ZUVAROPY_WORK_BYTES), no_buffer, which);
+            CHECK(memcmp(area, before, sizeof area) == 0);
+        }
+        CHECK_WORD(call_with(which, FRONT - size, size, ZUVAROPY_WORK_BYTES) >> 56, 1, which);
+        CHECK_WORD(call_with(which, end, size, ZUVAROPY_WORK_BYTES) >> 56, 1, which);
+        CHECK_WORD(call_with(which, end, size, ZUVAROPY_WORK_BYTES + FRONT) >> 56, 1, which);
+        CHECK_WORD(call_with(which, FRONT + 1, 0, ZUVAROPY_WORK_BYTES) != no_buffer, 1, which);
+    }
+}
+
+/* The same of the result buffer, whose bytes count that may be written. */
+static void test_result_apart(void)
+{
+    static uint8_t both[ZUVAROPY_MAX_EVIDENCE_BYTES + ZUVAROPY_WORK_BYTES];
+    const uint64_t no_buffer = (uint64_t)1 << 48;
+    const size_t length = sizeof bytes, room = ZUVAROPY_MAX_EVIDENCE_BYTES, size = ZUVAROPY_WORK_BYTES;
+    uint8_t *behind = both + room, *after = both + size;
+
+    make_picture();
+    CHECK_WORD(zuvaropy_subsumes(bytes, length, bytes, length, behind, size, both, room) >> 56, 1, 0);
+    CHECK_WORD(zuvaropy_subsumes(bytes, length, bytes, length, behind, size, both, sizeof both) >> 56, 1, 0);
+    CHECK_WORD(zuvaropy_subsumes(bytes, length, bytes, length, behind - 1, size, both, room), no_buffer, 0);
+    CHECK_WORD(zuvaropy_lcs(bytes, length, bytes, length, both, size, after - 1, room), no_buffer, 0);
+    CHECK_WORD(zuvaropy_lcs(bytes, length, bytes, length, both, size, after, room) >> 56, 1, 0);
+}
+
 int main(void)
 {
     test_version();
@@ -538,6 +607,8 @@ int main(void)
     test_lcs();
     test_most_specific();
     test_commas();
+    test_apart();
+    test_result_apart();
 #ifdef __cplusplus
     return check_summary("header as C++");
 #else
