@@ -307,7 +307,8 @@ static inline unsigned int zuvaropy_parts_count_fields(const uint8_t *file, size
  * Tables: pictures, normal tables, common pictures. So many bytes may be more than
  * the table has. After a call on two pictures there is one in each half of the
  * work space: give ZUVAROPY_MAX_PICTURE_BYTES as the length, and work or
- * work + ZUVAROPY_SECOND_TABLE_AT.
+ * work + ZUVAROPY_SECOND_TABLE_AT. To give it to a call, copy it from there; its own
+ * length is ZUVAROPY_PICTURE_BYTES(rows).
  */
 
 /* The number of rows. */
