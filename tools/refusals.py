@@ -23,7 +23,8 @@ ROOT = os.path.dirname(os.path.dirname(os.path.abspath(__file__)))
 FIRST = re.compile(r'^(?:\S*/)?((?:proofs|specs|src)/\S+?):\d+:\d+: error: (?:`([^`]+)`: )?(.*)', re.M)
 # of a function that is proved without a file
 UNANSWERED = re.compile(r'^note: what antt said .*? made: (?:\S*/)?(src/\S+?):\d+:\d+: `([^`]+)`: (.*)', re.M)
-UNFIT = re.compile('that can be named from here|not in scope|was not admitted')
+# what is said where an edit changes the code's shape and the proof's text no longer fits it
+UNFIT = re.compile('that can be named from here|not in scope|was not admitted|has no field|expected type `tie[.]')
 
 
 def claim(crate, edit):

@@ -1,5 +1,5 @@
-// The tables of cards while these are compared: each stands in the array of tables or, where that has had no room for
-// it, in the work space.
+// The tables of cards while these are compared: each stands in the cache or, where that has had no room for it, in the
+// work space.
 use book_form::form::MAX_CARDS;
 use book_form::form::card;
 use book_form::form::find_cards;

@@ -50,16 +50,16 @@ pub record Cached (limits : Limits) (book tables spans : List ℕ) (at : ℕ) : 
 abbrev pub withSpan : List ℕ → ℕ → ℕ → ℕ → List ℕ
 withSpan spans k start rows = set (set spans k start) (mostCards + k) rows
 
-pub record Storable (scratch : List ℕ) (m k at : ℕ) (tables spans : List ℕ) : Type 0 where
+pub record Storable (part : List ℕ) (m k at : ℕ) (tables spans : List ℕ) : Type 0 where
   pub few : m ≤ maxRows
-  pub whole : place m endSize ≤ length scratch
+  pub whole : place m endSize ≤ length part
   pub below : k < mostCards
   pub inside : at ≤ length tables
   pub spanned : length spans ≡ mostCards + mostCards
 
 abbrev pub Stored : List ℕ → ℕ → ℕ → ℕ → List ℕ → List ℕ → ℕ → List ℕ → List ℕ → Type 0
-Stored scratch m k at tables spans r tables₂ spans₂ =
-    (limits : Limits) (book : List ℕ) → Cached limits book tables spans at → TableAt limits (card book k) scratch m →
+Stored part m k at tables spans r tables₂ spans₂ =
+    (limits : Limits) (book : List ℕ) → Cached limits book tables spans at → TableAt limits (card book k) part m →
     Cached limits book tables₂ spans₂ r
 
 pub record Findable (limits : Limits) (case book : List ℕ) (cards : Cards) (work : List ℕ) : Type 0 where

@@ -27,15 +27,15 @@ pub fn keep_span(k: usize, start: usize, rows: usize, spans: &mut [usize; SPANS]
 
 // Stores the table of card k, of m rows, if it fits after those that end at a place; the place where all end then.
 pub fn store(
-    scratch: &[u8],
+    part: &[u8],
     m: usize,
     k: usize,
     at: usize,
     tables: &mut [u8],
     spans: &mut [usize; SPANS],
 ) -> usize
-    requires { ⌜ Storable (now scratch) m k at (now tables) (now spans) ⌝ }
-    ensures { λ r. ⌜ (Stored (now (scratch .entry)) m k at (now (tables .entry)) (now (spans .entry)) r
+    requires { ⌜ Storable (now part) m k at (now tables) (now spans) ⌝ }
+    ensures { λ r. ⌜ (Stored (now (part .entry)) m k at (now (tables .entry)) (now (spans .entry)) r
         (now (tables .exit)) (now (spans .exit)))
         × (length (now (tables .exit)) ≡ length (now (tables .entry))) ⌝ }
 {
@@ -43,7 +43,7 @@ pub fn store(
     if tables.len() - at < size {
         return at;
     }
-    copy_in(tables, at, &scratch[..size]);
+    copy_in(tables, at, &part[..size]);
     keep_span(k, at, m, spans);
     at + size
 }

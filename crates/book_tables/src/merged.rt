@@ -13,6 +13,7 @@ ghost use Rattle.normal.specs.Call.{mergedAsked};
 ghost use Rattle.book.specs.Call.{cardMerged};
 ghost use Rattle.book_tables.specs.Tables.{AllRead, CardsRead};
 
+// 14 of each card in turn.
 fn ask_cards(book: &[u8], cards: Cards, limits: Limits) -> Asked
     requires { ⌜ (Bounded limits) × (CardsRead limits (now book) cards) ⌝ }
     ensures { λ r. ⌜ r ≡ askedFrom (cardMerged limits (now (book .entry))) (cards .count) 0 ⌝ }
@@ -27,6 +28,7 @@ fn ask_cards(book: &[u8], cards: Cards, limits: Limits) -> Asked
     Asked::Yes
 }
 
+// 14 of the case, and then those. Nothing is lent for writing here, so that a refusal writes nothing.
 pub fn ask_merged(case: &[u8], book: &[u8], cards: Cards, limits: Limits) -> Asked
     requires { ⌜ AllRead limits (now case) (now book) cards ⌝ }
     ensures { λ r. ⌜ r ≡ andThen (mergedAsked limits Input.First (now (case .entry)))

@@ -36,7 +36,7 @@ use Rattle.row_sets.proofs.PartLaws.{unused-roles, value-none, value-one}
 use Rattle.row_sets.proofs.Roots.{merged-root}
 use Rattle.merged_count.specs.Count.{Beside, Counting, Counts, ExistsCounted, HungFrom}
 use Rattle.merged_count.specs.Count.{besideSize, roleAt, treeSize}
-use Rattle.merged_count.specs.declared.count.Parts.{Parts}
+use Rattle.merged_count.specs.declared.count.RoleParts.{RoleParts}
 use Rattle.merged_count.proofs.Hangings.{beside-size, tree-size}
 
 pub leaf-size : (s : List ℕ) (rows : ℕ) (successors : Successors) → Known s rows successors →
@@ -49,7 +49,7 @@ pub counting-on : (s : List ℕ) (rows : ℕ) (links masks : List ℕ) (limit me
 counting-on s rows links masks limit merged counted counting l =
     record { surveyed = counting .surveyed; limit-most = counting .limit-most; counted = l }
 
-pub beside-on : (s : List ℕ) (rows : ℕ) (links masks : List ℕ) (depth limit merged counted : ℕ) (parts : Parts) →
+pub beside-on : (s : List ℕ) (rows : ℕ) (links masks : List ℕ) (depth limit merged counted : ℕ) (parts : RoleParts) →
     Beside s rows links masks depth limit merged parts → merged ≤ counted → counted ≤ suc limit →
     Beside s rows links masks depth limit counted parts
 beside-on s rows links masks depth limit merged counted parts beside rises fits =
@@ -121,13 +121,13 @@ module _ (s : List ℕ) (rows depth : ℕ) (successors : Successors) (known : Kn
 -- ---- the some-successors of one role
 
 -- those before row j were counted
-pub record Turning (s : List ℕ) (rows depth : ℕ) (parts : Parts) (limit merged counted j : ℕ) : Type 0 where
+pub record Turning (s : List ℕ) (rows depth : ℕ) (parts : RoleParts) (limit merged counted j : ℕ) : Type 0 where
   pub counts : ExistsCounted s rows depth parts limit merged (min j rows) counted
   pub held : j < rows → holds (parts .some) j ≡ true
   pub rises : merged ≤ counted
   pub fits : counted ≤ suc limit
 
-module _ (s : List ℕ) (rows depth : ℕ) (parts : Parts) (limit merged : ℕ) where
+module _ (s : List ℕ) (rows depth : ℕ) (parts : RoleParts) (limit merged : ℕ) where
   abbrev upto : (ℕ → Bool) → ℕ → ℕ → Forest pictureSignature
   upto q role n = existsPartAt s rows depth role (holds (parts .some)) q n
 

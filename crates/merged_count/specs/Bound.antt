@@ -2,7 +2,7 @@
 --   total      the sum of f over the rows below n that pass a test
 --   keyCount   as many keys as there are
 --   keyBelow   the key of a row, by that of its parent and its role
---   Keyed      each row has its key
+--   Keyed      each row after the first has its key; the first has any
 --   someOf     the some-rows of one key
 --   Tallied    for each key their number
 --   timesOf    how often what hangs below a row may stand in the merged table: once below a some-row; below an all-row

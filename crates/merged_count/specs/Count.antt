@@ -25,7 +25,7 @@ use Rattle.row_sets.specs.Parts.{capped, existsPartAt, partsAt, successorsAt}
 use Rattle.row_sets.specs.Rows.{Checked, Known, Next, Surveyed, hangs, holds, ofRole}
 use Rattle.row_sets.specs.declared.rows.RowSet.{RowSet}
 use Rattle.row_sets.specs.declared.rows.Successors.{Successors}
-use Rattle.merged_count.specs.declared.count.Parts.{Parts}
+use Rattle.merged_count.specs.declared.count.RoleParts.{RoleParts}
 
 abbrev pub Counts : ℕ → ℕ → Forest pictureSignature → ℕ → Type 0
 Counts limit merged f r = r ≡ capped limit (merged + sizes pictureSignature f)
@@ -60,14 +60,14 @@ pub record OneRole (set : RowSet) (role : ℕ) : Type 0 where
   pub role-below : role < roles
   pub rootless : holds set 0 ≡ false
 
-pub record Beside (s : List ℕ) (rows : ℕ) (links masks : List ℕ) (depth limit merged : ℕ) (parts : Parts) : Type 0 where
+pub record Beside (s : List ℕ) (rows : ℕ) (links masks : List ℕ) (depth limit merged : ℕ) (parts : RoleParts) : Type 0 where
   pub counting : Counting s rows links masks limit merged
   pub known : Known s rows (parts .below)
   pub each-most : parts .each ≤ suc limit
   pub each-is :
       capped limit (merged + parts .each) ≡ capped limit (merged + treeSize s rows depth (holds (parts .below .set)))
 
-abbrev pub ExistsCounted : List ℕ → ℕ → ℕ → Parts → ℕ → ℕ → ℕ → ℕ → Type 0
+abbrev pub ExistsCounted : List ℕ → ℕ → ℕ → RoleParts → ℕ → ℕ → ℕ → ℕ → Type 0
 ExistsCounted s rows depth parts limit merged n r =
     (q : ℕ → Bool) (role : ℕ) → HungFrom s rows q (parts .below) →
     Counts limit merged (existsPartAt s rows depth role (holds (parts .some)) q n) r

@@ -1,4 +1,5 @@
-// An upper bound on the merged rows, which settles most pictures.
+// An upper bound on the merged rows, which settles most pictures. That it is one is promised, not that it is low: a
+// bound above the limit costs a count.
 use table::layout::Limits;
 use table::layout::MAX_ROWS;
 use table::layout::NUMBER_SIZE;
@@ -21,6 +22,7 @@ ghost use Rattle.meaning.specs.NormalTable.{mergedCount};
 ghost use Rattle.merged_count.specs.Bound.{keyBelow, keyCount, timesOf};
 ghost use Rattle.merged_count.specs.Weighing.{Blank, Filled, Later, Weighable};
 
+// More keys than rows, so that few paths of roles share one by chance.
 pub const KEYS: usize = 1024;
 
 // A key, with its range.
@@ -30,7 +32,8 @@ fn index(x: u16) -> usize
     x as usize
 }
 
-// The key of a row, by that of its parent and its role.
+// The key of a row, by that of its parent and its role. Any function would do; this one is a few instructions, keeps
+// short paths of few roles apart, and gives no path the root's key at once.
 fn key_below(key: usize, role: u8) -> usize
     requires { ⌜ key < keyCount ⌝ }
     ensures { λ r. ⌜ (r ≡ keyBelow key role) × (r < keyCount) ⌝ }
@@ -38,7 +41,8 @@ fn key_below(key: usize, role: u8) -> usize
     (9 * key + wide(role) as usize + 1) % KEYS
 }
 
-// The parent of row j by its last byte: it stands before its row, so that the byte before that is 0.
+// The parent of row j by its last byte: it stands before its row, so that the byte before that is 0. To read one byte in
+// place of two makes both passes a fifth shorter.
 fn above(s: &[u8], rows: usize, j: usize) -> usize
     requires { ⌜ Later (now s) rows j ⌝ }
     ensures { λ r. ⌜ (r ≡ parentOf (now (s .entry)) j) × (r < j) ⌝ }
@@ -46,8 +50,8 @@ fn above(s: &[u8], rows: usize, j: usize) -> usize
     wide(s[place(j, PARENT_AT + NUMBER_SIZE - 1)]) as usize
 }
 
-// 1 of a some-row, 0 of an all-row.
-fn some(s: &[u8], rows: usize, j: usize) -> u8
+// 1 of a some-row, 0 of an all-row; the kind is one of two after 9, and this needs no branch.
+fn some_count(s: &[u8], rows: usize, j: usize) -> u8
     requires { ⌜ Later (now s) rows j ⌝ }
     ensures { λ r. ⌜ (r ≡ pick (eqb (kindOf (now (s .entry)) j) kindExists) 1 0) × (r ≤ 1) ⌝ }
 {
@@ -63,7 +67,7 @@ fn fill_keys(s: &[u8], rows: usize, keys: &mut [u16; MAX_ROWS], somes: &mut [u8;
     while j < rows {
         let key = key_below(index(keys[above(s, rows, j)]), role(s, j));
         keys[j] = key as u16;
-        somes[key] = somes[key] + some(s, rows, j);
+        somes[key] = somes[key] + some_count(s, rows, j);
         j += 1;
     }
 }
@@ -73,7 +77,7 @@ fn times(s: &[u8], rows: usize, keys: &[u16; MAX_ROWS], somes: &[u8; KEYS], j: u
     requires { ⌜ (Later (now s) rows j) × (getD (now keys) j 0 < keyCount) ⌝ }
     ensures { λ r. ⌜ (r ≡ timesOf (now (s .entry)) (now (keys .entry)) (now (somes .entry)) j) × (r ≤ 256) ⌝ }
 {
-    let all = 1 - wide(some(s, rows, j)) as usize;
+    let all = 1 - wide(some_count(s, rows, j)) as usize;
     1 + all * (wide(somes[index(keys[j])]) as usize)
 }
 

@@ -21,7 +21,7 @@ ghost use Rattle.merged_count.specs.Count.{Beside, Counting, Counts, Exi
 ghost use Rattle.merged_count.specs.Count.{OneRole, besideSize, roleAt, treeSize};
 
 // Of one role: the some-successors, what hangs from A, and the merged rows of a set from which the same hangs.
-struct Parts {
+struct RoleParts {
     some: RowSet,
     below: Successors,
     each: usize,
@@ -126,7 +126,7 @@ fn count_role(
     let below = hung(s, rows, links, all, first);
     let whole = count_row(s, rows, limit, links, masks, below, depth, merged);
     let each = whole - merged;
-    let parts = Parts { some, below, each };
+    let parts = RoleParts { some, below, each };
     let counted = if first < rows { whole } else { merged };
     count_exists(s, rows, limit, links, masks, parts, depth, counted)
 }
@@ -138,7 +138,7 @@ fn count_exists(
     limit: usize,
     links: &[u8; LINKS],
     masks: &[u64; MASKS],
-    parts: Parts,
+    parts: RoleParts,
     depth: usize,
     merged: usize,
 ) -> usize
@@ -165,7 +165,7 @@ fn count_beside(
     limit: usize,
     links: &[u8; LINKS],
     masks: &[u64; MASKS],
-    parts: Parts,
+    parts: RoleParts,
     depth: usize,
     merged: usize,
     c: usize,

@@ -4,7 +4,7 @@
 --   none-many, some-few                no row says that 14 is answered no, any other number that it is answered yes
 --   rows-few                           then the rows are those of the normal table
 --   tabled-fits, tabled-there          the table fits a half, and so the part
---   tabled-file, tabled-checked        it is the normal file, and has all that a search needs
+--   tabled-file                        it is the normal file
 use Prim.Native.Nat.{_+_, _<_, _≤_, ℕ}
 use borrow.Author.Tests.{le-leb, leb-true, lt-leb}
 use lib.Dec.{leb}
@@ -12,7 +12,7 @@ use lib.ListN.{length, take}
 use lib.Seq.{length-take-le}
 use mathlib.Core.Bool.{Bool, false}
 use mathlib.Core.List.{List, _++_}
-use mathlib.Core.Path.{_∙_, _≡_, ap, subst, sym}
+use mathlib.Core.Path.{_∙_, _≡_, ap, sym}
 use native.Mathlib.Omega.{arith}
 use Rattle.ale.specs.PictureSignature.{pictureSignature}
 use Rattle.ale.specs.Tree.{size}
@@ -113,7 +113,3 @@ module _ (limits : Limits) (s out : List ℕ) where
       module _ (n : ℕ) (is : n ≡ place r endSize) where
         pub tabled-file : take n end ≡ normalFile limits s
         tabled-file = ap (λ (k : ℕ). take k end) is ∙ tabled .file few
-
-        pub tabled-checked : Checked (take n end) r
-        tabled-checked =
-            subst (λ t. Checked t r) (sym tabled-file) (subst (λ m. Checked (normalFile limits s) m) (sym (rows-few few)) (normal-checked few))

@@ -1,4 +1,4 @@
--- What building a normal table in a scratch table does: the merged rows are counted up to the limit and one more, and within the limit
+-- What building a normal table in a lent part does: the merged rows are counted up to the limit and one more, and within the limit
 -- the rows of the normal table stand at its start. Nobody has to believe this.
 use Prim.Native.Nat.{_≤_, ℕ}
 use lib.ListN.{length}

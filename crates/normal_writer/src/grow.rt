@@ -279,10 +279,10 @@ fn graft_exists(
     grown
 }
 
-// Builds the normal table of a picture in a scratch table, from its first byte on.
-pub fn build(s: &[u8], rows: usize, limits: Limits, scratch: &mut [u8]) -> Branch
-    requires { ⌜ (Checked (now s) rows) × ((Bounded limits) × («place» (limits .rows) 0 ≤ length (now scratch))) ⌝ }
-    ensures { λ r. ⌜ Built limits (now (s .entry)) (now (scratch .entry)) r (now (scratch .exit)) ⌝ }
+// Builds the normal table of a picture in a lent part, from its first byte on.
+pub fn build(s: &[u8], rows: usize, limits: Limits, out: &mut [u8]) -> Branch
+    requires { ⌜ (Checked (now s) rows) × ((Bounded limits) × («place» (limits .rows) 0 ≤ length (now out))) ⌝ }
+    ensures { λ r. ⌜ Built limits (now (s .entry)) (now (out .entry)) r (now (out .exit)) ⌝ }
 {
     let mut links = [0u8; LINKS];
     fill_links(s, rows, &mut links);
@@ -308,7 +308,7 @@ pub fn build(s: &[u8], rows: usize, limits: Limits, scratch: &mut [u8]) -> Branc
         &masks,
         root,
         limits.depth,
-        scratch,
+        out,
         branch,
         edge,
     )

@@ -28,8 +28,8 @@ pub const SCRATCH: usize = ROW_SIZE * MAX_ROWS;
 // The same with the end field.
 pub const TABLE: usize = SCRATCH + END_SIZE;
 
-// Writes the normal table of a picture, and gives its rows; 0 if 14 is answered no, for a table has a row. What else the
-// part holds then is not said, so it is never a buffer that the caller keeps.
+// Writes the normal table of a picture, and gives its rows; 0 if 14 is answered no, for a table has a row. What the part
+// holds past the table, or then, is not said: a buffer of the caller's is lent only once 14 is answered yes.
 pub fn normal_table(picture: &[u8], limits: Limits, out: &mut [u8]) -> usize
     requires { ⌜ TableRoom limits (now picture) (now out) ⌝ }
     ensures { λ r. ⌜ Tabled limits (now (picture .entry)) (now (out .entry)) r (now (out .exit)) ⌝ }

@@ -24,11 +24,11 @@ returns c = ((λ limits book so table. so), refl)
 
 -- the part that is copied has as many bytes as the table takes
 part-long : (c : tie.After-copy-in-arg2) → let size = c .before .before .before .place .result in
-    length (take size (now (c .before .before .before .before .before .before .args .scratch))) ≡ size
+    length (take size (now (c .before .before .before .before .before .before .args .part))) ≡ size
 part-long c =
     let start = c .before .before .before .before .before .before in
     let size = c .before .before .before .place in
-    length-take-le (size .result) (now (start .args .scratch)) (omega (arith, size .ensures, start .pre .whole))
+    length-take-le (size .result) (now (start .args .part)) (omega (arith, size .ensures, start .pre .whole))
 
 slice-aggregate-copy-in : tie.Need-slice-aggregate-copy-in
 slice-aggregate-copy-in c = sym (part-long c)
@@ -59,11 +59,11 @@ returns-2 c =
       (λ limits book so table.
           subst (λ (s : List ℕ). Cached limits book (copied .copy-in .last .0) s (a .at + size .result))
           (sym (c .keep-span .ensures))
-          (cached-stored limits book (now (a .tables)) (now (a .spans)) (a .at) so (now (a .scratch)) (a .m) (a .k)
+          (cached-stored limits book (now (a .tables)) (now (a .spans)) (a .at) so (now (a .part)) (a .m) (a .k)
           (size .result) (copied .copy-in .last .0) (pre .below) table (size .ensures)
           (omega (arith, size .ensures, pre .whole)) (omega (arith, room, pre .inside)) put-there)),
       ap length put-there
-          ∙ length-put (now (a .tables)) (a .at) (take (size .result) (now (a .scratch)))
+          ∙ length-put (now (a .tables)) (a .at) (take (size .result) (now (a .part)))
           (omega (arith, part-long (copied .before), room, pre .inside)),
     )
 

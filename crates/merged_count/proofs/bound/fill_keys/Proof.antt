@@ -63,8 +63,8 @@ element-write-keys c = inside (c .before .before .before .before .before)
 element-copy-out-somes : tie.Need-element-copy-out-somes Inv-loop μ-loop
 element-copy-out-somes c = c .key-below .ensures .1
 
-some-requires : tie.Need-some-requires Inv-loop μ-loop
-some-requires c κs = later (c .before .before .before .before .before .before)
+some-count-requires : tie.Need-some-count-requires Inv-loop μ-loop
+some-count-requires c κs = later (c .before .before .before .before .before .before)
 
 add-somes : tie.Need-add-somes Inv-loop μ-loop
 add-somes c =
@@ -73,7 +73,7 @@ add-somes c =
     let a = d .before .before .before .args in
     let l = d .before .loop in
     let room = key-room (now (a .s)) (a .rows) (l .j) (key .result) (l .keys) (l .somes) (l .inv) (key .ensures .1) in
-    omega (arith, room, inside d, c .some .ensures .1)
+    omega (arith, room, inside d, c .some-count .ensures .1)
 
 element-write-somes : tie.Need-element-write-somes Inv-loop μ-loop
 element-write-somes c = c .before .before .key-below .ensures .1
@@ -95,9 +95,9 @@ loop-again c =
     let l = d .before .loop in
     let s = now (start .args .s) in
     let rows = start .args .rows in
-    key-next s rows (l .j) (parent .result) (index .result) (role .result) (key .result) (c .some .result) (l .keys)
+    key-next s rows (l .j) (parent .result) (index .result) (role .result) (key .result) (c .some-count .result) (l .keys)
     (l .somes) (start .pre .checked) (d .loop-test .taken) (l .inv) (parent .ensures .0) (index .ensures .0)
-    (role .ensures) (key .ensures .0) (key .ensures .1) (c .some .ensures .0)
+    (role .ensures) (key .ensures .0) (key .ensures .1) (c .some-count .ensures .0)
 
 returns : tie.Need-returns Inv-loop μ-loop
 returns c =
@@ -122,7 +122,7 @@ fill-keys-spec =
     mul-keys
     element-write-keys
     element-copy-out-somes
-    some-requires
+    some-count-requires
     add-somes
     element-write-somes
     add-j

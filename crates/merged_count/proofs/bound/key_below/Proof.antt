@@ -1,5 +1,4 @@
 -- The remainder is the key, the role being read as a number.
-use Prim.Native.Nat.{_%_, _*_, _+_, ℕ}
 use native.Mathlib.Omega.{arith}
 use borrow.Author.Needs.{needs}
 use mathlib.Core.Path.{ap}
@@ -21,7 +20,7 @@ add-result-2 c = search needs
 
 returns : tie.Need-returns
 unfolding keyBelow
-returns c = (ap (λ (n : ℕ). (9 * c .before .args .key + n + 1) % 1024) (c .wide .ensures .0), omega arith)
+returns c = (ap (keyBelow (c .before .args .key)) (c .wide .ensures .0), omega arith)
 
 pub key-below-spec : {M : Type 1} → statement M
 key-below-spec = tie.close (tie.spec mul-result wide-requires add-result add-result-2 returns)

@@ -14,14 +14,14 @@ use Rattle.merged_count.proofs.Weighings.{times-is}
 use Rattle.merged_count.proofs.bound.times.Statement.{statement}
 use Rattle.merged_count.proofs.bound.times.Tie as tie
 
-some-requires : tie.Need-some-requires
-some-requires c κs = search needs
+some-count-requires : tie.Need-some-count-requires
+some-count-requires c κs = search needs
 
 wide-requires : tie.Need-wide-requires
 wide-requires c κs = search needs
 
 sub-all : tie.Need-sub-all
-sub-all c = omega (arith, c .wide .ensures .0, c .before .some .ensures .1)
+sub-all c = omega (arith, c .wide .ensures .0, c .before .some-count .ensures .1)
 
 mul-index : tie.Need-mul-index
 mul-index c = search needs
@@ -54,7 +54,7 @@ returns : tie.Need-returns
 returns c =
     let a = c .before .before .before .before .before .before .before .args in
     let wide = c .before .before .before .before .wide in
-    let some = c .before .before .before .before .before .some in
+    let some = c .before .before .before .before .before .some-count in
     let index = c .before .before .index in
     let is-some = eqb (kindOf (now (a .s)) (a .j)) kindExists in
     let number = c .wide2 .ensures .0 ∙ ap (λ (k : ℕ). getD (now (a .somes)) k 0) (index .ensures .0) in (
@@ -67,7 +67,7 @@ pub times-spec : {M : Type 1} → statement M
 times-spec =
     tie.close
     (tie.spec
-    some-requires
+    some-count-requires
     wide-requires
     sub-all
     mul-index

@@ -62,7 +62,7 @@ returns c =
     let none = c .before .before .before .before .before .before .before .before .none in
     let root = c .before .before .before .before .before .before .add in
     let graft = c .before .before .graft in
-    grown-built (a .limits) (now (a .s)) (a .rows) _ (graft .result) (now (a .scratch)) _ (start .pre .0 .some) new refl (graft .ensures (also 0 (λ j. false)) (valued-with (now (a .s)) (a .rows) (λ j. false) (none .result) 0 (root .result) (start .pre .0 .some) (valued-none (now (a .s)) (a .rows) (none .result) (none .ensures .0) (none .ensures .1 .1)) (root .ensures)))
+    grown-built (a .limits) (now (a .s)) (a .rows) _ (graft .result) (now (a .out)) _ (start .pre .0 .some) new refl (graft .ensures (also 0 (λ j. false)) (valued-with (now (a .s)) (a .rows) (λ j. false) (none .result) 0 (root .result) (start .pre .0 .some) (valued-none (now (a .s)) (a .rows) (none .result) (none .ensures .0) (none .ensures .1 .1)) (root .ensures)))
 
 pub build-spec : {M : Type 1} → statement M
 build-spec =

@@ -9,8 +9,8 @@ use mathlib.Core.Path.{_∙_, _≡_, ap}
 use Rattle.table.specs.Fields.{kindOf}
 use Rattle.table.specs.Layout.{kindExists, kindForAll}
 use Rattle.table.specs.Pick.{pick}
-use Rattle.merged_count.proofs.bound.some.Statement.{statement}
-use Rattle.merged_count.proofs.bound.some.Tie as tie
+use Rattle.merged_count.proofs.bound.some_count.Statement.{statement}
+use Rattle.merged_count.proofs.bound.some_count.Tie as tie
 
 some-is : (kind : ℕ) → (kind ≡ kindExists) ⊎ (kind ≡ kindForAll) → kind % 2 ≡ pick (eqb kind kindExists) 1 0
 some-is kind (inl e) = rw e
@@ -27,5 +27,5 @@ returns c =
     let kinds = later .checked .kinds (a .j) (later .later) (later .inside) in
     (ap (λ (n : ℕ). n % 2) (c .kind .ensures) ∙ some-is (kindOf (now (a .s)) (a .j)) kinds, omega arith)
 
-pub some-spec : {M : Type 1} → statement M
-some-spec = tie.close (tie.spec kind-requires returns)
+pub some-count-spec : {M : Type 1} → statement M
+some-count-spec = tie.close (tie.spec kind-requires returns)
