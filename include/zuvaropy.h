@@ -788,10 +788,20 @@ static inline size_t zuvaropy_lent_length(const uint8_t *buffer, size_t length)
  * functions themselves do not look.
  */
 
+/* Where a buffer begins, as a number. */
+static inline uintptr_t zuvaropy_lent_at(const uint8_t *buffer)
+{
+#ifdef __cplusplus
+    return reinterpret_cast<uintptr_t>(buffer);
+#else
+    return (uintptr_t)buffer;
+#endif
+}
+
 /* The length of a work space beside another buffer. */
 static inline size_t zuvaropy_lent_work(const uint8_t *work, size_t work_len, const uint8_t *other, size_t other_len)
 {
-    const uintptr_t at = (uintptr_t)work, there = (uintptr_t)other;
+    const uintptr_t at = zuvaropy_lent_at(work), there = zuvaropy_lent_at(other);
     const size_t length = zuvaropy_lent_length(other, other_len);
     return length != 0 && (there - at < ZUVAROPY_WORK_BYTES || at - there < length) ? 0 : work_len;
 }
