@@ -38,6 +38,8 @@ fn input_code(input: Input) -> u8
         Input::Evidence => 3,
         Input::Book => 4,
         Input::Card(_) => 5,
+        Input::Definitions => 6,
+        Input::Definition(_) => 7,
     }
 }
 
@@ -51,6 +53,8 @@ fn card_of(input: Input) -> u8
         Input::Evidence => 0,
         Input::Book => 0,
         Input::Card(card) => card,
+        Input::Definitions => 0,
+        Input::Definition(definition) => definition,
     }
 }
 

@@ -28,7 +28,8 @@ use Rattle.normal.specs.Call.{mergedAsked}
 use Rattle.order.specs.Preorder.{minimal, passedOver}
 use Rattle.book.specs.Call.{bookAsked, mostSpecificAnswer, mostSpecificWork}
 use Rattle.book.specs.Form.{bookForm, card, cardAt, cardCount, cardsFrom, fieldPlace}
-use Rattle.book.specs.Selection.{cardWord, mostSpecific, mostSpecificCards}
+use Rattle.table.specs.NameSet.{setBelow}
+use Rattle.book.specs.Selection.{mostSpecific, mostSpecificCards}
 use Rattle.book.specs.declared.answer.Selected.{Selected}
 use Rattle.book.specs.declared.answer.Selected.the-variants.{Cards, Refused}
 
@@ -187,6 +188,6 @@ cases =
 pub all-pass : runAll cases ≡ cases
 unfolding be endsAt put zeros some depthIn depth tagOk lengthFor kindOk roleOk parentOk valueField rowField endField fieldAt
     scanFrom readingOf rowCount mergedTree mergedCount normalTreeOf covers
-    fieldPlace card cardAt cardsFrom cardCount bookForm passedOver minimal mostSpecific cardWord mostSpecificCards
+    fieldPlace card cardAt cardsFrom cardCount bookForm passedOver minimal mostSpecific setBelow mostSpecificCards
     askedFrom readAsked mergedAsked bookAsked mostSpecificAnswer
 all-pass = refl

@@ -1,6 +1,5 @@
 -- The laws of card books, by subject.
 -- the words of cards
-pub mod CardWords
 -- the form of a book
 pub mod Forms
 pub mod WrittenBooks

@@ -33,7 +33,7 @@ use Rattle.table.specs.declared.layout.Limits.{Limits}
 use Rattle.book.specs.Call.{AcceptableBook}
 use Rattle.book.specs.Form.{card, cardCount, mostCards}
 use Rattle.book.specs.Selection.{MostSpecific, PassedOver, cardCovers, caseCovered, mostSpecific, mostSpecificCards}
-use Rattle.book.proofs.CardWords.{cardWord-below, cardWord-some, has-cardWord}
+use Rattle.table.proofs.SetsBelow.{has-setBelow, setBelow-below, setBelow-some}
 use Rattle.book.proofs.Forms.{count-most}
 
 module _ (limits : Limits) (book : List ℕ)
@@ -54,14 +54,14 @@ module _ (limits : Limits) (book : List ℕ)
 module _ (limits : Limits) (case book : List ℕ) where
   pub has-selected : (n : ℕ) → has (mostSpecificCards limits case book) n ≡ (ltb n (cardCount book) && mostSpecific limits case book n)
   unfolding mostSpecificCards
-  has-selected = has-cardWord (mostSpecific limits case book) (cardCount book)
+  has-selected = has-setBelow (mostSpecific limits case book) (cardCount book)
 
   pub past-last : (n : ℕ) → cardCount book ≤ n → has (mostSpecificCards limits case book) n ≡ false
   past-last n l = has-selected n ∙ rw (le-ltb n (cardCount book) l)
 
   pub word-below : mostSpecificCards limits case book < 2 ^ mostCards
   unfolding mostSpecificCards
-  word-below = lt-of-lt-of-le (cardWord-below (mostSpecific limits case book) (cardCount book)) (pow-mono (count-most book))
+  word-below = lt-of-lt-of-le (setBelow-below (mostSpecific limits case book) (cardCount book)) (pow-mono (count-most book))
 
   -- ---- by meaning
 
@@ -144,7 +144,7 @@ module _ (limits : Limits) (case book : List ℕ) where
         ↔ ((k : ℕ) × (k < cardCount book) × Covers limits (card book k) case)
     unfolding mostSpecificCards
     some-exactly = (
-      λ u. let (k, l, test) = cardWord-some (mostSpecific limits case book) (cardCount book) u in
+      λ u. let (k, l, test) = setBelow-some (mostSpecific limits case book) (cardCount book) u in
           (k, l, card-is k l .0 test .covers-case),
       λ (k, l, c) e.
           let (n, most, _) = below-each k l c in

@@ -17,7 +17,7 @@ use Rattle.table.proofs.Bits.{bit-below, bit-bound, bit-complement}
 use Rattle.table.proofs.Bools.{by-test, or-none}
 use Rattle.table.specs.NameSet.{bit, has}
 use Rattle.book_form.specs.Places.{With, WithEach}
-use Rattle.book.proofs.CardWords.{and-all}
+use Rattle.table.proofs.SetsBelow.{and-all}
 
 pub with-bit : (word k r i : ℕ) → r ≡ 2 ^ k → has (bitOr word r) i ≡ (has word i || eqb i k)
 with-bit word k r i e = has-union word r i ∙ ap (λ (n : ℕ). has word i || has n i) e ∙ ap (λ (b : Bool). has word i || b) (has-power k i)

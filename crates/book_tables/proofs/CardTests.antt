@@ -24,11 +24,12 @@ use Rattle.normal_writer.specs.Tables.{Tabled, tableIn}
 use Rattle.workspace.proofs.Halves.{upper-part}
 use Rattle.workspace.specs.Prepare.{workSize}
 use Rattle.book.specs.Form.{card, cardCount, mostCards}
-use Rattle.book.specs.Selection.{cardWord, caseCovered}
+use Rattle.table.specs.NameSet.{setBelow}
+use Rattle.book.specs.Selection.{caseCovered}
 use Rattle.book_tables.specs.Cache.{Addable, Stored, SubsumersBelow, TableAt, Testable}
 use Rattle.book_tables.specs.Tables.{BookTaken, coversTable}
 use Rattle.book_tables.specs.declared.subsumers.Subsumers.{Subsumers}
-use Rattle.book.proofs.CardWords.{cardWord-below, cardWord-same, cardWord-suc, cardWord-zero}
+use Rattle.table.proofs.SetsBelow.{setBelow-below, setBelow-same, setBelow-suc, setBelow-zero}
 use Rattle.book_tables.proofs.Caches.{made-ends, made-same, made-table, none-cached, table-checked}
 use Rattle.book_tables.proofs.Parts.{front-same, made-before, part-long, withUpper}
 
@@ -41,7 +42,7 @@ module _ {limits : Limits} {t book : List ℕ} {count n : ℕ} where
         long = long;
         case-is = case;
         most = omega arith;
-        word-is = sym (cardWord-zero (coversTable limits t book));
+        word-is = sym (setBelow-zero (coversTable limits t book));
         cache-is = none-cached limits book tables spans blank;
       }
 
@@ -88,7 +89,7 @@ module _ {limits : Limits} {t book : List ℕ} {count n : ℕ} where
     word-room most =
         let wide : 2 ^ (k + 1) ≤ 2 ^ mostCards = pow-mono {j = mostCards} (omega arith) in
         let twice : 2 ^ (k + 1) ≡ 2 ^ k * 2 = pow-add 2 k 1 in
-        omega (arith, so .word-is, cardWord-below (coversTable limits t book) k, wide, twice)
+        omega (arith, so .word-is, setBelow-below (coversTable limits t book) k, wide, twice)
 
     -- the second half, as it is lent for the table to be cached
     abbrev part : List ℕ
@@ -125,7 +126,7 @@ module _ {limits : Limits} {t book : List ℕ} {count n : ℕ} where
               added
               ∙ ap (λ (b : Bool). subsumers .word + pick b (2 ^ k) 0) covers
               ∙ ap (λ (i : ℕ). i + pick (coversTable limits t book k) (2 ^ k) 0) (so .word-is)
-              ∙ sym (cardWord-suc (coversTable limits t book) k);
+              ∙ sym (setBelow-suc (coversTable limits t book) k);
           cache-is =
               stored limits book (so .cache-is)
               (subst (λ d. TableAt limits (card book k) d m) (sym (upper-part half end)) table);
@@ -133,16 +134,16 @@ module _ {limits : Limits} {t book : List ℕ} {count n : ℕ} where
 
   pub test-all : {work tables spans : List ℕ} {subsumers : Subsumers} {k : ℕ} →
       SubsumersBelow limits t book count n work tables spans subsumers k → count ≤ k →
-      subsumers .word ≡ cardWord (coversTable limits t book) count
+      subsumers .word ≡ setBelow (coversTable limits t book) count
   test-all {k = k} so done =
-      let end : k ≡ count = omega (arith, so .most) in so .word-is ∙ ap (cardWord (coversTable limits t book)) end
+      let end : k ≡ count = omega (arith, so .most) in so .word-is ∙ ap (setBelow (coversTable limits t book)) end
 
 pub case-tested : (limits : Limits) (case book : List ℕ) (count : ℕ) → Bounded limits →
     mergedCount limits case ≤ limits .rows → BookTaken limits book → count ≡ cardCount book → {t : List ℕ} →
-    t ≡ normalFile limits case → {word : ℕ} → word ≡ cardWord (coversTable limits t book) count →
-    word ≡ cardWord (caseCovered limits case book) count
+    t ≡ normalFile limits case → {word : ℕ} → word ≡ setBelow (coversTable limits t book) count →
+    word ≡ setBelow (caseCovered limits case book) count
 case-tested limits case book count bounded few taken counted table is =
     is
-    ∙ ap (λ (u : List ℕ). cardWord (coversTable limits u book) count) table
-    ∙ cardWord-same (coversTable limits (normalFile limits case) book) (caseCovered limits case book) count
+    ∙ ap (λ (u : List ℕ). setBelow (coversTable limits u book) count) table
+    ∙ setBelow-same (coversTable limits (normalFile limits case) book) (caseCovered limits case book) count
     (λ k l. normal-maps limits case (card book k) bounded few (taken .few k (omega (arith, l, counted))))

@@ -26,7 +26,7 @@ use Rattle.homomorphism_search.specs.Search.{LinkedTable}
 use Rattle.normal_writer.specs.Tables.{tableIn, tableRows}
 use Rattle.workspace.specs.Prepare.{workSize}
 use Rattle.book.specs.Form.{card, mostCards}
-use Rattle.book.specs.Selection.{cardWord}
+use Rattle.table.specs.NameSet.{setBelow}
 use Rattle.book_form.specs.Places.{Placed}
 use Rattle.book_form.specs.declared.form.Cards.{Cards}
 use Rattle.book_tables.specs.Tables.{BookTaken, coversTable}
@@ -95,5 +95,5 @@ pub record SubsumersBelow (limits : Limits) (t book : List ℕ) (count n : ℕ) 
   pub long : length work ≡ workSize limits
   pub case-is : tableIn work 0 n ≡ t
   pub most : k ≤ count
-  pub word-is : subsumers .word ≡ cardWord (coversTable limits t book) k
+  pub word-is : subsumers .word ≡ setBelow (coversTable limits t book) k
   pub cache-is : Cached limits book tables spans (subsumers .at)

@@ -19,7 +19,8 @@ ghost use Rattle.table_rows.specs.Links.{Zeros};
 ghost use Rattle.homomorphism_search.specs.Search.{rowMaps};
 ghost use Rattle.normal_writer.specs.Tables.{tableIn};
 ghost use Rattle.book.specs.Form.{mostCards};
-ghost use Rattle.book.specs.Selection.{cardWord, caseCovered};
+ghost use Rattle.table.specs.NameSet.{setBelow};
+ghost use Rattle.book.specs.Selection.{caseCovered};
 ghost use Rattle.book_tables.specs.Tables.{coversTable};
 ghost use Rattle.book_tables.specs.Cache.{Addable, Cached, CardsTestable, Findable, Stored, Testable};
 
@@ -83,7 +84,7 @@ fn test_cards(
     spans: &mut [usize; SPANS],
 ) -> Subsumers
     requires { ⌜ CardsTestable limits (now book) cards n (now links) (now work) (now spans) ⌝ }
-    ensures { λ r. ⌜ (r .word ≡ cardWord
+    ensures { λ r. ⌜ (r .word ≡ setBelow
         (coversTable limits (tableIn (now (work .entry)) 0 n) (now (book .entry))) (cards .count))
         × (Cached limits (now (book .entry)) (now (tables .exit)) (now (spans .exit)) (r .at)) ⌝ }
 {
@@ -111,7 +112,7 @@ pub fn find_subsumers(
 ) -> Subsumers
     requires { ⌜ (Findable limits (now case) (now book) cards (now work))
         × (Zeros (mostCards + mostCards) (now spans)) ⌝ }
-    ensures { λ r. ⌜ (r .word ≡ cardWord (caseCovered limits (now (case .entry)) (now (book .entry))) (cards .count))
+    ensures { λ r. ⌜ (r .word ≡ setBelow (caseCovered limits (now (case .entry)) (now (book .entry))) (cards .count))
         × (Cached limits (now (book .entry)) (now (tables .exit)) (now (spans .exit)) (r .at)) ⌝ }
 {
     let n = normal_table(case, limits, work);

@@ -47,6 +47,12 @@ fn say_input(input: Input) {
         Input::Card(_) => {
             io::write_all(STDOUT_FILENO, b"card");
         }
+        Input::Definitions => {
+            io::write_all(STDOUT_FILENO, b"definitions");
+        }
+        Input::Definition(_) => {
+            io::write_all(STDOUT_FILENO, b"definition");
+        }
     }
 }
 

@@ -12,7 +12,7 @@ use native.Mathlib.Omega.{arith}
 use Rattle.table.specs.Bounds.{Bounded, benchLimits}
 use Rattle.table.specs.declared.layout.Limits.{Limits}
 use Rattle.picture.specs.declared.answer.Input.{Input}
-use Rattle.picture.specs.declared.answer.Input.the-variants.{Buffer, First, Second, Evidence, Book, Card}
+use Rattle.picture.specs.declared.answer.Input.the-variants.{Book, Buffer, Card, Definition, Definitions, Evidence, First, Second}
 use Rattle.picture.specs.declared.answer.Refusal.{Refusal}
 use Rattle.picture.specs.declared.answer.Answer.the-variants as answer
 use Rattle.picture.specs.declared.read.Reading.{Reading}
@@ -41,6 +41,8 @@ code-small Second = omega arith
 code-small Evidence = omega arith
 code-small Book = omega arith
 code-small (Card n) = omega arith
+code-small Definitions = omega arith
+code-small (Definition n) = omega arith
 
 -- a refusal whose parts fit the word
 pub record Fits (r : Refusal) : Type 0 where

@@ -26,7 +26,7 @@ use Rattle.picture.specs.Asked.{readAsked}
 use Rattle.picture.specs.declared.answer.Asked.{Asked}
 use Rattle.picture.specs.declared.answer.Asked.the-variants.{No, Yes}
 use Rattle.picture.specs.declared.answer.Input.{Input}
-use Rattle.picture.specs.declared.answer.Input.the-variants.{Book, Buffer, Card, Evidence, First, Second}
+use Rattle.picture.specs.declared.answer.Input.the-variants.{Book, Buffer, Card, Definition, Definitions, Evidence, First, Second}
 use Rattle.picture.specs.declared.answer.Refusal.{Refusal}
 use Rattle.meaning.specs.Covering.{Covers}
 use Rattle.meaning.specs.NormalTable.{mergedCount, normalFile}
@@ -100,6 +100,8 @@ pictures first second cardAt Second = second
 pictures first second cardAt Evidence = []
 pictures first second cardAt Book = []
 pictures first second cardAt (Card k) = cardAt k
+pictures first second cardAt Definitions = []
+pictures first second cardAt (Definition k) = []
 
 -- 02, U1, "the row being read (rows completed so far) and the byte where its field begins, from the picture's first",
 -- of a refusal of the picture s

@@ -17,7 +17,7 @@
 use Prim.Native.Nat.{ℕ, _%_, _*_, _+_, _/_, _^_}
 use Rattle.picture.specs.Refusal.{refusal, refusalAt}
 use Rattle.picture.specs.declared.answer.Input.{Input}
-use Rattle.picture.specs.declared.answer.Input.the-variants.{Buffer, First, Second, Evidence, Book, Card}
+use Rattle.picture.specs.declared.answer.Input.the-variants.{Book, Buffer, Card, Definition, Definitions, Evidence, First, Second}
 use Rattle.picture.specs.declared.answer.Refusal.{Refusal}
 use Rattle.picture.specs.declared.answer.Answer.{Answer}
 use Rattle.picture.specs.declared.answer.Answer.the-variants as answer
@@ -45,6 +45,8 @@ inputCode Second = 2
 inputCode Evidence = 3
 inputCode Book = 4
 inputCode (Card n) = 5
+inputCode Definitions = 6
+inputCode (Definition n) = 7
 
 abbrev pub cardOf : Input → ℕ
 cardOf Buffer = 0
@@ -53,6 +55,8 @@ cardOf Second = 0
 cardOf Evidence = 0
 cardOf Book = 0
 cardOf (Card n) = n
+cardOf Definitions = 0
+cardOf (Definition n) = n
 
 abbrev pub partRange : ℕ
 partRange = 2 ^ 8

@@ -37,7 +37,7 @@ use Rattle.normal.specs.Call.{mergedAsked}
 use Rattle.book.specs.Call.{bookAsked, cardMerged, cardRead, mostSpecificAnswer, mostSpecificAsked, mostSpecificWork, noBook}
 use Rattle.book.specs.Form.{bookForm, card, cardCount}
 use Rattle.order.specs.Preorder.{minimal, passedOver, strict}
-use Rattle.book.specs.Selection.{cardCovers, cardWord, caseCovered, mostSpecific, mostSpecificCards}
+use Rattle.book.specs.Selection.{cardCovers, caseCovered, mostSpecific, mostSpecificCards}
 use Rattle.book_tables.specs.Tables.{BookTaken, CardsRead}
 use Rattle.most_specific.specs.Asking.{afterCards, afterCase, selectedOn}
 use Rattle.book_form.specs.Places.{Placed}
@@ -46,7 +46,7 @@ use Rattle.picture.specs.declared.answer.Asked.{Asked}
 use Rattle.picture.specs.declared.answer.Asked.the-variants.{No, Yes}
 use Rattle.book.specs.declared.answer.Selected.{Selected}
 use Rattle.book.specs.declared.answer.Selected.the-variants as selected
-use Rattle.book.proofs.CardWords.{has-cardWord, word-is}
+use Rattle.table.proofs.SetsBelow.{has-setBelow, word-is}
 
 -- ---- the cards, read in turn
 
@@ -78,9 +78,9 @@ module _ (limits : Limits) (book : List ℕ) (count : ℕ) where
 pub cleared-part : (d : List ℕ) (size n : ℕ) → n ≡ size → zeros size ++ drop n d ≡ put d 0 (zeros size)
 cleared-part d size n e = ap (λ (k : ℕ). zeros size ++ drop k d) (e ∙ sym (length-zeros size)) ∙ sym (put-start d (zeros size))
 
-module _ (limits : Limits) (case book : List ℕ) (count covering : ℕ) (counted : count ≡ cardCount book) (is : covering ≡ cardWord (caseCovered limits case book) count) where
+module _ (limits : Limits) (case book : List ℕ) (count covering : ℕ) (counted : count ≡ cardCount book) (is : covering ≡ setBelow (caseCovered limits case book) count) where
   covering-has : (k : ℕ) → has covering k ≡ (ltb k count && caseCovered limits case book k)
-  covering-has k = ap (λ (w : ℕ). has w k) is ∙ has-cardWord (caseCovered limits case book) count k
+  covering-has k = ap (λ (w : ℕ). has w k) is ∙ has-setBelow (caseCovered limits case book) count k
 
   pub covering-inside : (k : ℕ) → has covering k ≡ true → k < cardCount book
   covering-inside k h =

@@ -5,7 +5,8 @@ ghost use Prim.Native.Nat.{_≤_};
 ghost use Rattle.table.specs.Bounds.{maxRows};
 ghost use Rattle.picture.specs.Refusal.{refusal, refusalAt, shortBuffer, tooMany};
 
-// Which input a refusal concerns. A card book's cards are numbered from 0.
+// Which input a refusal concerns. The cards of a card book are numbered from 0, and so are the definitions of a
+// definitions book.
 pub enum Input {
     Buffer,
     First,
@@ -13,6 +14,8 @@ pub enum Input {
     Evidence,
     Book,
     Card(u8),
+    Definitions,
+    Definition(u8),
 }
 
 // The number of the question that was answered no, and the input it concerns; where a field of a picture is refused (2

@@ -8,7 +8,7 @@
 use Prim.Native.Nat.{_%_, _*_, _+_, _-_, _/_, _<_, _^_, _≤_, suc, zero, ℕ}
 use borrow.Author.Tests.{eq-eqb, eqb-false, eqb-true, ltb-false, ltb-true, ne-eqb}
 use lib.Bits.{bitAnd, bitOr, or-zero-r}
-use lib.Count.{trailingZeros, under}
+use lib.Count.{trailingZeros}
 use lib.Dec.{eqb, ltb}
 use lib.ListN.{getD}
 use mathlib.Core.Bool.{Bool, _&&_, _||_, false, true}
@@ -17,7 +17,8 @@ use mathlib.Core.Path.{_∙_, _≡_, ap, refl, subst, sym}
 use native.Mathlib.Nat.{div-div-eq-div-mul, div-one}
 use native.Mathlib.Omega.{arith}
 use Rattle.table.proofs.NameSets.{has-intersection, has-none, has-power, has-union}
-use Rattle.table.proofs.Bits.{bit-suc, bit-zero}
+use Rattle.table.proofs.Bits.{bit-suc}
+use Rattle.table.proofs.Lowest.{zeros-clear, zeros-found}
 use Rattle.table.specs.Bounds.{maxRows}
 use Rattle.table.specs.NameSet.{bit, has}
 use Rattle.table.specs.Pick.{pick}
@@ -26,25 +27,6 @@ use Rattle.row_sets.specs.Rows.{holds, wordOf}
 use Rattle.table.proofs.Bools.{by-test}
 
 -- ---- bits
-
-clear-step : (n i t d : ℕ) → n % 2 ≡ d → i < under d t → ((m : ℕ) → m < t → bit (n / 2) m ≡ 0) → bit n i ≡ 0
-clear-step n zero t zero e l h = bit-zero n ∙ e
-clear-step n (suc i) t zero e l h = bit-suc n i ∙ h i (omega arith)
-clear-step n i t (suc d) e l h = absurd (omega arith)
-
-found-step : (n k t d : ℕ) → n % 2 ≡ d → under d t < suc k → (t < k → bit (n / 2) t ≡ 1) → bit n (under d t) ≡ 1
-found-step n k t zero e l h = bit-suc n t ∙ h (omega arith)
-found-step n k t (suc d) e l h = bit-zero n ∙ omega (arith, e)
-
-zeros-clear : (k n i : ℕ) → i < trailingZeros k n → bit n i ≡ 0
-unfolding trailingZeros
-zeros-clear zero n i l = absurd (omega arith)
-zeros-clear (suc k) n i l = clear-step n i (trailingZeros k (n / 2)) (n % 2) refl l (λ m b. zeros-clear k (n / 2) m b)
-
-zeros-found : (k n : ℕ) → trailingZeros k n < k → bit n (trailingZeros k n) ≡ 1
-unfolding trailingZeros
-zeros-found zero n l = absurd (omega arith)
-zeros-found (suc k) n l = found-step n k (trailingZeros k (n / 2)) (n % 2) refl l (λ b. zeros-found k (n / 2) b)
 
 shifted : (w f i : ℕ) → bit (w / 2 ^ f) i ≡ bit w (f + i)
 shifted w zero i = rw div-one (ap (λ (n : ℕ). bit w n) (omega arith))

@@ -6,5 +6,7 @@ pub mod Puts
 pub mod Numbers
 pub mod Ranges
 pub mod Bits
+pub mod Lowest
 pub mod NameSets
+pub mod SetsBelow
 pub mod Rows

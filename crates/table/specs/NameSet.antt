@@ -6,11 +6,13 @@
 --   intersection a b  the names in both
 --   complement a      the names that are not in a
 --   subset a b        whether every name of a is in b
+--   setBelow test n   the numbers below n that pass a test
 use mathlib.Core.Bool.{Bool}
-use Prim.Native.Nat.{ℕ, _-_, _/_, _%_, _^_}
+use Prim.Native.Nat.{ℕ, zero, suc, _+_, _-_, _/_, _%_, _^_}
 use lib.Bits.{bitAnd, bitOr}
 use lib.Dec.{eqb}
 use Rattle.table.specs.Layout.{nameCount}
+use Rattle.table.specs.Pick.{pick}
 
 abbrev pub bit : ℕ → ℕ → ℕ
 bit a n = a / 2 ^ n % 2
@@ -32,3 +34,7 @@ complement a = 2 ^ nameCount - 1 - a
 
 abbrev pub subset : ℕ → ℕ → Bool
 subset a b = eqb (bitAnd a b) a
+
+unfoldable pub setBelow : (ℕ → Bool) → ℕ → ℕ
+setBelow test zero = 0
+setBelow test (suc n) = setBelow test n + pick (test n) (2 ^ n) 0

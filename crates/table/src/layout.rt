@@ -25,6 +25,9 @@ pub const END_SIZE: usize = HEAD_SIZE + END_LENGTH;
 // A set of names is this many bytes.
 pub const NAME_BYTES: usize = 8;
 
+// A bit for each name.
+pub const NAMES: usize = 8 * NAME_BYTES;
+
 // Where the parts of a row's field begin, from its tag on.
 pub const PARENT_AT: usize = HEAD_SIZE;
 

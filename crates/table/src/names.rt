@@ -6,10 +6,11 @@ ghost use mathlib.Core.Path.{_≡_};
 ghost use Prim.Native.Nat.{ℕ, _+_, _^_, _≤_, _<_};
 ghost use lib.ListN.{length};
 ghost use lib.Dec.{eqb};
+ghost use mathlib.Core.Bool.{false, true};
 ghost use Rattle.table.specs.Layout.{nameBytes, nameCount};
 ghost use Rattle.table.specs.Number.{be, beBytes};
 ghost use Rattle.table.specs.Put.{put};
-ghost use Rattle.table.specs.NameSet.{none, union, intersection, complement, subset};
+ghost use Rattle.table.specs.NameSet.{has, none, union, intersection, complement, subset};
 ghost use Rattle.table.specs.NameValues.{setOf, overlap};
 
 pub struct Names {
@@ -97,5 +98,21 @@ impl Names {
         ensures { λ r. ⌜ r ≡ overlap (setOf self) (setOf other) ⌝ }
     {
         self.word & other.word != 0
+    }
+
+    // The set of one name.
+    pub fn only(name: usize) -> Names
+        requires { ⌜ name < nameCount ⌝ }
+        ensures { λ r. ⌜ setOf r ≡ 2 ^ name ⌝ }
+    {
+        Names { word: 1u64 << name }
+    }
+
+    // The lowest name of the set; past the names if there is none.
+    pub fn first(self) -> usize
+        ensures { λ r. ⌜ (r ≤ nameCount)
+            × (((k : ℕ) → k < r → has (setOf self) k ≡ false) × (r < nameCount → has (setOf self) r ≡ true)) ⌝ }
+    {
+        u64::trailing_zeros(self.word) as usize
     }
 }

@@ -23,7 +23,7 @@ use Rattle.table.specs.Bounds.{benchLimits}
 use Rattle.table.specs.Layout.{endSize, numberSize}
 use Rattle.table.specs.Pick.{pick}
 use Rattle.picture.specs.declared.answer.Input.{Input}
-use Rattle.picture.specs.declared.answer.Input.the-variants.{Book, Buffer, Card, Evidence, First, Second}
+use Rattle.picture.specs.declared.answer.Input.the-variants.{Book, Buffer, Card, Definition, Definitions, Evidence, First, Second}
 use Rattle.homomorphism.specs.Layout.{imageOf, imagePlace}
 use Rattle.workspace.specs.Prepare.{workSize}
 use Rattle.subsumption.specs.Call.{subsumesAnswer}
@@ -65,6 +65,8 @@ refusedInput Second = text "refused second "
 refusedInput Evidence = text "refused second "
 refusedInput Book = text "refused second "
 refusedInput (Card k) = text "refused second "
+refusedInput Definitions = text "refused second "
+refusedInput (Definition k) = text "refused second "
 
 abbrev pub refusalLine : Input → ℕ → ℕ → ℕ → List ℕ
 refusalLine input question row byte = refusedInput input ++ number question " " ++ number row " " ++ number byte "\n"

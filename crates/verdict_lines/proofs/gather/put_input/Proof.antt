@@ -6,7 +6,7 @@ use mathlib.Core.List.{List, [], _∷_}
 use mathlib.Core.Path.{_≡_, refl}
 use types.Run.{OneOf, miss}
 use Rattle.picture.specs.declared.answer.Input.{Input}
-use Rattle.picture.specs.declared.answer.Input.the-variants.{Book, Buffer, Card, Evidence, First, Second}
+use Rattle.picture.specs.declared.answer.Input.the-variants.{Book, Buffer, Card, Definition, Definitions, Evidence, First, Second}
 use Rattle.picture.proofs.answer.Input.{the-type}
 use Rattle.verdict_lines.specs.Lines.{refusedInput, text}
 use Rattle.verdict_lines.proofs.gather.put_input.Statement.{statement}
@@ -14,7 +14,7 @@ use Rattle.verdict_lines.proofs.gather.put_input.Tie as tie
 
 -- the tags of the other inputs
 abbrev others : List ℕ
-others = 0 ∷ 2 ∷ 3 ∷ 4 ∷ 5 ∷ []
+others = 0 ∷ 2 ∷ 3 ∷ 4 ∷ 5 ∷ 6 ∷ 7 ∷ []
 
 second-named : (input : Input) → OneOf others (tagOf the-type input) → refusedInput input ≡ text "refused second "
 second-named First other = absurd (miss others 1 tt other)
@@ -23,6 +23,8 @@ second-named Second other = refl
 second-named Evidence other = refl
 second-named Book other = refl
 second-named (Card k) other = refl
+second-named Definitions other = refl
+second-named (Definition k) other = refl
 
 enum-told : tie.Need-enum-told
 enum-told c = search needs

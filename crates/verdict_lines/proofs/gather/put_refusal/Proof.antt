@@ -5,7 +5,7 @@ use denote.Ref.{now}
 use lib.ListN.{length, length-append}
 use native.Mathlib.Omega.{arith}
 use Rattle.picture.specs.declared.answer.Input.{Input}
-use Rattle.picture.specs.declared.answer.Input.the-variants.{Book, Buffer, Card, Evidence, First, Second}
+use Rattle.picture.specs.declared.answer.Input.the-variants.{Book, Buffer, Card, Definition, Definitions, Evidence, First, Second}
 use Rattle.verdict_lines.specs.Lines.{decimal, number, refusalLine, refusedInput}
 use Rattle.verdict_lines.proofs.Decimals.{decimal-short}
 use Rattle.verdict_lines.proofs.Gatherings.{added-four, added-front}
@@ -19,6 +19,8 @@ input-short Second = omega arith
 input-short Evidence = omega arith
 input-short Book = omega arith
 input-short (Card k) = omega arith
+input-short Definitions = omega arith
+input-short (Definition k) = omega arith
 
 abbrev entry : (c : tie.After-put-input) → tie.Start
 entry c = c .before .before .before

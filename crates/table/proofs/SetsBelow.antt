@@ -1,10 +1,10 @@
 -- Laws of the word of the cards below n that pass a test, over any test.
---   cardWord-zero, cardWord-suc   no card; one card more
---   cardWord-below                the word has n bits
---   has-cardWord                  its bits are the cards below n that pass the test
+--   setBelow-zero, setBelow-suc   no card; one card more
+--   setBelow-below                the word has n bits
+--   has-setBelow                  its bits are the cards below n that pass the test
 --   word-is                       and a word with these bits is that word
---   cardWord-some                 a word that is not 0 has a card
---   cardWord-same                 tests that agree on the cards below n give the same word
+--   setBelow-some                 a word that is not 0 has a card
+--   setBelow-same                 tests that agree on the cards below n give the same word
 use Prim.Native.Nat.{_*_, _+_, _<_, _^_, suc, zero, ℕ}
 use borrow.Author.Tests.{eq-eqb, le-ltb, lt-ltb, ne-eqb}
 use lib.Bits.{or-shifted-r}
@@ -14,31 +14,30 @@ use mathlib.Core.Path.{_∙_, _≡_, ap, refl, sym}
 use native.Mathlib.Decide.{decLt, ℕ-discrete}
 use native.Mathlib.Numerals.{add-one}
 use native.Mathlib.Omega.{arith}
 use Rattle.table.proofs.Tests.{and-none}
 use Rattle.table.proofs.NameSets.{has-none, has-power, has-union, set-ext}
 use Rattle.table.proofs.Bools.{by-test, or-none}
-use Rattle.table.specs.NameSet.{has, union}
+use Rattle.table.specs.NameSet.{has, setBelow, union}
 use Rattle.table.specs.Pick.{pick}
-use Rattle.book.specs.Selection.{cardWord}
 
 pub and-all : (b : Bool) → (b && true) ≡ b
 and-all true = refl
 and-all false = refl
 
 module _ (f : ℕ → Bool) where
-  pub cardWord-zero : cardWord f 0 ≡ 0
-  unfolding cardWord
-  cardWord-zero = refl
+  pub setBelow-zero : setBelow f 0 ≡ 0
+  unfolding setBelow
+  setBelow-zero = refl
 
-  pub cardWord-suc : (n : ℕ) → cardWord f (n + 1) ≡ cardWord f n + pick (f n) (2 ^ n) 0
-  unfolding cardWord
-  cardWord-suc n = rw add-one
+  pub setBelow-suc : (n : ℕ) → setBelow f (n + 1) ≡ setBelow f n + pick (f n) (2 ^ n) 0
+  unfolding setBelow
+  setBelow-suc n = rw add-one
 
-  pub cardWord-below : (n : ℕ) → cardWord f n < 2 ^ n
-  unfolding cardWord
-  cardWord-below zero = omega arith
-  cardWord-below (suc n) =
-      let below = cardWord-below n in
+  pub setBelow-below : (n : ℕ) → setBelow f n < 2 ^ n
+  unfolding setBelow
+  setBelow-below zero = omega arith
+  setBelow-below (suc n) =
+      let below = setBelow-below n in
       by-test (f n) (λ e. rw e (omega arith)) (λ e. rw e (omega arith))
 
   -- the bit that one card more adds
@@ -64,28 +63,28 @@ module _ (f : ℕ → Bool) where
       earlier false true = refl
       earlier false false = refl
 
-  pub has-cardWord : (n k : ℕ) → has (cardWord f n) k ≡ (ltb k n && f k)
-  unfolding cardWord
-  has-cardWord zero k = has-none k ∙ sym (ap (λ (b : Bool). b && f k) (le-ltb k 0 (omega arith)))
-  has-cardWord (suc n) k =
-      has-more (cardWord f n) n (f n) (cardWord-below n) k
-      ∙ ap (λ (b : Bool). b || (f n && eqb k n)) (has-cardWord n k)
+  pub has-setBelow : (n k : ℕ) → has (setBelow f n) k ≡ (ltb k n && f k)
+  unfolding setBelow
+  has-setBelow zero k = has-none k ∙ sym (ap (λ (b : Bool). b && f k) (le-ltb k 0 (omega arith)))
+  has-setBelow (suc n) k =
+      has-more (setBelow f n) n (f n) (setBelow-below n) k
+      ∙ ap (λ (b : Bool). b || (f n && eqb k n)) (has-setBelow n k)
       ∙ card-more n k
 
-  pub word-is : (w n : ℕ) → ((k : ℕ) → has w k ≡ (ltb k n && f k)) → w ≡ cardWord f n
-  word-is w n h = set-ext w (cardWord f n) (λ k. h k ∙ sym (has-cardWord n k))
+  pub word-is : (w n : ℕ) → ((k : ℕ) → has w k ≡ (ltb k n && f k)) → w ≡ setBelow f n
+  word-is w n h = set-ext w (setBelow f n) (λ k. h k ∙ sym (has-setBelow n k))
 
-  pub cardWord-some : (n : ℕ) → (cardWord f n ≡ 0 → ⊥) → (k : ℕ) × (k < n) × (f k ≡ true)
-  unfolding cardWord
-  cardWord-some zero u = absurd (u refl)
-  cardWord-some (suc n) u =
+  pub setBelow-some : (n : ℕ) → (setBelow f n ≡ 0 → ⊥) → (k : ℕ) × (k < n) × (f k ≡ true)
+  unfolding setBelow
+  setBelow-some zero u = absurd (u refl)
+  setBelow-some (suc n) u =
       by-test (f n) (λ e. (n, omega arith, e))
       (λ e.
       let none : pick (f n) (2 ^ n) 0 ≡ 0 = ap (λ (b : Bool). pick b (2 ^ n) 0) e in
-      let (k, l, passes) = cardWord-some n (λ z. u (omega (arith, z, none))) in
+      let (k, l, passes) = setBelow-some n (λ z. u (omega (arith, z, none))) in
       (k, omega (arith, l), passes))
 
-pub cardWord-same : (f g : ℕ → Bool) (n : ℕ) → ((k : ℕ) → k < n → f k ≡ g k) → cardWord f n ≡ cardWord g n
-unfolding cardWord
-cardWord-same f g zero h = refl
-cardWord-same f g (suc n) h = rw (h n (omega arith), cardWord-same f g n (λ k l. h k (omega arith)))
+pub setBelow-same : (f g : ℕ → Bool) (n : ℕ) → ((k : ℕ) → k < n → f k ≡ g k) → setBelow f n ≡ setBelow g n
+unfolding setBelow
+setBelow-same f g zero h = refl
+setBelow-same f g (suc n) h = rw (h n (omega arith), setBelow-same f g n (λ k l. h k (omega arith)))

@@ -1,0 +1,2 @@
+-- The laws of the definitions, by subject.
+pub mod Forms
