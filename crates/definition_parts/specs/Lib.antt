@@ -1,0 +1,2 @@
+-- The pictures of definitions as parts of the book. Nobody has to believe these.
+pub mod Parts
