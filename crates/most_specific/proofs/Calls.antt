@@ -27,7 +27,7 @@ use Rattle.picture.specs.declared.answer.Refusal.{Refusal}
 use Rattle.table.proofs.Bools.{both}
 use Rattle.table.proofs.Puts.{length-zeros, put-start}
 use Rattle.table.proofs.Ranges.{some-same}
-use Rattle.table.specs.NameSet.{has}
+use Rattle.table.specs.NameSet.{has, setBelow}
 use Rattle.table.specs.Put.{put, zeros}
 use Rattle.table.specs.declared.layout.Limits.{Limits}
 use Rattle.workspace.specs.Prepare.{workSize}
