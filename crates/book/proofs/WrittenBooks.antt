@@ -64,7 +64,7 @@ module _ (p c rest : List ℕ) (short : length c ≤ mostLength) where
       omega (arith, field-next, ap length by-field, length-append ((p ++ head) ++ c) rest) in
       rw (
         getD-append-seam p cardTag (beBytes numberSize (length c) ++ (c ++ rest)) 0,
-        le-leb (nextPlace whole (length p)) (length whole) inside
+        le-leb (nextPlace whole (length p)) (length whole) inside,
       )
 
   field-value : take (lengthSaid whole (length p)) (drop (length p + headSize) whole) ≡ c
@@ -123,7 +123,7 @@ module _ (book : List ℕ) where
       let rest : List ℕ = bookBytes cards in
       let small : length c ≤ mostLength = short 0 (omega arith) in
       let next : fieldPlace book (k + 1) ≡ length ((p ++ head p c rest small) ++ c) =
-      after-field cardTag book k
+      after-field book k
       ∙ ap (λ (n : ℕ). nextPlace book n) at
       ∙ ap (λ (l : List ℕ). nextPlace l (length p)) is
       ∙ field-next p c rest small in
@@ -204,7 +204,7 @@ module _ (book : List ℕ) where
       let n = lengthSaid book at in
       sym (take-append-drop n (drop (at + headSize) book))
       ∙ ap (λ (r : List ℕ). card book k ++ r)
-      (drop-drop n (at + headSize) book ∙ ap (λ (m : ℕ). drop m book) (sym (after-field cardTag book k)))
+      (drop-drop n (at + headSize) book ∙ ap (λ (m : ℕ). drop m book) (sym (after-field book k)))
 
   module _ (bytes : Bytes book) where
     said-short : (at : ℕ) → lengthSaid book at ≤ mostLength

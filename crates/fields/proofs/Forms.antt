@@ -1,10 +1,11 @@
 -- Laws of fields with one tag by place, and of the form of a file of such fields.
+--   field-first, after-field    the first field begins the file, each other begins where the one before it stops
 --   fields-before, last-field   the fields before the count have the tag and are whole; the one there has not or is
 --                               not, unless so many are read as a file may have
 --   count-most                  the count is at most that
 --   count-is                    and it is the number for which both are so
 --   field-tag, field-whole      the tag of such a field, and that it lies in the file
---   after-field, inside         each field begins where the one before it stops, and that is in the file
+--   inside                      each of them begins in the file, and so does the one after them
 --   length-value                a value has the length that its head says
 --   FieldsOf                    n fields stand in the file, no more than it may have, and then the end field, where the
 --                               file stops
@@ -21,7 +22,7 @@ use lib.Seq.{length-take-le}
 use mathlib.Core.Bool.{Bool, false, false≢true, true}
 use mathlib.Core.List.{List}
 use mathlib.Core.Logic.{_↔_, ⊎-elim}
-use mathlib.Core.Path.{_∙_, _≡_, sym}
+use mathlib.Core.Path.{_∙_, _≡_, refl, sym}
 use native.Mathlib.Decide.{decLt}
 use native.Mathlib.Nat.{eq-or-lt-of-le}
 use native.Mathlib.Numerals.{add-one}
@@ -42,6 +43,16 @@ use Rattle.fields.specs.Form.{
   mostFields,
   nextPlace,
 }
+
+-- ---- the places
+
+pub field-first : (file : List ℕ) → fieldPlace file 0 ≡ 0
+unfolding fieldPlace
+field-first file = refl
+
+pub after-field : (file : List ℕ) (k : ℕ) → fieldPlace file (k + 1) ≡ nextPlace file (fieldPlace file k)
+unfolding fieldPlace
+after-field file k = rw (add-one k)
 
 -- ---- the count
 
@@ -119,10 +130,6 @@ module _ (tag : ℕ) (file : List ℕ) where
 
     pub field-whole : nextPlace file at ≤ length file
     field-whole = leb-true (nextPlace file at) (length file) (halves .1)
-
-  pub after-field : (k : ℕ) → fieldPlace file (k + 1) ≡ nextPlace file (fieldPlace file k)
-  unfolding fieldPlace
-  after-field k = rw (add-one k)
 
   pub inside : (k : ℕ) → k ≤ fieldCount tag file → fieldPlace file k ≤ length file
   unfolding fieldPlace
