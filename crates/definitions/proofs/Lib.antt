@@ -1,1 +1,4 @@
--- laws
+-- The laws of the definitions book, by subject.
+pub mod Idle
+pub mod Unfolds
+pub mod Coverings
