@@ -2,3 +2,5 @@
 pub mod Idle
 pub mod Unfolds
 pub mod Coverings
+pub mod Questions
+pub mod Empty
