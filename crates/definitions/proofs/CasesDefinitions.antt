@@ -171,6 +171,8 @@ files =
     (picture (
       root 2 ∷ allRow 0 8 128 ∷ someRow 0 8 128 ∷ someRow 2 9 0 ∷ allRow 1 9 2 ∷ allRow 2 9 2 ∷ []
     ))
+    -- a row below the root alone
+    ∷ unfolded tenRows book (below 8) (picture (root 0 ∷ someRow 0 8 128 ∷ allRow 1 9 2 ∷ []))
     -- a marked root gives its mark; one row takes in a definition once
     ∷ unfolded tenRows (define 3 (picture (row 0 0 0 1 128 2 ∷ [])) (define 5 (picture (root 8 ∷ someRow 0 8 0 ∷ [])) end))
     (picture (root 40 ∷ [])) (picture (row 0 0 0 1 128 2 ∷ someRow 0 8 0 ∷ []))
