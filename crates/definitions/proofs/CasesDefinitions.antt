@@ -123,17 +123,20 @@ questions =
     ∷ asked fourRows (define 3 chain end) (both (wants 8) empty) Yes
     -- 25 before all others
     ∷ asked fourRows (define 64 badTag end) (one (excluding 8)) (No (refusal 25 Definitions))
-    -- 2 to 13 of the definitions' pictures, in their order, by row and byte from the byte after the name byte; before 26
+    -- 2 to 13 of the definitions' pictures in their order, the byte counted from the one after the name byte; before 26
     ∷ asked fourRows (define 3 [] end) [] (No (refusalAt 2 (Definition 0) 0))
     ∷ asked fourRows (define 16 (10 ∷ end) end) [] (No (refusalAt 3 (Definition 0) 0))
     ∷ asked fourRows (define 3 empty (define 3 badTag (define 4 [] end))) [] (No (refusalAt 3 (Definition 1) 1))
     -- 26, also of the same picture; before 27
     ∷ asked fourRows (define 3 empty (define 5 empty end)) [] Yes
-    ∷ asked fourRows (define 3 empty (define 5 empty (define 3 empty end))) (one (excluding 8)) (No (refusal 26 Definitions))
+    ∷ asked fourRows (define 3 empty (define 5 empty (define 3 empty end))) (one (excluding 8))
+    (No (refusal 26 Definitions))
     -- 27 of the given pictures, then of the definitions, in any row; before 28
     ∷ asked fourRows (define 3 empty end) (one (excluding 32)) Yes
-    ∷ asked fourRows (define 3 (below 8) (define 5 (excluding 8) end)) (both empty (excluding 8)) (No (refusal 27 Second))
-    ∷ asked fourRows (define 3 (below 8) (define 5 (excluding 8) end)) (both empty empty) (No (refusal 27 (Definition 1)))
+    ∷ asked fourRows (define 3 (below 8) (define 5 (excluding 8) end)) (both empty (excluding 8))
+    (No (refusal 27 Second))
+    ∷ asked fourRows (define 3 (below 8) (define 5 (excluding 8) end)) (both empty empty)
+    (No (refusal 27 (Definition 1)))
     ∷ asked fourRows (define 3 (excluding 8) end) [] (No (refusal 27 (Definition 0)))
     -- 28, also of a ring that no given picture wants; before 29, which the ring's unfolded picture would meet
     ∷ asked fourRows (define 3 (below 8) end) (one (wide 8)) (No (refusal 28 Definitions))
@@ -151,8 +154,8 @@ questions =
 pub asked-pass : runAll questions ≡ questions
 unfolding be endsAt has some each setBelow depthIn depth tagOk lengthFor kindOk roleOk parentOk valueField
     rowField endField fieldAt scanFrom readingOf rowCount readAsked
-    fieldPlace fieldValue fieldWith fieldsFrom fieldCount fieldsForm definitionsForm definitionFile definedWord namedOnce
-    excludesNone unfoldedCount unfoldedFew unfoldedShallow askedOf definitionsAsked
+    fieldPlace fieldValue fieldWith fieldsFrom fieldCount fieldsForm definitionsForm definitionFile definedWord
+    namedOnce excludesNone unfoldedCount unfoldedFew unfoldedShallow askedOf definitionsAsked
 asked-pass = refl
 
 abbrev tenRows : Limits
@@ -168,13 +171,12 @@ abbrev pub files : List Case
 files =
     -- 5's rows hang from row 0 and come first, then 3's from row 1, then 3's from 5's row
     unfolded tenRows book (picture (root 34 ∷ allRow 0 8 8 ∷ []))
-    (picture (
-      root 2 ∷ allRow 0 8 128 ∷ someRow 0 8 128 ∷ someRow 2 9 0 ∷ allRow 1 9 2 ∷ allRow 2 9 2 ∷ []
-    ))
+    (picture (root 2 ∷ allRow 0 8 128 ∷ someRow 0 8 128 ∷ someRow 2 9 0 ∷ allRow 1 9 2 ∷ allRow 2 9 2 ∷ []))
     -- a row below the root alone
     ∷ unfolded tenRows book (below 8) (picture (root 0 ∷ someRow 0 8 128 ∷ allRow 1 9 2 ∷ []))
     -- a marked root gives its mark; one row takes in a definition once
-    ∷ unfolded tenRows (define 3 (picture (row 0 0 0 1 128 2 ∷ [])) (define 5 (picture (root 8 ∷ someRow 0 8 0 ∷ [])) end))
+    ∷ unfolded tenRows
+    (define 3 (picture (row 0 0 0 1 128 2 ∷ [])) (define 5 (picture (root 8 ∷ someRow 0 8 0 ∷ [])) end))
     (picture (root 40 ∷ [])) (picture (row 0 0 0 1 128 2 ∷ someRow 0 8 0 ∷ []))
     -- no row wants a defined name: the file as it is, whatever stands in it
     ∷ unfolded tenRows book (1 ∷ 300 ∷ []) (1 ∷ 300 ∷ [])

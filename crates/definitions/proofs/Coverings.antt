@@ -14,7 +14,7 @@ use Prim.Native.Nat.{_%_, _<_, _^_, _≤_, ℕ}
 use borrow.Author.Tests.{leb-true, lt-ltb, ltb-true}
 use lib.Dec.{T, eqb, eqb-refl, eqb→eq, leb, ltb}
 use lib.ListN.{length}
-use mathlib.Core.Bool.{Bool, _&&_, _||_, false≢true, not, true}
+use mathlib.Core.Bool.{_&&_, _||_, false≢true, not, true}
 use mathlib.Core.List.{List}
 use mathlib.Core.Logic.{_↔_, ⊎-elim}
 use mathlib.Core.Path.{_∙_, _≡_, ap, subst, sym}
@@ -32,7 +32,6 @@ use Rattle.ale.proofs.LowestMap.{firstFrom-passes}
 use Rattle.ale.specs.Interpretation.{Interpretation, structureOf}
 use Rattle.ale.specs.PictureSignature.{pictureSignature}
 use Rattle.ale.specs.Structure.{Fits}
-use Rattle.ale.specs.Table.{Table}
 use Rattle.ale.specs.Tree.{Tree}
 use Rattle.tbox.proofs.Counts.{first-found}
 use Rattle.tbox.proofs.Coverings.{fits-unfolded, subsumed-unfolded, unfolded-subsumed}

@@ -9,7 +9,6 @@ use borrow.Author.Tests.{le-leb, leb-true}
 use lib.ListN.{length}
 use mathlib.Core.Bool.{true}
 use mathlib.Core.List.{List}
-use mathlib.Core.Logic.{⊎-elim}
 use mathlib.Core.Path.{_∙_, _≡_, ap, sym}
 use native.Mathlib.Decide.{decLt}
 use native.Mathlib.Omega.{arith}
@@ -48,7 +47,8 @@ module _ (book s : List ℕ) where
         ap length (at-larger (small .rows) (large .rows) l (few-rows small e)),
       ))
 
-  module _ (one other : Limits) (few : unfoldedFew one book s ≡ true) (few-other : unfoldedFew other book s ≡ true) where
+  module _ (one other : Limits)
+      (few : unfoldedFew one book s ≡ true) (few-other : unfoldedFew other book s ≡ true) where
     pub grown-same : rowsAt (one .rows) ≡ rowsAt (other .rows)
     grown-same =
         elim (decLt (one .rows) (other .rows)) [
