@@ -1,1 +1,6 @@
--- laws
+-- The calls under a definitions book.
+pub mod Givens
+pub mod Calls
+pub mod Answers
+pub mod Conditions
+pub mod Books
