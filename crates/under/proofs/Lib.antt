@@ -4,3 +4,4 @@ pub mod Calls
 pub mod Answers
 pub mod Conditions
 pub mod Books
+pub mod Empty
