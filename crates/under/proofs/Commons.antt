@@ -4,15 +4,21 @@
 --   description-under    covering by a description under a book, in the theory's words
 --   least-common-under   the least common subsumer of the unfolded pictures is that under the book,
 --   common-under         and so is the common picture
---   common-given         what the call gives and leaves, with whatever buffers, is that
-use Prim.Native.Nat.{_<_, _≤_, ℕ}
-use lib.Dec.{T}
-use lib.ListN.{length, take}
+--   common-refused       with room an acceptable pair is refused only when the product has too many rows
+--   common-given         what the call gives and leaves, with whatever bytes and buffers, is that of an acceptable pair
+use Prim.Native.Nat.{_+_, _<_, _≤_, ℕ}
+use borrow.Author.Tests.{leb-false, leb-true}
+use lib.Dec.{T, leb}
+use lib.ListN.{drop, length, take}
+use lib.Seq.{take-at}
 use mathlib.Core.Bool.{true}
 use mathlib.Core.List.{List, [], _∷_}
+use mathlib.Core.Logic.{_⊎_, inl, inr}
 use mathlib.Core.Path.{_∙_, _≡_, ap, refl, subst, sym}
 use native.Mathlib.Omega.{arith}
-use Rattle.table.specs.Bounds.{Bounded}
+use Rattle.table.proofs.Bools.{by-test}
+use Rattle.table.specs.Bounds.{Bounded, pictureSize}
+use Rattle.table.specs.Put.{put}
 use Rattle.table.specs.declared.layout.Limits.{Limits}
 use Rattle.ale.proofs.ConceptTrees.{conceptOf-over, pictureSingletons}
 use Rattle.ale.proofs.RoleLaws.{treeOf-rolesKnown}
@@ -29,12 +35,18 @@ use Rattle.tbox.proofs.Descriptions.{ConceptSubsumedUnder, least-under-concepts
 use Rattle.tbox.proofs.Expansions.{ExcludesNoneAll, ExcludesNoneTree, tree-excludes}
 use Rattle.tbox.specs.Covering.{wholeTree}
 use Rattle.tbox.specs.Definitions.{Definitions, NegatesNone}
+use Rattle.picture.proofs.Keeping.{kept-yes}
+use Rattle.picture.proofs.Orders.{given, on-no, on-yes}
 use Rattle.picture.specs.Readable.{Readable}
 use Rattle.meaning.proofs.Pictures.{picture-known}
 use Rattle.meaning.specs.Covering.{Covers}
 use Rattle.meaning.specs.Meaning.{pictureTable, pictureTree}
-use Rattle.workspace.specs.Prepare.{Acceptable}
+use Rattle.workspace.proofs.Lendings.{Lent}
+use Rattle.workspace.specs.Prepare.{workSize}
+use Rattle.lcs.proofs.Answers.{lcs-decides}
 use Rattle.lcs.proofs.Commons.{common-least}
+use Rattle.lcs.specs.Call.{lcsAnswer, lcsAsked, tooLarge}
+use Rattle.lcs.specs.declared.common.Common.the-variants.{Length, Refused}
 use Rattle.lcs.specs.Description.{LeastCommon}
 use Rattle.lcs.specs.Product.{lcsCount, lcsFile}
 use Rattle.definitions.proofs.Coverings.{belongs-unfolded, book-respects, respects-book}
@@ -44,8 +56,12 @@ use Rattle.definitions.specs.Form.{definitionFile}
 use Rattle.definitions.specs.Tbox.{placeOf, tboxOf}
 use Rattle.definitions.specs.Unfolded.{Definable, Unfolds, excludesNone, unfoldedFile, unfoldedTable}
 use Rattle.under.specs.Description.{DescriptionCoversUnder, LeastCommonUnder}
+use Rattle.under.specs.Calls.{lcsResultUnder, lcsUnder}
 use Rattle.under.specs.Given.{AcceptableUnder}
-use Rattle.under.proofs.Givens.{acceptable-unfolded}
+use Rattle.under.specs.Given as under
+use Rattle.under.proofs.Answers.{lcs-yes}
+use Rattle.under.proofs.Calls.{lcs-all, lcs-result-all, lcs-same, lcsAll}
+use Rattle.under.proofs.Givens.{acceptable-prepared, acceptable-unfolded, under-yes}
 
 -- ---- the concept of a tree
 
@@ -186,3 +202,57 @@ module _ (limits : Limits) (bounded : Bounded limits) (tbox first second : List 
   common-under few n is =
       least-common-under n (lcsFile limits p q)
       (common-least limits bounded p q (acceptable-unfolded limits tbox first second bounded pair) few n is)
+
+  -- with room it is refused only when the product has too many rows
+  pub common-refused : (work result : ℕ) → workSize limits ≤ work → pictureSize limits ≤ result →
+      (lcsUnder limits tbox first second work result ≡ Length (length (lcsFile limits p q)))
+      ⊎ ((lcsUnder limits tbox first second work result ≡ Refused tooLarge) × (limits .rows < lcsCount limits p q))
+  unfolding lcsAnswer
+  common-refused work result enough long =
+      let count = lcsCount limits p q in
+      let value = Length (length (lcsFile limits p q)) in
+      let all = lcs-all limits tbox first second work result in
+      let base = acceptable-unfolded limits tbox first second bounded pair in
+      by-test (leb count (limits .rows))
+      (λ few. inl (all ∙ on-yes Refused value (lcsAll limits tbox first second work result)
+      (lcs-yes limits bounded tbox first second work result .1
+      (enough, long, pair, leb-true count (limits .rows) few))))
+      (λ e.
+      let many = leb-false count (limits .rows) e in
+      inr (
+        lcs-same limits tbox first second
+            (under-yes limits tbox (under.pair first second) .1 (acceptable-prepared limits tbox first second pair))
+            work result
+            ∙ base-refused work result many
+            (record { work-long = enough; result-long = long; pair = base }),
+        many,
+      ))
+    where
+      base-refused : (work result : ℕ) → limits .rows < lcsCount limits p q →
+          Lent limits p q (pictureSize limits) work result → lcsAnswer limits p q work result ≡ Refused tooLarge
+      base-refused work result many lent =
+          on-no Refused (Length (length (lcsFile limits p q))) (lcsAsked limits p q work result) tooLarge
+          (lcs-decides limits p q work result .no tooLarge .1 (inr (lent, (many, refl))))
+
+-- ---- what is given and left, whatever bytes and buffers
+
+pub common-given : (limits : Limits) → Bounded limits → (tbox first second : List ℕ) (work : ℕ) (result : List ℕ)
+    (n : ℕ) → lcsUnder limits tbox first second work (length result) ≡ Length n →
+    AcceptableUnder limits tbox first second
+    × LeastCommonUnder limits tbox first second n (take n (lcsResultUnder limits tbox first second work result))
+unfolding put
+common-given limits bounded tbox first second work result n h =
+    let p = unfoldedFile limits tbox first in
+    let q = unfoldedFile limits tbox second in
+    let file = lcsFile limits p q in
+    let asks = lcsAll limits tbox first second work (length result) in
+    let (all, is) = given Refused (Length (length file)) (Length n)
+    (λ r is. let z : _≡_ {A = ℕ} 0 1 = cc in omega arith) asks
+    (sym (lcs-all limits tbox first second work (length result)) ∙ h) in
+    let (enough, long, ok, few) = lcs-yes limits bounded tbox first second work (length result) .0 all in
+    let sized : n ≡ length file = cc in
+    let left : take n (lcsResultUnder limits tbox first second work result) ≡ file =
+    ap (λ (s : List ℕ). take n s)
+    (lcs-result-all limits tbox first second work result ∙ kept-yes (put result 0 file) result asks all)
+    ∙ take-at file (drop (0 + length file) result) n (sym sized) in
+    (ok, rw left (common-under limits bounded tbox first second ok few n sized))
