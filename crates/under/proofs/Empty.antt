@@ -50,7 +50,7 @@ use Rattle.under.specs.Calls.{lcsResultUnder, lcsUnder, lcsWorkUnder, no
 use Rattle.under.specs.Given.{lentUnder, one, pair, underAsked}
 use Rattle.under.proofs.Books.{before-yes, cards-all, unfolded-card, unfolded-count, unfolded-form}
 use Rattle.under.proofs.Calls as calls
-use Rattle.under.proofs.Givens.{read-all}
+use Rattle.under.proofs.Givens.{reads-decides}
 
 -- ---- questions that are asked again
 
@@ -67,7 +67,7 @@ module _ (limits : Limits) (tbox : List ℕ) (empty : definitionCount tbox ≡ 0
   pub under-read : (given : List Picture) → underAsked limits tbox given ≡ askedOf (readOf limits) given
   unfolding underAsked
   under-read given =
-      by (askedOf (readOf limits) given) (λ e. empty-asked tbox empty form limits given (read-all limits given .0 e))
+      by (askedOf (readOf limits) given) (λ e. empty-asked tbox empty form limits given (reads-decides limits given .yes .0 e))
     where
       by : (a : Asked) → (a ≡ Yes → definitionsAsked limits tbox given ≡ Yes) →
           andThen a (definitionsAsked limits tbox given) ≡ a
