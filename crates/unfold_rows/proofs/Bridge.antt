@@ -1,5 +1,5 @@
 -- The bytes of copied rows are the rows of the theory, as they are copied.
---   rawRow, rawRows     a row of the unfolded picture before it has come up
+--   rawRows             rows of the unfolded picture before it has come up
 --   copies-bytes        rows copied after the first row of the table
 --   own-bytes           the picture's own rows
 use Prim.Native.Nat.{ℕ, zero, suc, _%_, _+_, _^_, _<_, _≤_}
@@ -22,9 +22,7 @@ use Rattle.meaning.specs.File.{codeAt, kindCode, markCode, rowAt, rowsFrom}
 use Rattle.meaning.specs.Meaning.{kindAt, pictureTable}
 use Rattle.meaning.proofs.Files.{rowsFrom-append}
 use Rattle.unfold_rows.specs.Copies.{copyBytes, copyOf}
-
-abbrev pub rawRow : Origin pictureSignature → Row pictureSignature
-rawRow o = record { parent = o .parent; kind = o .table .kind (o .row); role = o .table .role (o .row); label = o .table .label (o .row) }
+use Rattle.unfold_rows.specs.Growing.{rawRow}
 
 abbrev pub rawRows : List (Origin pictureSignature) → List (Row pictureSignature)
 rawRows [] = []

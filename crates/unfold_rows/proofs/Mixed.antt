@@ -7,7 +7,7 @@
 --   row-written                 row i written anew, in bytes
 --   hung-written                a definition's rows added, in bytes
 use Prim.Native.Nat.{ℕ, zero, suc, _*_, _+_, _-_, _<_, _≤_}
-use lib.ListN.{drop, length, length-append, take, take-append-drop}
+use lib.ListN.{drop, getD, length, length-append, take, take-append-drop}
 use lib.Seq.{drop-append-seam, take-append-seam}
 use mathlib.Core.List.{List, [], _++_, _∷_, append-assoc, append-nil}
 use mathlib.Core.Path.{_∙_, _≡_, ap, ap₂, refl, subst, sym}
@@ -23,7 +23,8 @@ use Rattle.meaning.specs.File.{rowAt, rowsFrom}
 use Rattle.meaning.specs.Meaning.{pictureTable}
 use Rattle.meaning.proofs.Files.{length-rowAt, length-rowsFrom, rowsFrom-append}
 use Rattle.unfold_rows.specs.Copies.{Added, copyBytes, prefix}
-use Rattle.unfold_rows.proofs.Bridge.{Copyable, copies-bytes, raw-length, rawRow, rawRows}
+use Rattle.unfold_rows.proofs.Bridge.{Copyable, copies-bytes, raw-length, rawRows}
+use Rattle.unfold_rows.specs.Growing.{mixed, rawRow}
 
 -- bytes put in the place of as many others
 middle : (x r y z t : List ℕ) (at : ℕ) → at ≡ length x → length t ≡ length r → put (x ++ (r ++ (y ++ z))) at t ≡ x ++ (t ++ (y ++ z))
@@ -49,28 +50,23 @@ take-middle d x r y t n at was e l size =
     ap (take n) again ∙ ap (λ k. take k ((x ++ (t ++ y)) ++ z)) same ∙ take-append-seam (x ++ (t ++ y)) z
 
 module _ (D : Definitions pictureSignature) where
-  abbrev pub mixed : ℕ → List (Origin pictureSignature) → List (Row pictureSignature)
-  mixed i [] = []
-  mixed zero (o ∷ w) = rawRow o ∷ mixed zero w
-  mixed (suc i) (o ∷ w) = unfoldedRow pictureSignature D o ∷ mixed i w
-
-  pub mixed-length : (i : ℕ) (w : List (Origin pictureSignature)) → length (mixed i w) ≡ length w
+  pub mixed-length : (i : ℕ) (w : List (Origin pictureSignature)) → length (mixed D i w) ≡ length w
   mixed-length zero [] = refl
   mixed-length (suc i) [] = refl
   mixed-length zero (o ∷ w) = ap suc (mixed-length zero w)
   mixed-length (suc i) (o ∷ w) = ap suc (mixed-length i w)
 
-  pub mixed-own : (w : List (Origin pictureSignature)) → mixed 0 w ≡ rawRows w
+  pub mixed-own : (w : List (Origin pictureSignature)) → mixed D 0 w ≡ rawRows w
   mixed-own [] = refl
   mixed-own (o ∷ w) = ap (λ z. rawRow o ∷ z) (mixed-own w)
 
-  pub mixed-all : (i : ℕ) (w : List (Origin pictureSignature)) → length w ≤ i → mixed i w ≡ rowsFor pictureSignature D w
+  pub mixed-all : (i : ℕ) (w : List (Origin pictureSignature)) → length w ≤ i → mixed D i w ≡ rowsFor pictureSignature D w
   mixed-all zero [] l = refl
   mixed-all (suc i) [] l = refl
   mixed-all zero (o ∷ w) l = absurd (omega arith)
   mixed-all (suc i) (o ∷ w) l = ap (λ z. unfoldedRow pictureSignature D o ∷ z) (mixed-all i w (omega arith))
 
-  pub mixed-append : (i : ℕ) (v g : List (Origin pictureSignature)) → i ≤ length v → mixed i (v ++ g) ≡ mixed i v ++ rawRows g
+  pub mixed-append : (i : ℕ) (v g : List (Origin pictureSignature)) → i ≤ length v → mixed D i (v ++ g) ≡ mixed D i v ++ rawRows g
   mixed-append zero [] g l = mixed-own g
   mixed-append (suc i) [] g l = absurd (omega arith)
   mixed-append zero (o ∷ v) g l = ap (λ z. rawRow o ∷ z) (mixed-append zero v g (omega arith))
@@ -81,28 +77,28 @@ module _ (D : Definitions pictureSignature) where
     pub before : List (Row pictureSignature)
     pub after : List (Row pictureSignature)
     pub place : length before ≡ i
-    pub raw : mixed i v ≡ before ++ (rawRow o ∷ after)
-    pub unfolded : mixed (suc i) v ≡ before ++ (unfoldedRow pictureSignature D o ∷ after)
+    pub raw : mixed D i v ≡ before ++ (rawRow o ∷ after)
+    pub unfolded : mixed D (suc i) v ≡ before ++ (unfoldedRow pictureSignature D o ∷ after)
 
-  pub mixed-next : (i : ℕ) (v : List (Origin pictureSignature)) → i < length v → (o : Origin pictureSignature) × Split i v o
-  mixed-next i [] l = absurd (omega arith)
-  mixed-next zero (o ∷ v) l = (o, record { before = []; after = mixed zero v; place = refl; raw = refl; unfolded = refl })
-  mixed-next (suc i) (o ∷ v) l =
-      let (p, s) = mixed-next i v (omega arith) in (
-        p,
-        record {
-          before = unfoldedRow pictureSignature D o ∷ s .before;
-          after = s .after;
-          place = ap suc (s .place);
-          raw = ap (λ z. unfoldedRow pictureSignature D o ∷ z) (s .raw);
-          unfolded = ap (λ z. unfoldedRow pictureSignature D o ∷ z) (s .unfolded);
-        },
-      )
+  pub mixed-next : (i : ℕ) (v : List (Origin pictureSignature)) (d : Origin pictureSignature) → i < length v →
+      Split i v (getD v i d)
+  mixed-next i [] d l = absurd (omega arith)
+  mixed-next zero (o ∷ v) d l =
+      record { before = []; after = mixed D zero v; place = refl; raw = refl; unfolded = refl }
+  mixed-next (suc i) (o ∷ v) d l =
+      let s = mixed-next i v d (omega arith) in
+      record {
+        before = unfoldedRow pictureSignature D o ∷ s .before;
+        after = s .after;
+        place = ap suc (s .place);
+        raw = ap (λ z. unfoldedRow pictureSignature D o ∷ z) (s .raw);
+        unfolded = ap (λ z. unfoldedRow pictureSignature D o ∷ z) (s .unfolded);
+      }
 
   -- ---- in bytes
 
   pub own-written : (s e : List ℕ) (rows : ℕ) (d : List ℕ) → Added d e (copyBytes s (λ p. p) 0 rows) 0 rows → ((j : ℕ) → j < rows → Copyable s (0 + j) (0 + j)) →
-      prefix 0 d ≡ [] → prefix rows e ≡ rowsFrom 0 (mixed 0 (copies pictureSignature (pictureTable s) (λ p. p) 0 rows))
+      prefix 0 d ≡ [] → prefix rows e ≡ rowsFrom 0 (mixed D 0 (copies pictureSignature (pictureTable s) (λ p. p) 0 rows))
   own-written s e rows d a c z =
       ap (λ n. prefix n e) (let n : rows ≡ 0 + rows = omega arith in n)
       ∙ a .bytes
@@ -112,22 +108,22 @@ module _ (D : Definitions pictureSignature) where
 
   -- a definition's rows after those that are there, of which more than i have come up
   pub hung-written : (s d e : List ℕ) (i j first rows : ℕ) (v : List (Origin pictureSignature)) → first ≡ length v → j ≤ length v →
-      prefix first d ≡ rowsFrom 0 (mixed j v) → Added d e (copyBytes s (parentIn pictureSignature i first) 1 (rows - 1)) first (rows - 1) →
+      prefix first d ≡ rowsFrom 0 (mixed D j v) → Added d e (copyBytes s (parentIn pictureSignature i first) 1 (rows - 1)) first (rows - 1) →
       ((k : ℕ) → k < rows - 1 → Copyable s (1 + k) (first + k)) →
-      prefix (first + (rows - 1)) e ≡ rowsFrom 0 (mixed j (v ++ copies pictureSignature (pictureTable s) (parentIn pictureSignature i first) 1 (rows - 1)))
+      prefix (first + (rows - 1)) e ≡ rowsFrom 0 (mixed D j (v ++ copies pictureSignature (pictureTable s) (parentIn pictureSignature i first) 1 (rows - 1)))
   hung-written s d e i j first rows v is l was a c =
       let g = copies pictureSignature (pictureTable s) (parentIn pictureSignature i first) 1 (rows - 1) in
-      let count : 0 + length (mixed j v) ≡ first = omega (arith, mixed-length j v) in
+      let count : 0 + length (mixed D j v) ≡ first = omega (arith, mixed-length j v) in
       a .bytes
       ∙ ap₂ (λ x y. x ++ y) was (sym (copies-bytes s (parentIn pictureSignature i first) 1 (rows - 1) first c))
-      ∙ ap (λ n. rowsFrom 0 (mixed j v) ++ rowsFrom n (rawRows g)) (sym count)
-      ∙ sym (rowsFrom-append 0 (mixed j v) (rawRows g))
+      ∙ ap (λ n. rowsFrom 0 (mixed D j v) ++ rowsFrom n (rawRows g)) (sym count)
+      ∙ sym (rowsFrom-append 0 (mixed D j v) (rawRows g))
       ∙ ap (rowsFrom 0) (sym (mixed-append j v g l))
 
   -- row i written anew
   pub row-written : (d row : List ℕ) (i n : ℕ) (v : List (Origin pictureSignature)) (o : Origin pictureSignature) (s : Split i v o) → n ≡ length v →
-      prefix n d ≡ rowsFrom 0 (mixed i v) → row ≡ rowAt i (unfoldedRow pictureSignature D o) →
-      prefix n (put d (place i 0) row) ≡ rowsFrom 0 (mixed (suc i) v)
+      prefix n d ≡ rowsFrom 0 (mixed D i v) → row ≡ rowAt i (unfoldedRow pictureSignature D o) →
+      prefix n (put d (place i 0) row) ≡ rowsFrom 0 (mixed D (suc i) v)
   row-written d row i n v o s is was r =
       let b = s .before in
       let a = s .after in
@@ -136,7 +132,7 @@ module _ (D : Definitions pictureSignature) where
       λ w. rowsFrom-append 0 b (w ∷ a) ∙ ap (λ k. rowsFrom 0 b ++ (rowAt k w ++ rowsFrom (suc k) a)) at in
       let old : prefix n d ≡ rowsFrom 0 b ++ (rowAt i (rawRow o) ++ rowsFrom (suc i) a) = was ∙ ap (rowsFrom 0) (s .raw) ∙ parts (rawRow o) in
       let size : place n 0 ≡ length (rowsFrom 0 b ++ (rowAt i (rawRow o) ++ rowsFrom (suc i) a)) =
-      let e = length-rowsFrom 0 (mixed i v) in
+      let e = length-rowsFrom 0 (mixed D i v) in
       let f = ap length (ap (rowsFrom 0) (s .raw) ∙ parts (rawRow o)) in
       omega (arith, mixed-length i v) in
       take-middle d (rowsFrom 0 b) (rowAt i (rawRow o)) (rowsFrom (suc i) a) row (place n 0) (place i 0) old
