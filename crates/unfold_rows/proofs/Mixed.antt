@@ -4,7 +4,8 @@
 --   mixed-append                rows added at the end
 --   mixed-next                  row i comes up: one row is written anew, those before and after it stay
 --   own-written                 the picture's own rows, in bytes
---   row-written                 row i written anew, in bytes
+--   row-stands, row-written     row i before it comes up, and written anew, in bytes
+--   row-kept                    row i, if unfolding leaves it as it is
 --   hung-written                a definition's rows added, in bytes
 use Prim.Native.Nat.{ℕ, zero, suc, _*_, _+_, _-_, _<_, _≤_}
 use lib.ListN.{drop, getD, length, length-append, take, take-append-drop}
@@ -14,6 +15,7 @@ use mathlib.Core.Path.{_∙_, _≡_, ap, ap₂, refl, subst, sym}
 use native.Mathlib.Omega.{arith}
 use Rattle.table.specs.Layout.{«place», rowSize}
 use Rattle.table.specs.Put.{put}
+use Rattle.table.proofs.Rows.{Same, same-after, same-first}
 use Rattle.ale.specs.Encoding.{Row}
 use Rattle.ale.specs.PictureSignature.{pictureSignature}
 use Rattle.ale.specs.Table.{Table}
@@ -120,23 +122,63 @@ module _ (D : Definitions pictureSignature) where
       ∙ sym (rowsFrom-append 0 (mixed D j v) (rawRows g))
       ∙ ap (rowsFrom 0) (sym (mixed-append j v g l))
 
+  -- the bytes of row i, with those before and after it
+  abbrev around : (i : ℕ) (v : List (Origin pictureSignature)) (o : Origin pictureSignature) → Split i v o → List ℕ → List ℕ
+  around i v o s row = rowsFrom 0 (s .before) ++ (row ++ rowsFrom (suc i) (s .after))
+
+  around-rows : (i : ℕ) (v : List (Origin pictureSignature)) (o : Origin pictureSignature) (s : Split i v o)
+      (w : Row pictureSignature) → rowsFrom 0 (s .before ++ (w ∷ s .after)) ≡ around i v o s (rowAt i w)
+  around-rows i v o s w =
+      rowsFrom-append 0 (s .before) (w ∷ s .after)
+      ∙ ap (λ k. rowsFrom 0 (s .before) ++ (rowAt k w ++ rowsFrom (suc k) (s .after)))
+      (let at : 0 + length (s .before) ≡ i = omega (arith, s .place) in at)
+
+  raw-bytes : (i : ℕ) (v : List (Origin pictureSignature)) (o : Origin pictureSignature) (s : Split i v o) →
+      rowsFrom 0 (mixed D i v) ≡ around i v o s (rowAt i (rawRow o))
+  raw-bytes i v o s = ap (rowsFrom 0) (s .raw) ∙ around-rows i v o s (rawRow o)
+
+  unfolded-bytes : (i : ℕ) (v : List (Origin pictureSignature)) (o : Origin pictureSignature) (s : Split i v o) →
+      around i v o s (rowAt i (unfoldedRow pictureSignature D o)) ≡ rowsFrom 0 (mixed D (suc i) v)
+  unfolded-bytes i v o s =
+      sym (around-rows i v o s (unfoldedRow pictureSignature D o)) ∙ ap (rowsFrom 0) (sym (s .unfolded))
+
+  before-length : (i : ℕ) (v : List (Origin pictureSignature)) (o : Origin pictureSignature) (s : Split i v o) →
+      length (rowsFrom 0 (s .before)) ≡ rowSize * i
+  before-length i v o s = length-rowsFrom 0 (s .before) ∙ ap (λ n. rowSize * n) (s .place)
+
   -- row i written anew
-  pub row-written : (d row : List ℕ) (i n : ℕ) (v : List (Origin pictureSignature)) (o : Origin pictureSignature) (s : Split i v o) → n ≡ length v →
-      prefix n d ≡ rowsFrom 0 (mixed D i v) → row ≡ rowAt i (unfoldedRow pictureSignature D o) →
+  pub row-written : (d row : List ℕ) (i n : ℕ) (v : List (Origin pictureSignature)) (o : Origin pictureSignature)
+      (s : Split i v o) → n ≡ length v → prefix n d ≡ rowsFrom 0 (mixed D i v) →
+      row ≡ rowAt i (unfoldedRow pictureSignature D o) →
       prefix n (put d (place i 0) row) ≡ rowsFrom 0 (mixed D (suc i) v)
   row-written d row i n v o s is was r =
-      let b = s .before in
-      let a = s .after in
-      let at : 0 + length b ≡ i = omega (arith, s .place) in
-      let parts : (w : Row pictureSignature) → rowsFrom 0 (b ++ (w ∷ a)) ≡ rowsFrom 0 b ++ (rowAt i w ++ rowsFrom (suc i) a) =
-      λ w. rowsFrom-append 0 b (w ∷ a) ∙ ap (λ k. rowsFrom 0 b ++ (rowAt k w ++ rowsFrom (suc k) a)) at in
-      let old : prefix n d ≡ rowsFrom 0 b ++ (rowAt i (rawRow o) ++ rowsFrom (suc i) a) = was ∙ ap (rowsFrom 0) (s .raw) ∙ parts (rawRow o) in
-      let size : place n 0 ≡ length (rowsFrom 0 b ++ (rowAt i (rawRow o) ++ rowsFrom (suc i) a)) =
-      let e = length-rowsFrom 0 (mixed D i v) in
-      let f = ap length (ap (rowsFrom 0) (s .raw) ∙ parts (rawRow o)) in
-      omega (arith, mixed-length i v) in
-      take-middle d (rowsFrom 0 b) (rowAt i (rawRow o)) (rowsFrom (suc i) a) row (place n 0) (place i 0) old
-      (omega (arith, length-rowsFrom 0 b, s .place)) (ap length r ∙ length-rowAt i (unfoldedRow pictureSignature D o) ∙ sym (length-rowAt i (rawRow o))) size
-      ∙ ap (λ x. rowsFrom 0 b ++ (x ++ rowsFrom (suc i) a)) r
-      ∙ sym (parts (unfoldedRow pictureSignature D o))
-      ∙ ap (rowsFrom 0) (sym (s .unfolded))
+      let size : place n 0 ≡ length (around i v o s (rowAt i (rawRow o))) =
+      let e = ap length (raw-bytes i v o s) in
+      omega (arith, mixed-length i v, length-rowsFrom 0 (mixed D i v)) in
+      take-middle d (rowsFrom 0 (s .before)) (rowAt i (rawRow o)) (rowsFrom (suc i) (s .after)) row (place n 0) (place i 0)
+      (was ∙ raw-bytes i v o s) (omega (arith, before-length i v o s))
+      (ap length r ∙ length-rowAt i (unfoldedRow pictureSignature D o) ∙ sym (length-rowAt i (rawRow o))) size
+      ∙ ap (around i v o s) r
+      ∙ unfolded-bytes i v o s
+
+  -- a row that unfolding leaves as it is
+  pub row-kept : (i : ℕ) (v : List (Origin pictureSignature)) (o : Origin pictureSignature) → Split i v o →
+      rowAt i (rawRow o) ≡ rowAt i (unfoldedRow pictureSignature D o) →
+      rowsFrom 0 (mixed D i v) ≡ rowsFrom 0 (mixed D (suc i) v)
+  row-kept i v o s e = raw-bytes i v o s ∙ ap (around i v o s) e ∙ unfolded-bytes i v o s
+
+  -- row i as it stands before it comes up
+  pub row-stands : (d : List ℕ) (i n : ℕ) (v : List (Origin pictureSignature)) (o : Origin pictureSignature) → Split i v o →
+      prefix n d ≡ rowsFrom 0 (mixed D i v) → Same rowSize d i (rowAt i (rawRow o)) 0
+  row-stands d i n v o s was =
+      let rest = rowsFrom (suc i) (s .after) ++ drop (place n 0) d in
+      let whole : d ≡ rowsFrom 0 (s .before) ++ (rowAt i (rawRow o) ++ rest) =
+      sym (take-append-drop (place n 0) d) ∙ ap (λ z. z ++ drop (place n 0) d) (was ∙ raw-bytes i v o s)
+      ∙ append-assoc (rowsFrom 0 (s .before)) (rowAt i (rawRow o) ++ rowsFrom (suc i) (s .after)) (drop (place n 0) d)
+      ∙ ap (λ z. rowsFrom 0 (s .before) ++ z)
+      (append-assoc (rowAt i (rawRow o)) (rowsFrom (suc i) (s .after)) (drop (place n 0) d)) in
+      subst (λ z. Same rowSize z i (rowAt i (rawRow o)) 0) (sym whole)
+      (subst (λ z. Same rowSize (rowsFrom 0 (s .before) ++ (rowAt i (rawRow o) ++ rest)) z (rowAt i (rawRow o)) 0)
+      (let e : i + 0 ≡ i = omega arith in e)
+      (same-after (rowsFrom 0 (s .before)) i (before-length i v o s)
+      (same-first rowSize (rowAt i (rawRow o)) rest (omega (arith, length-rowAt i (rawRow o))))))
