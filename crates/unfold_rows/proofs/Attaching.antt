@@ -35,8 +35,14 @@ use Rattle.tbox.specs.Definitions.{Definitions}
 use Rattle.tbox.specs.Unfold.{Origin, attach, copies, hung, parentIn}
 use Rattle.tbox.proofs.Origins.{copies-length}
 use Rattle.picture.specs.Readable.{Readable, rowCount}
-use Rattle.picture.proofs.Readables.{readable-impossible, readable-kind, readable-length, readable-most, readable-parent,
-  readable-some}
+use Rattle.picture.proofs.Readables.{
+  readable-impossible,
+  readable-kind,
+  readable-length,
+  readable-most,
+  readable-parent,
+  readable-some,
+}
 use Rattle.meaning.specs.File.{codeAt, kindCode, rowsFrom}
 use Rattle.meaning.specs.Meaning.{kindAt, pictureTable}
 use Rattle.definition_parts.specs.Parts.{partAt}

@@ -5,6 +5,7 @@
 --   row-unfolded                   the row that is written anew is the unfolded one
 --   names-taken                    the names that were taken in, rising
 --   risen-anew, risen-idle         the table then: the row takes in definitions, or it wants no defined name
+--   has-row, anew-length           row i is there, and writing it anew keeps the length
 use Prim.Native.Nat.{_%_, _+_, _*_, _/_, _<_, _^_, _≤_, suc, zero, ℕ}
 use borrow.Author.Tests.{eqb-true, lt-ltb, not-false}
 use lib.Dec.{T, eqb, ltb}
@@ -22,7 +23,18 @@ use Rattle.table.specs.Pick.{pick}
 use Rattle.table.specs.Put.{put}
 use Rattle.table.proofs.Bools.{is-true, true-is}
 use Rattle.table.proofs.NameSets.{has-below, has-complement, has-intersection, has-none, set-ext}
-use Rattle.table.proofs.Rows.{HoldsRow, held-excluded, held-impossible, held-kind, held-role, held-wanted, parent-same}
+use Rattle.table.proofs.Puts.{length-put}
+use Rattle.table.proofs.Rows.{
+  HoldsRow,
+  held-excluded,
+  held-impossible,
+  held-kind,
+  held-role,
+  held-wanted,
+  length-rowOf,
+  parent-same,
+}
+use Rattle.table_rows.specs.Rows.{HasRow}
 use Rattle.ale.specs.PictureSignature.{below, pictureSignature}
 use Rattle.ale.specs.Rows.{filterBelow, member}
 use Rattle.ale.specs.Table.{Table}
@@ -35,7 +47,7 @@ use Rattle.tbox.proofs.UnfoldedTables.{WantsNone, taken-idle, taking-idle}
 use Rattle.meaning.specs.File.{codeAt, markCode, rowAt, rowsFrom}
 use Rattle.definition_parts.specs.Parts.{Agrees, Opened}
 use Rattle.unfold_rows.specs.Copies.{prefix}
-use Rattle.unfold_rows.specs.Growing.{Attached, Capped, Pictures, Standing, mixed, rawRow}
+use Rattle.unfold_rows.specs.Growing.{Attached, Capped, Pictures, Rising, Standing, mixed, rawRow}
 use Rattle.unfold_rows.specs.Labels.{LabelRead, relabelled}
 use Rattle.unfold_rows.specs.Takings.{Shows, TakenIn}
 use Rattle.unfold_rows.specs.declared.take.Taking.{Taking}
@@ -186,3 +198,23 @@ module _ (D : Definitions pictureSignature) (tbox starts : List ℕ) (defined : 
           few = λ b. record { count = standing .count; bytes = standing .bytes ∙ row-kept D i v o split (row-idle (idle f)) };
           many = λ b. absurd (omega (arith, standing .count));
         })
+
+-- ---- room
+
+pub has-row : (tbox starts : List ℕ) (defined i limit rows : ℕ) (out : List ℕ) →
+    Rising tbox starts defined i limit rows out → HasRow out i
+has-row tbox starts defined i limit rows out h =
+    (omega (arith, h .here, h .within, h .small), omega (arith, h .here, h .within, h .room))
+
+-- row i written anew keeps the length
+pub anew-length : (d m : List ℕ) (i : ℕ) (t : Taking) (defined : ℕ) → HasRow d i →
+    m ≡ put d (place i 0) (relabelled d i t defined) → length m ≡ length d
+anew-length d m i t defined h e =
+    ap length e
+    ∙ length-put d (place i 0) (relabelled d i t defined)
+    (omega (
+      arith,
+      h .1,
+      length-rowOf (parentOf d i) (kindOf d i) (roleOf d i) (t .impossible)
+          (intersection (setOf (t .wanted)) (complement defined)) (setOf (t .excluded)),
+    ))

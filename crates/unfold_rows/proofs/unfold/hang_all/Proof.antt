@@ -13,8 +13,19 @@ use Rattle.table.specs.NameValues.{setOf}
 use Rattle.picture.specs.Readable.{rowCount}
 use Rattle.definition_parts.specs.Parts.{partAt}
 use Rattle.unfold_rows.specs.Copies.{Source}
-use Rattle.unfold_rows.proofs.Attaching.{Onward, Remaining, hung-most, hung-of, namesFrom, onward-end, onward-next, onward-start,
-  readable-source, remaining-next, remaining-start}
+use Rattle.unfold_rows.proofs.Attaching.{
+  Onward,
+  Remaining,
+  hung-most,
+  hung-of,
+  namesFrom,
+  onward-end,
+  onward-next,
+  onward-start,
+  readable-source,
+  remaining-next,
+  remaining-start,
+}
 use Rattle.unfold_rows.proofs.unfold.hang_all.Statement.{statement}
 use Rattle.unfold_rows.proofs.unfold.hang_all.Tie as tie
 
