@@ -17,7 +17,7 @@ use Rattle.tbox.specs.Unfold.{parentIn}
 use Rattle.unfold_rows.specs.Copies.{Added, copyBytes, copyOf, prefix}
 
 -- as in normal_writer, proofs/Prefixes
-take-put : (d : List ℕ) (at : ℕ) (s : List ℕ) (n : ℕ) → at ≤ length d → n ≡ at + length s → take n (put d at s) ≡ take at d ++ s
+pub take-put : (d : List ℕ) (at : ℕ) (s : List ℕ) (n : ℕ) → at ≤ length d → n ≡ at + length s → take n (put d at s) ≡ take at d ++ s
 unfolding put
 take-put d at s n h e = take-at (take at d ++ s) _ n (length-append (take at d) s ∙ ap (λ (k : ℕ). k + length s) (length-take-le at d h) ∙ sym e)
 

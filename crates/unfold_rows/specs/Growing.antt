@@ -7,13 +7,14 @@
 --   Attachable, Attached   definitions hung to row i, which has come up, by rising name: what is asked before, what has been done
 --   Rising, Risen          the same of row i coming up
 --   Unfoldable, Unfolded   the same of the whole picture
+--   Filed                  the same with the end field behind the rows: a picture file
 use Prim.Native.Nat.{_+_, _<_, _≤_, suc, zero, ℕ}
-use lib.ListN.{getD, length}
+use lib.ListN.{getD, length, take}
 use mathlib.Core.Bool.{true}
 use mathlib.Core.List.{List, [], _∷_}
 use mathlib.Core.Path.{_≡_}
 use Rattle.table.specs.Bounds.{Bounded, maxRows}
-use Rattle.table.specs.Layout.{nameCount, «place»}
+use Rattle.table.specs.Layout.{endSize, nameCount, «place»}
 use Rattle.table.specs.NameSet.{has}
 use Rattle.table.specs.declared.layout.Limits.{Limits}
 use Rattle.ale.specs.Encoding.{Row}
@@ -23,7 +24,7 @@ use Rattle.ale.specs.Table.{Table}
 use Rattle.tbox.specs.Definitions.{Definitions}
 use Rattle.tbox.specs.Unfold.{Origin, attach, grown, unfoldRows, unfoldedRow, visit}
 use Rattle.picture.specs.Readable.{Readable, rowCount}
-use Rattle.meaning.specs.File.{rowsFrom}
+use Rattle.meaning.specs.File.{fileOf, rowsFrom}
 use Rattle.meaning.specs.Meaning.{pictureTable}
 use Rattle.definition_parts.specs.Parts.{Agrees, Opened, partAt}
 use Rattle.unfold_rows.specs.Copies.{prefix}
@@ -91,5 +92,14 @@ pub record Unfolded (picture tbox starts : List ℕ) (defined limit r : ℕ) (d 
       length (grown pictureSignature D (pictureTable picture) limit) ≤ limit →
       (r ≡ length (grown pictureSignature D (pictureTable picture) limit))
       × (prefix r e ≡ rowsFrom 0 (unfoldRows pictureSignature D limit (pictureTable picture)))
+  pub many : (D : Definitions pictureSignature) → Agrees D tbox starts defined →
+      limit < length (grown pictureSignature D (pictureTable picture) limit) → limit < r
+
+pub record Filed (picture tbox starts : List ℕ) (defined limit r : ℕ) (d e : List ℕ) : Type 0 where
+  pub same-length : length e ≡ length d
+  pub few : (D : Definitions pictureSignature) → Agrees D tbox starts defined →
+      length (grown pictureSignature D (pictureTable picture) limit) ≤ limit →
+      (r ≡ length (grown pictureSignature D (pictureTable picture) limit))
+      × (take (place r endSize) e ≡ fileOf (unfoldRows pictureSignature D limit (pictureTable picture)))
   pub many : (D : Definitions pictureSignature) → Agrees D tbox starts defined →
       limit < length (grown pictureSignature D (pictureTable picture) limit) → limit < r

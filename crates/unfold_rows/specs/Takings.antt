@@ -1,4 +1,5 @@
 -- What a row takes in, by the values that the code has.
+--   wantsNames  a row of a picture wants one of some names
 --   wantingIn   a defined name that is wanted and was not taken in
 --   Took        the root's names and mark were united with a label, and its name was noted
 --   Shows       a label with what was taken in, as the theory has it
@@ -12,15 +13,20 @@ use mathlib.Core.Path.{_≡_}
 use Rattle.table.specs.Fields.{excludedOf, impossibleOf, wantedOf}
 use Rattle.table.specs.Layout.{nameCount}
 use Rattle.table.specs.NameSet.{has, union}
-use Rattle.table.specs.NameValues.{setOf}
+use Rattle.table.specs.NameValues.{overlap, setOf}
 use Rattle.table.specs.Pick.{pick}
+use Rattle.table.specs.Range.{some}
 use Rattle.ale.specs.PictureSignature.{pictureSignature}
 use Rattle.ale.specs.Rows.{member}
 use Rattle.tbox.specs.Definitions.{Definitions}
 use Rattle.tbox.specs.Unfold as Theory
 use Rattle.meaning.specs.File.{markCode}
+use Rattle.meaning.specs.Meaning.{pictureTable}
 use Rattle.definition_parts.specs.Parts.{Agrees}
 use Rattle.unfold_rows.specs.declared.take.Taking.{Taking}
+
+abbrev pub wantsNames : List ℕ → ℕ → Bool
+wantsNames s names = some (λ j. overlap (pictureTable s .label j .wanted .set) names) (pictureTable s .rows) 0
 
 abbrev pub wantingIn : Taking → ℕ → ℕ → Bool
 wantingIn s defined n = has defined n && (has (setOf (s .wanted)) n && not (has (setOf (s .taken)) n))
