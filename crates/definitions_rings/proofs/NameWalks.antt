@@ -9,7 +9,7 @@
 use Prim.Native.Nat.{_<_, _^_, _≤_, ℕ}
 use native.Mathlib.Nat.{eq-or-lt-of-le}
 use native.Mathlib.Omega.{arith}
-use borrow.Author.Tests.{eq-eqb, eqb-true, lt-ltb, ne-eqb}
+use borrow.Author.Tests.{eq-eqb, eqb-true, lt-ltb}
 use lib.Bits.{and-le-l}
 use lib.Dec.{eqb}
 use lib.Pow.{pow-lt}
@@ -45,7 +45,9 @@ module _ (set name : ℕ) (low : name < nameCount) (held : has set name ≡ true
   struck-less =
       ⊎-elim
       (λ e. absurd (false≢true (
-      sym (struck-has name low ∙ rw (eq-eqb name name refl) (and-none (has set name))) ∙ ap (λ (n : ℕ). has n name) e ∙ held)))
+      sym (struck-has name low ∙ rw (eq-eqb name name refl) (and-none (has set name)))
+      ∙ ap (λ (n : ℕ). has n name) e
+      ∙ held)))
       (λ l. l)
       (eq-or-lt-of-le (and-le-l set (complement (2 ^ name))))
 
@@ -56,16 +58,19 @@ pub record Walk (set left name : ℕ) : Type 0 where
 pub walk-start : (set name : ℕ) → Lowest set name → Walk set set name
 walk-start set name l = record { lowest = l; within = λ m _ h. h }
 
-pub walk-next : (set left name next to : ℕ) → Walk set left name → Struck left name next → Lowest next to → Walk set next to
+pub walk-next : (set left name next to : ℕ) → Walk set left name → Struck left name next → Lowest next to →
+    Walk set next to
 walk-next set left name next to w s l = record {
   lowest = l;
   within = λ m b h. w .within m b (both (has left m) (not (eqb m name)) (sym (s .1 m b) ∙ h) .0);
 }
 
-pub walk-done : (set left name : ℕ) → Walk set left name → nameCount ≤ name → (m : ℕ) → m < nameCount → has left m ≡ false
+pub walk-done : (set left name : ℕ) → Walk set left name → nameCount ≤ name →
+    (m : ℕ) → m < nameCount → has left m ≡ false
 walk-done set left name w past m l = w .lowest .1 .0 m (omega arith)
 
-pub struck-out : (left name next m : ℕ) → Struck left name next → m < nameCount → has next m ≡ false → (has left m ≡ false) ⊎ (m ≡ name)
+pub struck-out : (left name next m : ℕ) → Struck left name next → m < nameCount → has next m ≡ false →
+    (has left m ≡ false) ⊎ (m ≡ name)
 struck-out left name next m s l h =
     by-test (eqb m name) (λ e. inr (eqb-true m name e))
     (λ e. inl (all-kept (has left m) (eqb m name) e (sym (s .1 m l) ∙ h)))

@@ -3,17 +3,17 @@
 --   member-filter      the members of a filtered range, as a test
 --   settled-member     the words of the rounds are the theory's lists
 --   rings-acyclic      all defined names are settled exactly if the theory's 28 says so
-use Prim.Native.Nat.{_+_, _<_, _^_, _≤_, suc, zero, ℕ}
+use Prim.Native.Nat.{_<_, suc, zero, ℕ}
 use native.Mathlib.Omega.{arith}
 use lib.Dec.{ltb}
 use borrow.Author.Tests.{lt-ltb, ltb-true}
 use lib.ListN.{getD}
 use mathlib.Core.Bool.{Bool, _&&_, _||_, false, false≢true, not, true}
 use mathlib.Core.List.{List}
-use mathlib.Core.Path.{_∙_, _≡_, ap, refl, subst, sym}
+use mathlib.Core.Path.{_∙_, _≡_, ap, refl, sym}
 use Rattle.table.specs.Layout.{nameCount}
 use Rattle.table.specs.NameSet.{has, subset}
-use Rattle.table.specs.Range.{each, some}
+use Rattle.table.specs.Range.{each}
 use Rattle.table.specs.declared.names.Names.{Names}
 use Rattle.table.proofs.Bools.{both, is-true, true-is}
 use Rattle.table.proofs.NameSets.{has-below, has-none, has-subset, subset-has}
@@ -51,7 +51,9 @@ subset-each a b f g low p q =
 pub member-filter : (q : ℕ → Bool) (n j : ℕ) → member j (filterBelow q n) ≡ (ltb j n && q j)
 member-filter q n j =
     same-test (member j (filterBelow q n)) (ltb j n && q j)
-    (λ e. let (t, l) = filterBelow-out q n j (true-is (member j (filterBelow q n)) e) in rw (lt-ltb j n l, is-true (q j) t))
+    (λ e.
+    let (t, l) = filterBelow-out q n j (true-is (member j (filterBelow q n)) e) in
+    rw (lt-ltb j n l, is-true (q j) t))
     (λ e. let (l, t) = both (ltb j n) (q j) e in
     is-true (member j (filterBelow q n)) (filterBelow-in q n j (true-is (q j) t) (ltb-true j n l)))
 
@@ -66,10 +68,12 @@ module _ (D : Definitions pictureSignature) (tbox starts : List ℕ) (defined : 
   defined-below : (n : ℕ) → has (D .defined .set) n ≡ true → n < nameCount
   defined-below n e = has-below (D .defined .set) n (below (D .defined)) e
 
-  uses-same : (n : ℕ) → n < nameCount → has defined n ≡ true → (m : ℕ) → has (usesAt sets n) m ≡ uses pictureSignature D n m
+  uses-same : (n : ℕ) → n < nameCount → has defined n ≡ true →
+      (m : ℕ) → has (usesAt sets n) m ≡ uses pictureSignature D n m
   uses-same n l d m =
       found .right n l d m
-      ∙ ap (λ (b : Bool). b && wantsIn pictureSignature (pictureTable (partAt tbox (getD starts n 0))) m) (defined-same m)
+      ∙ ap (λ (b : Bool). b && wantsIn pictureSignature (pictureTable (partAt tbox (getD starts n 0))) m)
+      (defined-same m)
       ∙ ap (λ q. has (D .defined .set) m && wantsIn pictureSignature q m)
       (sym (agrees .pictures n (true-is (has (D .defined .set) n) (sym (defined-same n) ∙ d))))
 
@@ -77,7 +81,8 @@ module _ (D : Definitions pictureSignature) (tbox starts : List ℕ) (defined : 
       has (settleSet (usesAt sets) defined w) n ≡ member n (settle pictureSignature D s)
   settles-same w s same n =
       let X : Bool = each (λ m. not (uses pictureSignature D n m) || member m s) nameCount 0 in
-      let q : ℕ → Bool = λ n. has (D .defined .set) n && each (λ m. not (uses pictureSignature D n m) || member m s) nameCount 0 in
+      let q : ℕ → Bool =
+      λ n. has (D .defined .set) n && each (λ m. not (uses pictureSignature D n m) || member m s) nameCount 0 in
       settle-has (usesAt sets) defined w n
       ∙ and-same (ltb n nameCount) (has defined n && subset (usesAt sets n) w) (q n) (λ l.
       and-same (has defined n) (subset (usesAt sets n) w) X (λ d.
@@ -95,5 +100,5 @@ module _ (D : Definitions pictureSignature) (tbox starts : List ℕ) (defined : 
 
   pub rings-acyclic : subset defined (wordsAt nameCount) ≡ acyclic pictureSignature D
   rings-acyclic =
-      subset-each defined (wordsAt nameCount) (λ n. has (D .defined .set) n) (λ n. member n (settled pictureSignature D nameCount))
-      defined-below defined-same (settled-member nameCount)
+      subset-each defined (wordsAt nameCount) (λ n. has (D .defined .set) n)
+      (λ n. member n (settled pictureSignature D nameCount)) defined-below defined-same (settled-member nameCount)

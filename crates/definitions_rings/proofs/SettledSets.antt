@@ -7,10 +7,9 @@
 --   settled-still                  after a round that adds none, every number of rounds gives the same
 --   round-more, round-last         so of what the code has
 --   some-more                      a test over one number more
-use Prim.Native.Nat.{_+_, _-_, _<_, _≤_, suc, zero, ℕ}
+use Prim.Native.Nat.{_+_, _-_, _≤_, suc, zero, ℕ}
 use native.Mathlib.Numerals.{add-one}
 use native.Mathlib.Omega.{arith}
-use borrow.Author.Tests.{eqb-true}
 use lib.Dec.{ltb}
 use mathlib.Core.Bool.{Bool, _&&_, _||_, false, false≢true, true}
 use mathlib.Core.Path.{_∙_, _≡_, ap, refl, sym}
@@ -38,7 +37,8 @@ module _ (uses : ℕ → ℕ) (defined : ℕ) where
   abbrev settles : ℕ → ℕ → Bool
   settles done n = has defined n && subset (uses n) done
 
-  pub settle-has : (done n : ℕ) → has (settleSet uses defined done) n ≡ (ltb n nameCount && (has defined n && subset (uses n) done))
+  pub settle-has : (done n : ℕ) →
+      has (settleSet uses defined done) n ≡ (ltb n nameCount && (has defined n && subset (uses n) done))
   settle-has done n = has-setBelow (settles done) nameCount n
 
   pub settled-none : settledSet uses defined 0 ≡ none
@@ -55,12 +55,15 @@ module _ (uses : ℕ → ℕ) (defined : ℕ) where
   subset-on : (a b c : ℕ) → subset b c ≡ true → subset a b ≡ true → subset a c ≡ true
   subset-on a b c q p = has-subset a c (λ n h. subset-has b c q n (subset-has a b p n h))
 
-  pub settle-within : (a b : ℕ) → subset a b ≡ true → subset (settleSet uses defined a) (settleSet uses defined b) ≡ true
+  pub settle-within : (a b : ℕ) → subset a b ≡ true →
+      subset (settleSet uses defined a) (settleSet uses defined b) ≡ true
   settle-within a b p =
       has-subset (settleSet uses defined a) (settleSet uses defined b) (λ n h.
       let (l, s) = both (ltb n nameCount) (settles a n) (sym (settle-has a n) ∙ h) in
       let (d, u) = both (has defined n) (subset (uses n) a) s in
-      settle-has b n ∙ both-true (ltb n nameCount) (settles b n) l (both-true (has defined n) (subset (uses n) b) d (subset-on (uses n) a b p u)))
+      settle-has b n
+      ∙ both-true (ltb n nameCount) (settles b n) l
+      (both-true (has defined n) (subset (uses n) b) d (subset-on (uses n) a b p u)))
 
   pub settled-within : (k : ℕ) → subset (settledSet uses defined k) (settledSet uses defined (k + 1)) ≡ true
   settled-within zero =
@@ -70,7 +73,8 @@ module _ (uses : ℕ → ℕ) (defined : ℕ) where
       let w = settledSet uses defined in
       let e : w (suc k) ≡ settleSet uses defined (w k) = settled-suc k in
       let f : w (suc k + 1) ≡ settleSet uses defined (w (suc k)) = settled-more (suc k) in
-      let p : subset (w k) (w (suc k)) ≡ true = ap (λ (i : ℕ). subset (w k) (w i)) (let z : suc k ≡ k + 1 = omega arith in z) ∙ settled-within k in
+      let z : suc k ≡ k + 1 = omega arith in
+      let p : subset (w k) (w (suc k)) ≡ true = ap (λ (i : ℕ). subset (w k) (w i)) z ∙ settled-within k in
       ap (λ (a : ℕ). subset (w (suc k)) a) f ∙ ap (λ (a : ℕ). subset a (settleSet uses defined (w (suc k)))) e
       ∙ settle-within (w k) (w (suc k)) p
 
@@ -85,15 +89,19 @@ module _ (uses : ℕ → ℕ) (defined : ℕ) where
       ∙ subset-same (settledSet uses defined (k + 1)) (settledSet uses defined k) s (settled-within k)
 
   -- what the code's rounds give: one more, and after one that adds none the last
-  pub round-more : (k done next : ℕ) → done ≡ settledSet uses defined k → next ≡ settleSet uses defined done → next ≡ settledSet uses defined (k + 1)
+  pub round-more : (k done next : ℕ) → done ≡ settledSet uses defined k → next ≡ settleSet uses defined done →
+      next ≡ settledSet uses defined (k + 1)
   round-more k done next e f = f ∙ ap (settleSet uses defined) e ∙ sym (settled-more k)
 
   pub round-last : (k done next last : ℕ) → done ≡ settledSet uses defined k → next ≡ settleSet uses defined done →
       subset next done ≡ true → k ≤ last → done ≡ settledSet uses defined last
   round-last k done next last e f s l =
       let t : subset (settledSet uses defined (k + 1)) (settledSet uses defined k) ≡ true =
-          ap (λ (w : ℕ). subset w (settledSet uses defined k)) (sym (round-more k done next e f)) ∙ ap (λ (w : ℕ). subset next w) (sym e) ∙ s in
-      e ∙ sym (settled-still k t (last - k)) ∙ ap (λ (n : ℕ). settledSet uses defined n) (let z : last - k + k ≡ last = omega arith in z)
+      ap (λ (w : ℕ). subset w (settledSet uses defined k)) (sym (round-more k done next e f))
+      ∙ ap (λ (w : ℕ). subset next w) (sym e)
+      ∙ s in
+      let z : last - k + k ≡ last = omega arith in
+      e ∙ sym (settled-still k t (last - k)) ∙ ap (λ (n : ℕ). settledSet uses defined n) z
 
 some-next : (f : ℕ → Bool) (n j : ℕ) → some f (suc n) j ≡ (some f n j || f (j + n))
 unfolding some

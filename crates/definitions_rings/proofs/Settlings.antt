@@ -3,8 +3,7 @@
 --   settling-start, settling-next  before the first name; one name more
 --   settling-done                  after the last it is the round's set
 use Prim.Native.Nat.{_<_, _≤_, ℕ}
-use borrow.Author.Tests.{eq-eqb, eqb-true, le-ltb, lt-ltb, ltb-false, ltb-true, ne-eqb}
-use native.Mathlib.Omega.{arith}
+use borrow.Author.Tests.{eq-eqb, eqb-true, lt-ltb, ltb-true}
 use lib.Dec.{eqb, ltb}
 use mathlib.Core.Bool.{Bool, _&&_, _||_, false, not, true}
 use mathlib.Core.Path.{_∙_, _≡_, ap, refl, subst, sym}
@@ -37,7 +36,8 @@ module _ (uses : ℕ → ℕ) (defined done : ℕ) where
       nothing false b c = refl
 
   module _ (found left name more next to : ℕ) (before : Settling found left name) (low : name < nameCount)
-      (adds : (m : ℕ) → has more m ≡ (has found m || (settles name && eqb m name))) (struck : Struck left name next) where
+      (adds : (m : ℕ) → has more m ≡ (has found m || (settles name && eqb m name)))
+      (struck : Struck left name next) where
     abbrev Found : ℕ → Type 0
     Found m = has more m ≡ (ltb m nameCount && ((has defined m && not (has next m)) && settles m))
 
@@ -66,12 +66,18 @@ module _ (uses : ℕ → ℕ) (defined done : ℕ) where
     found-next m = by-test (eqb m name) (λ e. subst Found (sym (eqb-true m name e)) at-name) (elsewhere m)
 
     pub settling-next : Lowest next to → Settling more next to
-    settling-next l = record { walk = walk-next defined left name next to (before .walk) struck l; has-found = found-next }
+    settling-next l = record {
+      walk = walk-next defined left name next to (before .walk) struck l;
+      has-found = found-next;
+    }
 
-  pub settling-done : (found left name : ℕ) → Settling found left name → nameCount ≤ name → found ≡ settleSet uses defined done
+  pub settling-done : (found left name : ℕ) → Settling found left name → nameCount ≤ name →
+      found ≡ settleSet uses defined done
   settling-done found left name s past =
       word-is (λ n. has defined n && settles n) found nameCount (λ m.
       s .has-found m
       ∙ by-test (ltb m nameCount)
-      (λ l. rw (walk-done defined left name (s .walk) past m (ltb-true m nameCount l)) (ap (λ (b : Bool). ltb m nameCount && (b && settles m)) (and-all (has defined m))))
+      (λ l.
+      rw (walk-done defined left name (s .walk) past m (ltb-true m nameCount l))
+      (ap (λ (b : Bool). ltb m nameCount && (b && settles m)) (and-all (has defined m))))
       (λ l. rw l))

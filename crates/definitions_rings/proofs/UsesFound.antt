@@ -17,7 +17,8 @@ use Rattle.table.specs.NameValues.{setOf}
 use Rattle.table.specs.declared.names.Names.{Names}
 use Rattle.definition_parts.specs.Parts.{partAt}
 use Rattle.definitions_rings.specs.Rings.{Uses, usedIn, usesAt}
-use Rattle.definitions_rings.proofs.NameWalks.{Lowest, Struck, Walk, struck-out, walk-done, walk-next, walk-start}
+use Rattle.definitions_rings.proofs.NameWalks.{Lowest, Struck, Walk, struck-out}
+use Rattle.definitions_rings.proofs.NameWalks.{walk-done, walk-next, walk-start}
 
 module _ (tbox starts : List ℕ) (defined : ℕ) where
   abbrev RightAt : List Names → ℕ → Type 0
@@ -28,14 +29,16 @@ module _ (tbox starts : List ℕ) (defined : ℕ) where
     pub walk : Walk defined left name
     pub right : (n : ℕ) → n < nameCount → has defined n ≡ true → has left n ≡ false → RightAt uses n
 
-  pub finding-start : (uses : List Names) (name : ℕ) → length uses ≡ nameCount → Lowest defined name → Finding uses defined name
+  pub finding-start : (uses : List Names) (name : ℕ) → length uses ≡ nameCount → Lowest defined name →
+      Finding uses defined name
   finding-start uses name e l = record {
     size = e;
     walk = walk-start defined name l;
     right = λ n _ d z. absurd (false≢true (sym z ∙ d));
   }
 
-  pub finding-next : (uses : List Names) (left name next to : ℕ) (used : Names) → Finding uses left name → name < nameCount →
+  pub finding-next : (uses : List Names) (left name next to : ℕ) (used : Names) →
+      Finding uses left name → name < nameCount →
       ((m : ℕ) → has (setOf used) m ≡ usedIn (partAt tbox (getD starts name 0)) defined m) →
       Struck left name next → Lowest next to → Finding (set uses name used) next to
   finding-next uses left name next to used f low u s l = record {
@@ -44,14 +47,17 @@ module _ (tbox starts : List ℕ) (defined : ℕ) where
     right = λ n b d z.
         elim (ℕ-discrete n name) [
           | yes e ↦ subst (RightAt (set uses name used)) (sym e) (λ m.
-              ap (λ (v : Names). has (setOf v) m) (getD-set-same uses name used (record { word = none }) (omega (arith, f .size))) ∙ u m)
+              ap (λ (v : Names). has (setOf v) m)
+              (getD-set-same uses name used (record { word = none }) (omega (arith, f .size)))
+              ∙ u m)
           | no o ↦ λ m.
               ap (λ (v : Names). has (setOf v) m) (getD-set-other uses name n used (record { word = none }) o)
               ∙ f .right n b d (⊎-elim (λ h. h) (λ e. absurd (o e)) (struck-out left name next n s b z)) m
         ];
   }
 
-  pub finding-done : (uses : List Names) (left name : ℕ) → Finding uses left name → nameCount ≤ name → Uses tbox starts defined uses
+  pub finding-done : (uses : List Names) (left name : ℕ) → Finding uses left name → nameCount ≤ name →
+      Uses tbox starts defined uses
   finding-done uses left name f past = record {
     right = λ n b d. f .right n b d (walk-done defined left name (f .walk) past n b);
   }

@@ -31,7 +31,8 @@ module _ (s : List ℕ) where
   unfolding some
   wants-start = record { has-each = has-none }
 
-  pub wants-more : (k set row : ℕ) → Wants k set → row ≡ wantedOf s k → row < 2 ^ nameCount → Wants (k + 1) (union set row)
+  pub wants-more : (k set row : ℕ) → Wants k set → row ≡ wantedOf s k → row < 2 ^ nameCount →
+      Wants (k + 1) (union set row)
   wants-more k set row w e l = record {
     has-each = λ m.
         has-union set row m

@@ -19,7 +19,8 @@ ghost use Rattle.definitions_rings.specs.Rings.{settleSet, settledSet, u
 // A set with a name whose uses are all in another.
 fn settle_name(found: Names, name: usize, used: Names, done: Names) -> Names
     requires { ⌜ name < nameCount ⌝ }
-    ensures { λ r. ⌜ ((m : ℕ) → has (setOf r) m ≡ (has (setOf found) m || (subset (setOf used) (setOf done) && eqb m name))) ⌝ }
+    ensures { λ r. ⌜ ((m : ℕ) →
+        has (setOf r) m ≡ (has (setOf found) m || (subset (setOf used) (setOf done) && eqb m name))) ⌝ }
 {
     if used.subset(done) {
         return found.union(Names::only(name));

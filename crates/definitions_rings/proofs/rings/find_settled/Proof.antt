@@ -36,8 +36,8 @@ returns c =
     let next = c .before .before .settle in
     let l = c .before .before .before .before .loop in
     let a = c .before .before .before .before .before .before .args in
-    round-last (usesAt (a .uses)) (setOf (a .defined)) (l .round) (setOf (l .done)) (setOf (next .result)) nameCount (l .inv .1)
-    (next .ensures) (sym (c .before .subset .ensures) ∙ c .if1 .taken) (l .inv .0)
+    round-last (usesAt (a .uses)) (setOf (a .defined)) _ _ _ nameCount (l .inv .1) (next .ensures)
+    (sym (c .before .subset .ensures) ∙ c .if1 .taken) (l .inv .0)
 
 add-round : tie.Need-add-round Inv-loop μ-loop
 add-round c = omega (arith, c .before .before .before .loop-test .taken)
@@ -49,15 +49,17 @@ loop-again : tie.Need-loop-again Inv-loop μ-loop
 loop-again c =
     let next = c .before .before .settle in
     let l = c .before .before .before .before .loop in
-    let a = c .before .before .before .before .before .before .args in
-    (omega (arith, c .before .before .before .loop-test .taken),
-    round-more (usesAt (a .uses)) (setOf (a .defined)) (l .round) (setOf (l .done)) (setOf (next .result)) (l .inv .1) (next .ensures))
+    let a = c .before .before .before .before .before .before .args in (
+      omega (arith, c .before .before .before .loop-test .taken),
+      round-more (usesAt (a .uses)) (setOf (a .defined)) _ _ _ (l .inv .1) (next .ensures),
+    )
 
 returns-2 : tie.Need-returns-2 Inv-loop μ-loop
 returns-2 c =
     let l = c .before .loop in
     let a = c .before .before .before .args in
-    l .inv .1 ∙ ap (settledSet (usesAt (a .uses)) (setOf (a .defined))) (let e : l .round ≡ nameCount = omega (arith, l .inv .0, c .loop-test .left) in e)
+    let all : l .round ≡ nameCount = omega (arith, l .inv .0, c .loop-test .left) in
+    l .inv .1 ∙ ap (settledSet (usesAt (a .uses)) (setOf (a .defined))) all
 
 pub find-settled-spec : {M : Type 1} → statement M
 find-settled-spec =

@@ -24,9 +24,9 @@ returns c =
     let found = c .before .before .find-uses in
     let defined = setOf (a .defined) in
     λ D agrees.
-        c .subset .ensures
-        ∙ ap (λ (w : ℕ). subset defined w) (c .before .find-settled .ensures)
-        ∙ rings-acyclic D (now (a .tbox)) (now (a .starts)) defined agrees (found .result) (found .ensures)
+    c .subset .ensures
+    ∙ ap (λ (w : ℕ). subset defined w) (c .before .find-settled .ensures)
+    ∙ rings-acyclic D (now (a .tbox)) (now (a .starts)) defined agrees (found .result) (found .ensures)
 
 pub is-acyclic-spec : {M : Type 1} → statement M
 is-acyclic-spec = tie.close (tie.spec find-uses-requires find-settled-requires subset-requires returns)

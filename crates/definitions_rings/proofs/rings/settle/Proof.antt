@@ -9,7 +9,8 @@ use Rattle.definitions_rings.proofs.rings.settle.Statement.{statement}
 use Rattle.definitions_rings.proofs.rings.settle.Tie as tie
 
 abbrev Inv-loop : tie.InvT-loop
-Inv-loop done uses found₀ left₀ name₀ found left name = Settling (usesAt uses) (setOf left₀) (setOf done) (setOf found) (setOf left) name
+Inv-loop done uses found₀ left₀ name₀ found left name =
+    Settling (usesAt uses) (setOf left₀) (setOf done) (setOf found) (setOf left) name
 
 abbrev μ-loop : tie.MeasureT-loop
 μ-loop done uses found₀ left₀ name₀ found left name = setOf left
@@ -23,7 +24,8 @@ first-requires c κs = search needs
 loop-holds : tie.Need-loop-holds Inv-loop μ-loop
 loop-holds c =
     let a = c .before .before .args in
-    rw (c .before .none .ensures) (settling-start (usesAt (a .t1)) (setOf (a .defined)) (setOf (a .done)) (c .first .result) (c .first .ensures))
+    rw (c .before .none .ensures)
+    (settling-start (usesAt (a .t1)) (setOf (a .defined)) (setOf (a .done)) _ (c .first .ensures))
 
 mul-settle-name : tie.Need-mul-settle-name Inv-loop μ-loop
 mul-settle-name c = omega (arith, c .loop-test .taken)
@@ -49,15 +51,15 @@ loop-again : tie.Need-loop-again Inv-loop μ-loop
 loop-again c =
     let a = c .before .before .before .before .before .before .before .before .args in
     let l = c .before .before .before .before .before .loop in
-    settling-next (usesAt (a .t1)) (setOf (a .defined)) (setOf (a .done)) (setOf (l .found)) (setOf (l .left)) (l .name)
-    (setOf (c .before .before .settle-name .result)) (setOf (c .before .without .result)) (c .first2 .result)
-    (l .inv) (c .before .before .before .before .loop-test .taken) (c .before .before .settle-name .ensures) (c .before .without .ensures) (c .first2 .ensures)
+    settling-next (usesAt (a .t1)) (setOf (a .defined)) (setOf (a .done)) _ _ _ _ _ _ (l .inv)
+    (c .before .before .before .before .loop-test .taken)
+    (c .before .before .settle-name .ensures) (c .before .without .ensures) (c .first2 .ensures)
 
 returns : tie.Need-returns Inv-loop μ-loop
 returns c =
     let a = c .before .before .before .before .args in
-    let l = c .before .loop in
-    settling-done (usesAt (a .t1)) (setOf (a .defined)) (setOf (a .done)) (setOf (l .found)) (setOf (l .left)) (l .name) (l .inv) (c .loop-test .left)
+    settling-done (usesAt (a .t1)) (setOf (a .defined)) (setOf (a .done)) _ _ _ (c .before .loop .inv)
+    (c .loop-test .left)
 
 pub settle-spec : {M : Type 1} → statement M
 settle-spec =

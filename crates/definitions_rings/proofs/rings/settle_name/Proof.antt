@@ -1,5 +1,5 @@
 -- One name more where its uses are in the set, and none where not.
-use Prim.Native.Nat.{_^_, ℕ}
+use Prim.Native.Nat.{_^_}
 use borrow.Author.Needs.{needs}
 use mathlib.Core.Bool.{Bool, _||_}
 use mathlib.Core.Path.{_∙_, ap, sym}
@@ -25,7 +25,9 @@ returns c =
     let found = setOf (start .args .found) in
     let within = sym (c .before .before .before .subset .ensures) ∙ c .before .before .if1 .taken in
     rw (c .union .ensures, c .before .only .ensures, within)
-    (λ m. has-union found (2 ^ start .args .name) m ∙ ap (λ (b : Bool). has found m || b) (has-power (start .args .name) m))
+    (λ m.
+    has-union found (2 ^ start .args .name) m
+    ∙ ap (λ (b : Bool). has found m || b) (has-power (start .args .name) m))
 
 returns-2 : tie.Need-returns-2
 returns-2 c =

@@ -2,21 +2,18 @@
 use native.Mathlib.Omega.{arith}
 use borrow.Author.Needs.{needs}
 use denote.Ref.{now}
-use lib.ListN.{getD}
 use mathlib.Core.Bool.{true}
-use mathlib.Core.Path.{_∙_, _≡_, refl, subst, sym}
-use Prim.Native.Nat.{_<_, ℕ}
+use mathlib.Core.Path.{_≡_, refl}
 use Rattle.table.specs.NameSet.{has}
 use Rattle.table.specs.NameValues.{setOf}
-use Rattle.picture.specs.Readable.{rowCount}
-use Rattle.definition_parts.specs.Parts.{partAt}
 use Rattle.definition_parts.proofs.Parts.{opened-has}
 use Rattle.definitions_rings.proofs.UsesFound.{Finding, finding-done, finding-next, finding-start}
 use Rattle.definitions_rings.proofs.uses.find_uses.Statement.{statement}
 use Rattle.definitions_rings.proofs.uses.find_uses.Tie as tie
 
 abbrev Inv-loop : tie.InvT-loop
-Inv-loop tbox starts defined uses₀ left₀ name₀ uses left name = Finding tbox starts (setOf defined) uses (setOf left) name
+Inv-loop tbox starts defined uses₀ left₀ name₀ uses left name =
+    Finding tbox starts (setOf defined) uses (setOf left) name
 
 abbrev μ-loop : tie.MeasureT-loop
 μ-loop tbox starts defined uses₀ left₀ name₀ uses left name = setOf left
@@ -25,7 +22,8 @@ abbrev μ-loop : tie.MeasureT-loop
 held : (c : tie.In-loop Inv-loop μ-loop) → has (setOf (c .before .loop .left)) (c .before .loop .name) ≡ true
 held c = c .before .loop .inv .walk .lowest .1 .1 (c .loop-test .taken)
 
-in-book : (c : tie.In-loop Inv-loop μ-loop) → has (setOf (c .before .before .before .before .before .args .defined)) (c .before .loop .name) ≡ true
+in-book : (c : tie.In-loop Inv-loop μ-loop) →
+    has (setOf (c .before .before .before .before .before .args .defined)) (c .before .loop .name) ≡ true
 in-book c = c .before .loop .inv .walk .within (c .before .loop .name) (c .loop-test .taken) (held c)
 
 none-requires : tie.Need-none-requires Inv-loop μ-loop
@@ -48,8 +46,8 @@ used-names-requires : tie.Need-used-names-requires Inv-loop μ-loop
 used-names-requires c κs =
     let start = c .before .before .before .before .before .before in
     let a = start .args in
-    let name = c .before .before .loop .name in
-    rw (c .definition .ensures) (opened-has (now (a .tbox)) (now (a .starts)) (setOf (a .defined)) name (start .pre) (in-book (c .before)))
+    rw (c .definition .ensures)
+    (opened-has (now (a .tbox)) (now (a .starts)) (setOf (a .defined)) _ (start .pre) (in-book (c .before)))
 
 mul-uses : tie.Need-mul-uses Inv-loop μ-loop
 mul-uses c = omega (arith, c .before .before .loop-test .taken)
@@ -73,15 +71,15 @@ loop-again c =
     let turn = picture .before in
     let l = turn .before .loop in
     let a = turn .before .before .before .before .before .args in
-    finding-next (now (a .tbox)) (now (a .starts)) (setOf (a .defined)) (l .uses) (setOf (l .left)) (l .name)
-    (setOf (c .before .without .result)) (c .first2 .result) (used .used-names .result) (l .inv) (turn .loop-test .taken)
-    (rw (← (picture .definition .ensures)) (used .used-names .ensures)) (c .before .without .ensures) (c .first2 .ensures)
+    finding-next (now (a .tbox)) (now (a .starts)) (setOf (a .defined)) _ _ _ _ _ _ (l .inv) (turn .loop-test .taken)
+    (rw (← (picture .definition .ensures)) (used .used-names .ensures))
+    (c .before .without .ensures) (c .first2 .ensures)
 
 returns : tie.Need-returns Inv-loop μ-loop
 returns c =
     let a = c .before .before .before .before .before .args in
-    let l = c .before .loop in
-    finding-done (now (a .tbox)) (now (a .starts)) (setOf (a .defined)) (l .uses) (setOf (l .left)) (l .name) (l .inv) (c .loop-test .left)
+    finding-done (now (a .tbox)) (now (a .starts)) (setOf (a .defined)) _ _ _ (c .before .loop .inv)
+    (c .loop-test .left)
 
 pub find-uses-spec : {M : Type 1} → statement M
 find-uses-spec =

@@ -27,7 +27,7 @@ loop-holds c =
 wanted-requires : tie.Need-wanted-requires Inv-loop μ-loop
 wanted-requires c κs =
     let start = c .before .before .before .before in
-    start .pre (c .before .loop .k) (row-counted (now (start .args .picture)) (c .before .loop .k) (c .loop-test .taken))
+    start .pre _ (row-counted (now (start .args .picture)) _ (omega (arith, c .loop-test .taken)))
 
 union-requires : tie.Need-union-requires Inv-loop μ-loop
 union-requires c κs = search needs
@@ -43,9 +43,10 @@ loop-again c =
     let s = now (c .before .before .before .before .before .before .args .picture) in
     let l = c .before .before .before .loop in
     let row = c .before .wanted in
-    let e : setOf (c .union .result) ≡ union (setOf (l .wants)) (setOf (row .result)) = c .union .ensures in
-    (omega (arith, c .before .before .loop-test .taken),
-    rw e (wants-more s (l .k) (setOf (l .wants)) (setOf (row .result)) (l .inv .1) (row .ensures .0) (row .ensures .1)))
+    let e : setOf (c .union .result) ≡ union (setOf (l .wants)) (setOf (row .result)) = c .union .ensures in (
+      omega (arith, c .before .before .loop-test .taken),
+      rw e (wants-more s _ _ _ (l .inv .1) (row .ensures .0) (row .ensures .1)),
+    )
 
 intersection-requires : tie.Need-intersection-requires Inv-loop μ-loop
 intersection-requires c κs = search needs
@@ -56,7 +57,7 @@ returns c =
     let s = now (start .args .picture) in
     let l = c .before .before .loop in
     rw (c .intersection .ensures)
-    (wants-used s (l .k) (setOf (l .wants)) (setOf (start .args .defined)) (l .inv .1) (l .inv .0) (c .before .loop-test .left))
+    (wants-used s _ _ (setOf (start .args .defined)) (l .inv .1) (l .inv .0) (c .before .loop-test .left))
 
 pub used-names-spec : {M : Type 1} → statement M
 used-names-spec =

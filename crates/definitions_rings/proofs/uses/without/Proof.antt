@@ -1,7 +1,7 @@
 -- An intersection with the complement of the set of one name.
 use borrow.Author.Needs.{needs}
 use Rattle.table.specs.NameValues.{setOf}
-use Rattle.definitions_rings.proofs.NameWalks.{Struck, struck-has, struck-less}
+use Rattle.definitions_rings.proofs.NameWalks.{struck-has, struck-less}
 use Rattle.definitions_rings.proofs.uses.without.Statement.{statement}
 use Rattle.definitions_rings.proofs.uses.without.Tie as tie
 
