@@ -1,2 +1,3 @@
 -- The laws of reading a definitions book.
 pub mod Exclusions
+pub mod Indexes
