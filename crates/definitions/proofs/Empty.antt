@@ -8,7 +8,7 @@
 use Prim.Native.Nat.{_%_, _+_, _^_, suc, zero, ℕ}
 use lib.Bits.{and-zero-r, bitAnd}
 use lib.Dec.{T, eqb}
-use mathlib.Core.Bool.{Bool, _&&_, false, not, true}
+use mathlib.Core.Bool.{Bool, false, not, true}
 use mathlib.Core.List.{List, [], _∷_}
 use mathlib.Core.Path.{_∙_, _≡_, ap, refl, subst}
 use native.Mathlib.Omega.{arith}
@@ -30,7 +30,7 @@ use Rattle.picture.specs.Readable.{Readable}
 use Rattle.picture.specs.declared.answer.Asked.the-variants.{Yes}
 use Rattle.meaning.specs.Meaning.{pictureTable}
 use Rattle.definitions.specs.Asked.{Picture, definitionsAsked}
-use Rattle.definitions.specs.Form.{definitionCount, definitionTag, definitionsForm, nameOf, named}
+use Rattle.definitions.specs.Form.{definitionCount, definitionsForm, nameOf}
 use Rattle.definitions.specs.Refusals.{AllOf}
 use Rattle.definitions.specs.Tbox.{definedWord, tboxOf}
 use Rattle.definitions.specs.Unfolded.{Definable, Unfolds, anyDefined, excludesNone, namedOnce, unfoldedFile, wantsDefined}
@@ -121,9 +121,5 @@ unfolding fieldCount fieldsFrom fieldWith fieldPlace endBytes
 end-count = refl
 
 pub end-form : definitionsForm endBytes ≡ true
-unfolding definitionsForm
-end-form = ap (λ k. fieldsForm definitionTag endBytes && each (named endBytes) k 0) end-count ∙ ends
-  where
-    ends : (fieldsForm definitionTag endBytes && each (named endBytes) 0 0) ≡ true
-    unfolding fieldsForm fieldCount fieldsFrom fieldWith fieldPlace endsAt endBytes be beBytes each
-    ends = refl
+unfolding definitionsForm fieldsForm fieldCount fieldsFrom fieldWith fieldPlace endsAt endBytes be beBytes each
+end-form = refl
