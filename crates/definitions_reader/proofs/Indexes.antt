@@ -1,8 +1,8 @@
 -- The index of a definitions book, field by field.
---   IndexedTo                  of the first k definitions: their names, whether two are the same, and, if not, where each
---                              picture begins
+--   IndexedTo                  of the first k definitions: their names, whether two are the same, and, if not, where
+--                              each picture begins
 --   index-start, index-next    no definition; one more
---   part-file                  the part of the book from there is the definition's picture
+--   part-file, part-there      the part of the book from there is the definition's picture, and lies in the book
 --   index-all                  all of them
 use Prim.Native.Nat.{_+_, _-_, _<_, _^_, _≤_, suc, zero, ℕ}
 use borrow.Author.Tests.{eq-eqb, eqb-true, lt-ltb, ne-eqb, not-false, not-true}
@@ -17,13 +17,13 @@ use native.Mathlib.Decide.{decLt, ℕ-discrete}
 use native.Mathlib.Nat.{eq-or-lt-of-le}
 use native.Mathlib.Omega.{arith}
 use Rattle.table.proofs.Bools.{both, by-test, either, is-true}
-use Rattle.table.proofs.NameSets.{has-none, has-power, has-union}
+use Rattle.table.proofs.NameSets.{has-none, has-power, has-union, subset-power}
 use Rattle.table.proofs.Ranges.{at-each, at-some, each-at, some-at}
 use Rattle.table.proofs.SetsBelow.{has-setBelow, word-is}
 use Rattle.table.proofs.Tests.{refuted}
 use Rattle.table.specs.Bounds.{Bounded, benchLimits}
 use Rattle.table.specs.Layout.{headSize, lengthOffset, nameCount, numberSize}
-use Rattle.table.specs.NameSet.{has, none, union}
+use Rattle.table.specs.NameSet.{has, none, subset, union}
 use Rattle.table.specs.NameValues.{setOf}
 use Rattle.table.specs.Number.{be}
 use Rattle.table.specs.Range.{each}
@@ -70,26 +70,33 @@ one-more P k low here j l =
     let i : j ≤ k = omega arith in
     ⊎-elim (λ e. subst P (sym e) here) (λ b. low j b) (eq-or-lt-of-le {n = j} {m = k} i)
 
+-- of definition k the name, the set of it alone, and where its picture begins; then the set and the test with it
 module _ (tbox starts : List ℕ) (defined : ℕ) (once : Bool) (k : ℕ) (so : IndexedTo tbox starts defined once k)
-    (l : k < definitionCount tbox) (name at : ℕ) (is : name ≡ nameOf tbox k) (below : name < nameCount)
-    (begins : at ≡ pictureStart tbox k) (seen : Bool) (was : seen ≡ has defined name) where
-  after : (n : ℕ) → has (union defined (2 ^ name)) n ≡ (has defined n || eqb n name)
-  after n = has-union defined (2 ^ name) n ∙ ap (λ b. has defined n || b) (has-power name n)
+    (l : k < definitionCount tbox) (name only at : ℕ) (is : name ≡ nameOf tbox k) (below : name < nameCount)
+    (alone : only ≡ 2 ^ name) (begins : at ≡ pictureStart tbox k) (word : ℕ) (joined : word ≡ union defined only)
+    (still : Bool) (new : still ≡ (once && not (subset only defined))) where
+  after : (n : ℕ) → has word n ≡ (has defined n || eqb n name)
+  after n =
+      ap (λ w. has w n) (joined ∙ ap (union defined) alone)
+      ∙ has-union defined (2 ^ name) n ∙ ap (λ b. has defined n || b) (has-power name n)
+
+  seen : subset only defined ≡ has defined name
+  seen = ap (λ w. subset w defined) alone ∙ subset-power name defined
 
   -- the definition is the first of its name
-  first : (once && not seen) ≡ true → (once ≡ true) × ((j : ℕ) → j < k → ¬ (nameOf tbox j ≡ name))
+  first : still ≡ true → (once ≡ true) × ((j : ℕ) → j < k → ¬ (nameOf tbox j ≡ name))
   first e =
-      let (so-far, new) = both once (not seen) e in (
+      let (so-far, unseen) = both once (not (subset only defined)) (sym new ∙ e) in (
         so-far,
         λ j b same.
-            true≢false (sym (so .met j b) ∙ ap (has defined) same ∙ sym was ∙ not-true seen new),
+            true≢false (sym (so .met j b) ∙ ap (has defined) same ∙ sym seen ∙ not-true (subset only defined) unseen),
       )
 
-  pub index-next : IndexedTo tbox (set starts name at) (union defined (2 ^ name)) (once && not seen) (k + 1)
+  pub index-next : IndexedTo tbox (set starts name at) word still (k + 1)
   index-next = record {
     size = length-set starts name at ∙ so .size;
     most = omega arith;
-    met = one-more (λ j. has (union defined (2 ^ name)) (nameOf tbox j) ≡ true) k
+    met = one-more (λ j. has word (nameOf tbox j) ≡ true) k
         (λ j b. after (nameOf tbox j) ∙ ap (λ t. t || eqb (nameOf tbox j) name) (so .met j b))
         (after (nameOf tbox k)
         ∙ ap (λ t. has defined (nameOf tbox k) || t) (eq-eqb (nameOf tbox k) name (sym is))
@@ -103,8 +110,9 @@ module _ (tbox starts : List ℕ) (defined : ℕ) (once : Bool) (k : ℕ) (so : 
         (λ j b c. so .differ (first e .0) i j c b) (λ c same. first e .1 i c (same ∙ sym is)) j u a;
     agree = λ e. by-test once
         (λ (t : once ≡ true).
-        let again : seen ≡ true = not-false seen (sym (ap (λ b. b && not seen) t) ∙ e) in
-        let (i, b, same) = so .meets name (sym was ∙ again) in
+        let again : subset only defined ≡ true =
+        not-false (subset only defined) (sym (new ∙ ap (λ b. b && not (subset only defined)) t) ∙ e) in
+        let (i, b, same) = so .meets name (sym seen ∙ again) in
         (i, k, b, omega arith, same ∙ is))
         (λ t. let (i, j, a, b, same) = so .agree t in (i, j, a, omega arith, same));
     start = λ e. one-more (λ j. getD (set starts name at) (nameOf tbox j) 0 ≡ pictureStart tbox j) k
@@ -157,8 +165,8 @@ module _ (tbox : List ℕ) (form : definitionsForm tbox ≡ true) (index : Index
       let (j, l, same) = so .meets n e in
       let found = at-some (λ k. eqb (nameOf tbox k) n) (definitionCount tbox) 0 j (omega arith) (omega arith)
       (eq-eqb (nameOf tbox j) n same) in
-      e ∙ sym (ap (λ b. b && defines tbox n) (lt-ltb n nameCount (subst (λ m. m < nameCount) same (name-below tbox form j l)))
-      ∙ found))
+      let low = subst (λ m. m < nameCount) same (name-below tbox form j l) in
+      e ∙ sym (ap (λ b. b && defines tbox n) (lt-ltb n nameCount low) ∙ found))
       (λ e. e ∙ sym (refuted (ltb n nameCount && defines tbox n) (λ t.
       let (k, a, b, same) =
       some-at (λ k. eqb (nameOf tbox k) n) (definitionCount tbox) 0 (both (ltb n nameCount) (defines tbox n) t .1) in
