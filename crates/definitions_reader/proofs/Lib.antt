@@ -1,0 +1,2 @@
+-- The laws of reading a definitions book.
+pub mod Exclusions

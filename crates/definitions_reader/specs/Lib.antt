@@ -1,0 +1,2 @@
+-- What the readers of a definitions book find. Nobody has to believe these.
+pub mod Excluded
