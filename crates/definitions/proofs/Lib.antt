@@ -4,3 +4,4 @@ pub mod Unfolds
 pub mod Coverings
 pub mod Questions
 pub mod Empty
+pub mod OtherLimits
