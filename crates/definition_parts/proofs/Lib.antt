@@ -1,1 +1,2 @@
 -- The laws, by subject.
+pub mod Parts
