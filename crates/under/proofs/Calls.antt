@@ -222,6 +222,12 @@ module _ (limits : Limits) (tbox : List ℕ) where
         after-short : (after : Asked) → enough ≡ false → andThen (lentAsked limits enough p q) after ≡ No shortBuffer
         after-short after e = ap (λ a. andThen a after) (pair-short e)
 
+        -- a buffer that is written once 1 to 14 are answered yes
+        pair-buffer : (new old : List ℕ) →
+            kept (lentUnder limits enough tbox (pair first second)) (kept (lentAsked limits enough p q) new old) old
+            ≡ kept (lentAsked limits enough p q) new old
+        pair-buffer = same-buffer limits enough tbox (pair first second) ok (lentAsked limits enough p q) pair-short
+
       pub subsumes-same : (work result : ℕ) →
           subsumesUnder limits tbox first second work result ≡ subsumesAnswer limits p q work result
       unfolding subsumesUnder subsumesAnswer
@@ -234,17 +240,14 @@ module _ (limits : Limits) (tbox : List ℕ) where
           subsumesWorkUnder limits tbox first second work result ≡ subsumesWork limits p q work result
       unfolding subsumesWorkUnder
       subsumes-work-same work result =
-          let enough = roomy limits (evidenceSize limits) (length work) result in
-          same-buffer limits enough tbox (pair first second) ok (lentAsked limits enough p q) (pair-short enough)
-          (halvesPut limits p q work) work
+          pair-buffer (roomy limits (evidenceSize limits) (length work) result) (halvesPut limits p q work) work
 
       pub subsumes-result-same : (work : ℕ) (result : List ℕ) →
           subsumesResultUnder limits tbox first second work result ≡ subsumesResult limits p q work result
       unfolding subsumesResultUnder
       subsumes-result-same work result =
-          let enough = roomy limits (evidenceSize limits) work (length result) in
-          same-buffer limits enough tbox (pair first second) ok (lentAsked limits enough p q) (pair-short enough)
-          (put result 0 (evidenceOf limits p q)) result
+          pair-buffer (roomy limits (evidenceSize limits) work (length result)) (put result 0 (evidenceOf limits p q))
+          result
 
       pub lcs-same : (work result : ℕ) →
           lcsUnder limits tbox first second work result ≡ lcsAnswer limits p q work result
@@ -258,9 +261,7 @@ module _ (limits : Limits) (tbox : List ℕ) where
           lcsWorkUnder limits tbox first second work result ≡ lcsWork limits p q work result
       unfolding lcsWorkUnder
       lcs-work-same work result =
-          let enough = roomy limits (pictureSize limits) (length work) result in
-          same-buffer limits enough tbox (pair first second) ok (lentAsked limits enough p q) (pair-short enough)
-          (halvesPut limits p q work) work
+          pair-buffer (roomy limits (pictureSize limits) (length work) result) (halvesPut limits p q work) work
 
       pub lcs-result-same : (work : ℕ) (result : List ℕ) →
           lcsResultUnder limits tbox first second work result ≡ lcsResult limits p q work result
@@ -281,7 +282,4 @@ module _ (limits : Limits) (tbox : List ℕ) where
       pub verify-work-same : (work : List ℕ) →
           verifyWorkUnder limits tbox first second work ≡ verifyWork limits p q work
       unfolding verifyWorkUnder
-      verify-work-same work =
-          let enough = leb (workSize limits) (length work) in
-          same-buffer limits enough tbox (pair first second) ok (lentAsked limits enough p q) (pair-short enough)
-          (halvesPut limits p q work) work
+      verify-work-same work = pair-buffer (leb (workSize limits) (length work)) (halvesPut limits p q work) work

@@ -37,12 +37,13 @@ use Rattle.tbox.specs.Covering.{wholeTree}
 use Rattle.picture.proofs.Keeping.{kept-yes}
 use Rattle.picture.proofs.Orders.{given, on-yes}
 use Rattle.picture.specs.Readable.{Readable}
+use Rattle.picture.specs.declared.answer.Refusal.{Refusal}
 use Rattle.meaning.proofs.Normals.{normalFile-equivalent}
 use Rattle.meaning.specs.Covering.{Covers}
 use Rattle.meaning.specs.Meaning.{pictureTable, pictureTree}
 use Rattle.meaning.specs.NormalTable.{mergedCount, normalFile}
 use Rattle.workspace.specs.Prepare.{Acceptable, workSize}
-use Rattle.evidence.proofs.Soundness.{evidence-taken, map-covers, map-taken, refutation-fails, refutation-taken}
+use Rattle.evidence.proofs.Soundness.{TakenAs, evidence-taken, map-covers, map-taken, refutation-fails, refutation-taken}
 use Rattle.evidence.specs.Call.{evidenceKind}
 use Rattle.evidence.specs.Taken.{MapOf, RefutationOf}
 use Rattle.evidence.specs.declared.check.Verified.{Verified}
@@ -76,25 +77,28 @@ module _ (limits : Limits) (bounded : Bounded limits) (tbox : List ℕ) where
     -- ---- evidence, whatever bytes are given
 
     module _ (e : List ℕ) (room : ℕ) where
-      pub map-shown : verifyUnder limits tbox first second e room ≡ MapTaken →
-          AcceptableUnder limits tbox first second × MapOf limits p q e
-      map-shown h =
-          let (all, kind) = given Refused (evidenceKind limits q e) MapTaken
-          (λ r is. let z : _≡_ {A = ℕ} 0 1 = cc in omega arith) (verifyAll limits tbox first second e room)
+      -- what is taken as a kind is of that kind
+      shown : (kind : Verified) → ((r : Refusal) → Refused r ≡ kind → ⊥) →
+          verifyUnder limits tbox first second e room ≡ kind →
+          AcceptableUnder limits tbox first second × TakenAs limits p q e kind
+      shown kind none h =
+          let (all, is) = given Refused (evidenceKind limits q e) kind none (verifyAll limits tbox first second e room)
           (sym (verify-all limits tbox first second e room) ∙ h) in
           let (enough, ok, taken) = verify-yes limits bounded tbox first second e room .0 all in
           let base = acceptable-unfolded limits tbox first second bounded ok in
-          (ok, map-taken limits p q e bounded base .0 (evidence-taken limits p q e bounded base .1 taken, kind))
+          (ok, (evidence-taken limits p q e bounded base .1 taken, is))
+
+      pub map-shown : verifyUnder limits tbox first second e room ≡ MapTaken →
+          AcceptableUnder limits tbox first second × MapOf limits p q e
+      map-shown h =
+          let (ok, taken) = shown MapTaken (λ r is. let z : _≡_ {A = ℕ} 0 1 = cc in omega arith) h in
+          (ok, map-taken limits p q e bounded (acceptable-unfolded limits tbox first second bounded ok) .0 taken)
 
       pub refutation-shown : verifyUnder limits tbox first second e room ≡ RefutationTaken →
           AcceptableUnder limits tbox first second × RefutationOf limits p q e
       refutation-shown h =
-          let (all, kind) = given Refused (evidenceKind limits q e) RefutationTaken
-          (λ r is. let z : _≡_ {A = ℕ} 0 1 = cc in omega arith) (verifyAll limits tbox first second e room)
-          (sym (verify-all limits tbox first second e room) ∙ h) in
-          let (enough, ok, taken) = verify-yes limits bounded tbox first second e room .0 all in
-          let base = acceptable-unfolded limits tbox first second bounded ok in
-          (ok, refutation-taken limits p q e bounded base .0 (evidence-taken limits p q e bounded base .1 taken, kind))
+          let (ok, taken) = shown RefutationTaken (λ r is. let z : _≡_ {A = ℕ} 0 1 = cc in omega arith) h in
+          (ok, refutation-taken limits p q e bounded (acceptable-unfolded limits tbox first second bounded ok) .0 taken)
 
     module _ (ok : AcceptableUnder limits tbox first second) where
       abbrev base : Acceptable limits p q

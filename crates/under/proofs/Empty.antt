@@ -30,10 +30,10 @@ use Rattle.picture.specs.declared.answer.Asked.the-variants.{No, Yes}
 use Rattle.picture.specs.declared.answer.Input.the-variants.{Card, First, Second}
 use Rattle.normal.specs.Call.{mergedAsked, normalizeAnswer, normalizeResult, oneAsked}
 use Rattle.workspace.specs.Lent.{lentAsked, roomy}
-use Rattle.workspace.specs.Prepare.{pairAsked, workSize}
+use Rattle.workspace.specs.Prepare.{halvesPut, pairAsked, workSize}
 use Rattle.evidence.specs.Call.{evidenceAsked, verifyAnswer, verifyWork}
 use Rattle.subsumption.specs.Call.{subsumesAnswer, subsumesResult, subsumesWork}
-use Rattle.subsumption.specs.Verdict.{evidenceSize}
+use Rattle.subsumption.specs.Verdict.{evidenceOf, evidenceSize}
 use Rattle.lcs.specs.Call.{largeAsked, lcsAnswer, lcsResult, lcsWork}
 use Rattle.book.specs.Call.{bookAsked, cardMerged, cardRead, formAsked, mostSpecificAnswer, mostSpecificAsked, mostSpecificWork}
 use Rattle.book.specs.Form.{bookForm, card, cardCount}
@@ -115,6 +115,14 @@ module _ (limits : Limits) (tbox : List ℕ) (empty : definitionCount tbox ≡ 0
         ≡ andThen (lentAsked limits enough first second) after
     then-again enough after = ap (λ (a : Asked). andThen a after) (pair-again enough)
 
+    -- a buffer that is written once 1 to 14 are answered yes
+    pair-buffer : (enough : Bool) (new : List ℕ → List ℕ → List ℕ) (old : List ℕ) →
+        kept (andThen (lentUnder limits enough tbox (pair first second))
+        (lentAsked limits enough (unfoldedFile limits tbox first) (unfoldedFile limits tbox second)))
+        (new (unfoldedFile limits tbox first) (unfoldedFile limits tbox second)) old
+        ≡ kept (lentAsked limits enough first second) (new first second) old
+    pair-buffer enough new old = rw (itself first, itself second, pair-again enough)
+
     pub empty-subsumes : (work result : ℕ) →
         subsumesUnder limits tbox first second work result ≡ subsumesAnswer limits first second work result
     unfolding subsumesAnswer
@@ -126,13 +134,14 @@ module _ (limits : Limits) (tbox : List ℕ) (empty : definitionCount tbox ≡ 0
         subsumesWorkUnder limits tbox first second work result ≡ subsumesWork limits first second work result
     empty-subsumes-work work result =
         calls.subsumes-work-all limits tbox first second work result
-        ∙ rw (itself first, itself second, pair-again (roomy limits (evidenceSize limits) (length work) result))
+        ∙ pair-buffer (roomy limits (evidenceSize limits) (length work) result) (λ p q. halvesPut limits p q work) work
 
     pub empty-subsumes-result : (work : ℕ) (result : List ℕ) →
         subsumesResultUnder limits tbox first second work result ≡ subsumesResult limits first second work result
     empty-subsumes-result work result =
         calls.subsumes-result-all limits tbox first second work result
-        ∙ rw (itself first, itself second, pair-again (roomy limits (evidenceSize limits) work (length result)))
+        ∙ pair-buffer (roomy limits (evidenceSize limits) work (length result))
+        (λ p q. put result 0 (evidenceOf limits p q)) result
 
     pub empty-lcs : (work result : ℕ) →
         lcsUnder limits tbox first second work result ≡ lcsAnswer limits first second work result
@@ -149,7 +158,7 @@ module _ (limits : Limits) (tbox : List ℕ) (empty : definitionCount tbox ≡ 0
         lcsWorkUnder limits tbox first second work result ≡ lcsWork limits first second work result
     empty-lcs-work work result =
         calls.lcs-work-all limits tbox first second work result
-        ∙ rw (itself first, itself second, pair-again (roomy limits (pictureSize limits) (length work) result))
+        ∙ pair-buffer (roomy limits (pictureSize limits) (length work) result) (λ p q. halvesPut limits p q work) work
 
     pub empty-lcs-result : (work : ℕ) (result : List ℕ) →
         lcsResultUnder limits tbox first second work result ≡ lcsResult limits first second work result
@@ -176,7 +185,7 @@ module _ (limits : Limits) (tbox : List ℕ) (empty : definitionCount tbox ≡ 0
         verifyWorkUnder limits tbox first second work ≡ verifyWork limits first second work
     empty-verify-work work =
         calls.verify-work-all limits tbox first second work
-        ∙ rw (itself first, itself second, pair-again (leb (workSize limits) (length work)))
+        ∙ pair-buffer (leb (workSize limits) (length work)) (λ p q. halvesPut limits p q work) work
 
 -- ---- books of the same cards
 
