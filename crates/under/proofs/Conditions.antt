@@ -1,7 +1,7 @@
 -- Conditions 2 and 3 under a definitions book, of the verdict and of evidence: those without a book, of the unfolded
 -- pictures, with covering under the book.
---   map-shown, refutation-shown   what is taken is a map, or a refutation, of the unfolded pictures of an acceptable
---                                 pair, whatever bytes are given
+--   kind-shown                    evidence is taken only with room and of an acceptable pair, and is of its kind,
+--   map-shown, refutation-shown   so it is a map, or a refutation, of the unfolded pictures, whatever bytes are given
 --   verdict-covers-under, verdict-fails-under   the verdict on the unfolded pictures is yes exactly if the second
 --                                 covers the first under the book, else no
 --   map-covers-under, refutation-fails-under    a map shows that the second covers the first under the book, a
@@ -12,14 +12,13 @@
 --                                 refutation exactly if it does not
 --   verdict-given, evidence-left  with room that verdict is given, and that evidence is in the result buffer,
 --   yes-exactly, no-exactly       so yes is answered exactly if the second covers the first, and no exactly if not
---   defined-ignored               whatever sets defined names have, the same individuals fit an unfolded picture
 --   normal-under                  the normal table of an unfolded picture is fitted by what fits the picture
 use Prim.Native.Nat.{_<_, _≤_, ℕ}
 use lib.ListN.{length}
 use mathlib.Core.Bool.{Bool, false, true}
 use mathlib.Core.List.{List}
 use mathlib.Core.Logic.{_↔_, _⊎_, inl, inr}
-use mathlib.Core.Path.{_∙_, _≡_, ap, subst, sym}
+use mathlib.Core.Path.{_∙_, _≡_, ap, sym}
 use native.Mathlib.Omega.{arith}
 use Rattle.table.proofs.Bools.{by-test}
 use Rattle.table.specs.Bounds.{Bounded}
@@ -30,17 +29,13 @@ use Rattle.table.specs.declared.layout.Limits.{Limits}
 use Rattle.ale.proofs.Concepts.{extension-fits, fits-extension}
 use Rattle.ale.specs.Interpretation.{Interpretation, structureOf}
 use Rattle.ale.specs.PictureSignature.{pictureSignature}
-use Rattle.ale.specs.Structure.{Fits}
-use Rattle.tbox.proofs.Coverings.{Undefined, unfolded-plain}
-use Rattle.tbox.proofs.NamedTrees.{Agree, fits-agree, named-map, withHolds}
-use Rattle.tbox.specs.Covering.{wholeTree}
 use Rattle.picture.proofs.Keeping.{kept-yes}
 use Rattle.picture.proofs.Orders.{given, on-yes}
 use Rattle.picture.specs.Readable.{Readable}
 use Rattle.picture.specs.declared.answer.Refusal.{Refusal}
 use Rattle.meaning.proofs.Normals.{normalFile-equivalent}
 use Rattle.meaning.specs.Covering.{Covers}
-use Rattle.meaning.specs.Meaning.{pictureTable, pictureTree}
+use Rattle.meaning.specs.Meaning.{pictureTree}
 use Rattle.meaning.specs.NormalTable.{mergedCount, normalFile}
 use Rattle.workspace.specs.Prepare.{Acceptable, workSize}
 use Rattle.evidence.proofs.Soundness.{TakenAs, evidence-taken, map-covers, map-taken, refutation-fails, refutation-taken}
@@ -53,10 +48,9 @@ use Rattle.subsumption.specs.Call.{verdictAnswer}
 use Rattle.subsumption.specs.Verdict.{evidenceOf, evidenceSize, verdictOf}
 use Rattle.subsumption.specs.declared.verdict.Verdict.the-variants as verdict
 use Rattle.definitions.proofs.Coverings.{belongs-unfolded}
-use Rattle.definitions.proofs.Unfolds.{book-sound, picture-unfoldable, unfolded-readable, unfolded-tree}
+use Rattle.definitions.proofs.Unfolds.{unfolded-readable}
 use Rattle.definitions.specs.Covering.{Belongs, CoversUnder, RespectsBook}
-use Rattle.definitions.specs.Tbox.{tboxOf}
-use Rattle.definitions.specs.Unfolded.{Definable, Unfolds, unfoldedFile, unfoldedTable}
+use Rattle.definitions.specs.Unfolded.{Definable, Unfolds, unfoldedFile}
 use Rattle.under.specs.Calls.{subsumesResultUnder, subsumesUnder, verifyUnder}
 use Rattle.under.specs.Given.{AcceptableUnder}
 use Rattle.under.proofs.Answers.{pair-yes, verify-yes}
@@ -77,28 +71,29 @@ module _ (limits : Limits) (bounded : Bounded limits) (tbox : List ℕ) where
     -- ---- evidence, whatever bytes are given
 
     module _ (e : List ℕ) (room : ℕ) where
-      -- what is taken as a kind is of that kind
-      shown : (kind : Verified) → ((r : Refusal) → Refused r ≡ kind → ⊥) →
+      pub kind-shown : (kind : Verified) → ((r : Refusal) → Refused r ≡ kind → ⊥) →
           verifyUnder limits tbox first second e room ≡ kind →
-          AcceptableUnder limits tbox first second × TakenAs limits p q e kind
-      shown kind none h =
+          (workSize limits ≤ room) × AcceptableUnder limits tbox first second × TakenAs limits p q e kind
+      kind-shown kind none h =
           let (all, is) = given Refused (evidenceKind limits q e) kind none (verifyAll limits tbox first second e room)
           (sym (verify-all limits tbox first second e room) ∙ h) in
           let (enough, ok, taken) = verify-yes limits bounded tbox first second e room .0 all in
           let base = acceptable-unfolded limits tbox first second bounded ok in
-          (ok, (evidence-taken limits p q e bounded base .1 taken, is))
+          (enough, ok, (evidence-taken limits p q e bounded base .1 taken, is))
 
       pub map-shown : verifyUnder limits tbox first second e room ≡ MapTaken →
           AcceptableUnder limits tbox first second × MapOf limits p q e
       map-shown h =
-          let (ok, taken) = shown MapTaken (λ r is. let z : _≡_ {A = ℕ} 0 1 = cc in omega arith) h in
+          let (enough, ok, taken) = kind-shown MapTaken (λ r is. let z : _≡_ {A = ℕ} 0 1 = cc in omega arith) h in
           (ok, map-taken limits p q e bounded (acceptable-unfolded limits tbox first second bounded ok) .0 taken)
 
       pub refutation-shown : verifyUnder limits tbox first second e room ≡ RefutationTaken →
           AcceptableUnder limits tbox first second × RefutationOf limits p q e
       refutation-shown h =
-          let (ok, taken) = shown RefutationTaken (λ r is. let z : _≡_ {A = ℕ} 0 1 = cc in omega arith) h in
-          (ok, refutation-taken limits p q e bounded (acceptable-unfolded limits tbox first second bounded ok) .0 taken)
+          let (enough, ok, taken) = kind-shown RefutationTaken
+          (λ r is. let z : _≡_ {A = ℕ} 0 1 = cc in omega arith) h in
+          let base = acceptable-unfolded limits tbox first second bounded ok in
+          (ok, refutation-taken limits p q e bounded base .0 taken)
 
     module _ (ok : AcceptableUnder limits tbox first second) where
       abbrev base : Acceptable limits p q
@@ -230,34 +225,6 @@ module _ (limits : Limits) (bounded : Bounded limits) (tbox : List ℕ) where
   module _ (s : List ℕ) (ok : Definable limits tbox) (r : Readable limits s) (u : Unfolds limits tbox s) where
     abbrev spelled : List ℕ
     spelled = unfoldedFile limits tbox s
-
-    -- 02, U3, "refutations are checked on unfolded pictures and their defined names ignored"
-    pub defined-ignored : (I : Interpretation pictureSignature) (sets : ℕ → ℕ → Bool) →
-        ((n : ℕ) → Undefined pictureSignature (tboxOf tbox) n → Agree pictureSignature I (I .holds) sets n) → (x : ℕ) →
-        Fits pictureSignature (structureOf pictureSignature I) (pictureTree limits spelled) x
-        ↔ Fits pictureSignature (structureOf pictureSignature (withHolds pictureSignature I sets))
-        (pictureTree limits spelled) x
-    defined-ignored I sets same x =
-        let D = tboxOf tbox in
-        let t = wholeTree pictureSignature (unfoldedTable limits tbox s) in
-        let N = Undefined pictureSignature D in
-        let plain = unfolded-plain pictureSignature D (book-sound limits bounded tbox ok) (limits .rows)
-        (pictureTable s) (picture-unfoldable limits bounded tbox ok s r u) in
-        let there = Agree pictureSignature I (I .holds) sets in
-        let back = Agree pictureSignature I sets (I .holds) in
-        subst (λ v. Fits pictureSignature (structureOf pictureSignature I) v x
-        ↔ Fits pictureSignature (structureOf pictureSignature (withHolds pictureSignature I sets)) v x)
-        (sym (unfolded-tree limits bounded tbox ok s r u)) (
-          fits-agree pictureSignature I (I .holds) sets t
-              (named-map pictureSignature N N there there same same t plain) x,
-          fits-agree pictureSignature I sets (I .holds) t
-              (named-map pictureSignature N N back back (turned I sets same) (turned I sets same) t plain) x,
-        )
-      where
-        turned : (I : Interpretation pictureSignature) (sets : ℕ → ℕ → Bool) →
-            ((n : ℕ) → Undefined pictureSignature (tboxOf tbox) n → Agree pictureSignature I (I .holds) sets n) →
-            (n : ℕ) → Undefined pictureSignature (tboxOf tbox) n → Agree pictureSignature I sets (I .holds) n
-        turned I sets same n d x = let (a, b) = same n d x in (b, a)
 
     pub normal-under : mergedCount limits spelled ≤ limits .rows →
         (I : Interpretation pictureSignature) → RespectsBook limits tbox I → (x : ℕ) → x < I .count →

@@ -5,6 +5,7 @@ pub mod Calls
 pub mod Orders
 pub mod Answers
 pub mod Conditions
+pub mod Ignored
 pub mod Commons
 pub mod Books
 pub mod Empty
