@@ -1,1 +1,2 @@
--- No laws of its own.
+-- The laws of 25, as the code asks it.
+pub mod NamedDefinitions

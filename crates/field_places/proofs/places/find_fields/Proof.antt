@@ -37,9 +37,8 @@ returns c =
     (sym (c .before .field-with .ensures) ∙ not-true _ (c .if1 .taken))
 
 stands : (c : tie.Else1 Inv-loop μ-loop) →
-    fieldWith (tagOf (entry (c .before .before .before) .args .kind)) (now (entry (c .before .before .before) .args .file))
-    (c .before .before .before .loop .at)
-    ≡ true
+    let head = c .before .before .before in
+    fieldWith (tagOf (entry head .args .kind)) (now (entry head .args .file)) (head .loop .at) ≡ true
 stands c = sym (c .before .field-with .ensures) ∙ not-false _ (c .if1 .left)
 
 next-place-requires : tie.Need-next-place-requires Inv-loop μ-loop
@@ -67,7 +66,8 @@ loop-again c =
     let l = turn .before .loop in
     let whole = field-whole (tagOf (args .kind)) (now (args .file)) (l .at) (stands (c .before)) in
     scan-next (tagOf (args .kind)) (now (args .file)) (l .places) (l .k) (l .at) (l .inv) (c .next-place .result)
-    (turn .loop-test .taken) (stands (c .before)) (c .next-place .ensures) (omega (arith, c .next-place .ensures, whole))
+    (turn .loop-test .taken) (stands (c .before)) (c .next-place .ensures)
+    (omega (arith, c .next-place .ensures, whole))
 
 returns-2 : tie.Need-returns-2 Inv-loop μ-loop
 returns-2 c =

@@ -9,7 +9,8 @@ use Rattle.field_places.proofs.KeptPlaces.{place-from, place-part, plac
 use Rattle.field_places.proofs.places.value.Statement.{statement}
 use Rattle.field_places.proofs.places.value.Tie as tie
 
-from : (c : tie.Start) → getD (c .args .t2 .places) (c .args .k) 0 + headSize ≤ getD (c .args .t2 .places) (c .args .k + 1) 0
+from : (c : tie.Start) →
+    getD (c .args .t2 .places) (c .args .k) 0 + headSize ≤ getD (c .args .t2 .places) (c .args .k + 1) 0
 from c = place-from (now (c .args .file)) (c .args .t2) (c .args .k) (c .pre .0) (c .pre .1)
 
 to : (c : tie.Start) → getD (c .args .t2 .places) (c .args .k + 1) 0 ≤ length (now (c .args .file))
