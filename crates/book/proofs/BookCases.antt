@@ -27,7 +27,7 @@ use Rattle.meaning.specs.NormalTable.{mergedCount, mergedTree, normalTreeOf}
 use Rattle.normal.specs.Call.{mergedAsked}
 use Rattle.order.specs.Preorder.{minimal, passedOver}
 use Rattle.book.specs.Call.{bookAsked, mostSpecificAnswer, mostSpecificWork}
-use Rattle.book.specs.Form.{bookForm, card, cardAt, cardCount, cardsFrom, fieldPlace}
+use Rattle.fields.specs.Form.{fieldCount, fieldPlace, fieldValue, fieldWith, fieldsForm, fieldsFrom}
 use Rattle.table.specs.NameSet.{setBelow}
 use Rattle.book.specs.Selection.{mostSpecific, mostSpecificCards}
 use Rattle.book.specs.declared.answer.Selected.{Selected}
@@ -188,6 +188,7 @@ cases =
 pub all-pass : runAll cases ≡ cases
 unfolding be endsAt put zeros some depthIn depth tagOk lengthFor kindOk roleOk parentOk valueField rowField endField fieldAt
     scanFrom readingOf rowCount mergedTree mergedCount normalTreeOf covers
-    fieldPlace card cardAt cardsFrom cardCount bookForm passedOver minimal mostSpecific setBelow mostSpecificCards
+    fieldPlace fieldValue fieldWith fieldsFrom fieldCount fieldsForm passedOver minimal mostSpecific setBelow
+    mostSpecificCards
     askedFrom readAsked mergedAsked bookAsked mostSpecificAnswer
 all-pass = refl

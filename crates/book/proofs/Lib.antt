@@ -1,7 +1,5 @@
 -- The laws of card books, by subject.
--- the words of cards
--- the form of a book
-pub mod Forms
+-- books as they are written
 pub mod WrittenBooks
 -- the questions, in their order
 pub mod Orders

@@ -31,10 +31,10 @@ use Rattle.table.proofs.NameSets.{has-none}
 use Rattle.table.specs.NameSet.{has}
 use Rattle.table.specs.declared.layout.Limits.{Limits}
 use Rattle.book.specs.Call.{AcceptableBook}
-use Rattle.book.specs.Form.{card, cardCount, mostCards}
+use Rattle.book.specs.Form.{card, cardCount, cardTag, mostCards}
 use Rattle.book.specs.Selection.{MostSpecific, PassedOver, cardCovers, caseCovered, mostSpecific, mostSpecificCards}
 use Rattle.table.proofs.SetsBelow.{has-setBelow, setBelow-below, setBelow-some}
-use Rattle.book.proofs.Forms.{count-most}
+use Rattle.fields.proofs.Forms.{count-most}
 
 module _ (limits : Limits) (book : List ℕ)
     (cards-readable : (k : ℕ) → k < cardCount book → Readable limits (card book k)) where
@@ -61,7 +61,9 @@ module _ (limits : Limits) (case book : List ℕ) where
 
   pub word-below : mostSpecificCards limits case book < 2 ^ mostCards
   unfolding mostSpecificCards
-  word-below = lt-of-lt-of-le (setBelow-below (mostSpecific limits case book) (cardCount book)) (pow-mono (count-most book))
+  word-below =
+      lt-of-lt-of-le (setBelow-below (mostSpecific limits case book) (cardCount book))
+      (pow-mono (count-most cardTag book))
 
   -- ---- by meaning
 

@@ -16,7 +16,7 @@ use Rattle.table.proofs.NameSets.{has-intersection, has-power, has-union}
 use Rattle.table.proofs.Bits.{bit-below, bit-bound, bit-complement}
 use Rattle.table.proofs.Bools.{by-test, or-none}
 use Rattle.table.specs.NameSet.{bit, has}
-use Rattle.book_form.specs.Places.{With, WithEach}
+use Rattle.book_form.specs.Words.{With, WithEach}
 use Rattle.table.proofs.SetsBelow.{and-all}
 
 pub with-bit : (word k r i : ℕ) → r ≡ 2 ^ k → has (bitOr word r) i ≡ (has word i || eqb i k)

@@ -1,3 +1,2 @@
--- The laws of places and words.
+-- The laws of words of cards.
 pub mod CardSets
-pub mod Places

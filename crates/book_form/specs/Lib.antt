@@ -1,2 +1,2 @@
--- Places of cards, and words of cards.
-pub mod Places
+-- Words of cards.
+pub mod Words

@@ -32,7 +32,7 @@ use Rattle.order.specs.Preorder.{Preorder, passedOver, strict}
 use Rattle.workspace.proofs.Halves.{put-whole}
 use Rattle.book.specs.Form.{cardCount, mostCards}
 use Rattle.book.specs.Selection.{cardCovers}
-use Rattle.book_form.specs.Places.{WithEach}
+use Rattle.book_form.specs.Words.{WithEach}
 use Rattle.book_selection.specs.Comparing.{Compared, ComparedTo, Earlier, NextCard, Ordered, Paired}
 use Rattle.book_selection.specs.declared.compare.Order.{Order}
 

@@ -21,7 +21,7 @@ use Rattle.workspace.specs.Prepare.{workSize}
 use Rattle.order.specs.Preorder.{passedOver, strict}
 use Rattle.book.specs.Form.{cardCount, mostCards}
 use Rattle.book.specs.Selection.{cardCovers}
-use Rattle.book_form.specs.Places.{WithEach}
+use Rattle.book_form.specs.Words.{WithEach}
 use Rattle.book_tables.specs.Cache.{Cached}
 use Rattle.book_tables.specs.Tables.{BookTaken}
 use Rattle.book_selection.specs.Standing.{BookCached, OwnTable, Stands}

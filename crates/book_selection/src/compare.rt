@@ -30,7 +30,7 @@ ghost use Rattle.workspace.specs.Prepare.{workSize};
 ghost use Rattle.order.specs.Preorder.{passedOver};
 ghost use Rattle.book.specs.Form.{cardCount, mostCards};
 ghost use Rattle.book.specs.Selection.{cardCovers};
-ghost use Rattle.book_form.specs.Places.{WithEach};
+ghost use Rattle.book_form.specs.Words.{WithEach};
 ghost use Rattle.book_tables.specs.Cache.{Cached};
 ghost use Rattle.book_selection.specs.Standing.{Checkable, Facing, OwnTable, tableAt};
 ghost use Rattle.book_selection.specs.Comparing.{CardRoom, Compared, NextCard, Ordered, PairRoom, EarlierRoom, SelectRoom};

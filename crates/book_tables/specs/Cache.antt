@@ -25,10 +25,10 @@ use Rattle.row_sets.specs.Rows.{Checked}
 use Rattle.homomorphism_search.specs.Search.{LinkedTable}
 use Rattle.normal_writer.specs.Tables.{tableIn, tableRows}
 use Rattle.workspace.specs.Prepare.{workSize}
-use Rattle.book.specs.Form.{card, mostCards}
+use Rattle.book.specs.Form.{card, cardTag, mostCards}
 use Rattle.table.specs.NameSet.{setBelow}
-use Rattle.book_form.specs.Places.{Placed}
-use Rattle.book_form.specs.declared.form.Cards.{Cards}
+use Rattle.field_places.specs.Places.{Placed}
+use Rattle.field_places.specs.declared.places.Fields.{Fields}
 use Rattle.book_tables.specs.Tables.{BookTaken, coversTable}
 use Rattle.book_tables.specs.declared.subsumers.Subsumers.{Subsumers}
 
@@ -62,18 +62,18 @@ Stored part m k at tables spans r tables₂ spans₂ =
     (limits : Limits) (book : List ℕ) → Cached limits book tables spans at → TableAt limits (card book k) part m →
     Cached limits book tables₂ spans₂ r
 
-pub record Findable (limits : Limits) (case book : List ℕ) (cards : Cards) (work : List ℕ) : Type 0 where
+pub record Findable (limits : Limits) (case book : List ℕ) (cards : Fields) (work : List ℕ) : Type 0 where
   pub bounded : Bounded limits
   pub readable : Readable limits case
   pub few : mergedCount limits case ≤ limits .rows
-  pub placed : Placed book cards
+  pub placed : Placed cardTag book cards
   pub taken : BookTaken limits book
   pub long : length work ≡ workSize limits
 
-pub record CardsTestable (limits : Limits) (book : List ℕ) (cards : Cards) (n : ℕ) (links work spans : List ℕ) :
+pub record CardsTestable (limits : Limits) (book : List ℕ) (cards : Fields) (n : ℕ) (links work spans : List ℕ) :
     Type 0 where
   pub bounded : Bounded limits
-  pub placed : Placed book cards
+  pub placed : Placed cardTag book cards
   pub taken : BookTaken limits book
   pub long : length work ≡ workSize limits
   pub lower : place n endSize ≤ pictureSize limits

@@ -11,15 +11,15 @@ use Rattle.table.specs.declared.layout.Limits.{Limits}
 use Rattle.picture.specs.Readable.{Readable}
 use Rattle.meaning.specs.NormalTable.{mergedCount, normalFile}
 use Rattle.homomorphism_search.specs.Search.{rowMaps}
-use Rattle.book.specs.Form.{card, cardCount}
-use Rattle.book_form.specs.Places.{Placed}
-use Rattle.book_form.specs.declared.form.Cards.{Cards}
+use Rattle.book.specs.Form.{card, cardCount, cardTag}
+use Rattle.field_places.specs.Places.{Placed}
+use Rattle.field_places.specs.declared.places.Fields.{Fields}
 
-pub record CardsRead (limits : Limits) (book : List ℕ) (cards : Cards) : Type 0 where
-  pub places-are : Placed book cards
+pub record CardsRead (limits : Limits) (book : List ℕ) (cards : Fields) : Type 0 where
+  pub places-are : Placed cardTag book cards
   pub readable : (k : ℕ) → k < cards .count → Readable limits (card book k)
 
-pub record AllRead (limits : Limits) (case book : List ℕ) (cards : Cards) : Type 0 where
+pub record AllRead (limits : Limits) (case book : List ℕ) (cards : Fields) : Type 0 where
   pub bounded : Bounded limits
   pub readable : Readable limits case
   pub cards-read : CardsRead limits book cards

@@ -1,6 +1,6 @@
 // 14 of the case, then of each card in turn, before any table is made.
-use book_form::form::Cards;
 use book_form::form::card;
+use field_places::places::Fields;
 use merged_count::within::is_within;
 use picture::answer::Asked;
 use picture::answer::Input;
@@ -14,7 +14,7 @@ ghost use Rattle.book.specs.Call.{cardMerged};
 ghost use Rattle.book_tables.specs.Tables.{AllRead, CardsRead};
 
 // 14 of each card in turn.
-fn ask_cards(book: &[u8], cards: Cards, limits: Limits) -> Asked
+fn ask_cards(book: &[u8], cards: Fields, limits: Limits) -> Asked
     requires { ⌜ (Bounded limits) × (CardsRead limits (now book) cards) ⌝ }
     ensures { λ r. ⌜ r ≡ askedFrom (cardMerged limits (now (book .entry))) (cards .count) 0 ⌝ }
 {
@@ -29,7 +29,7 @@ fn ask_cards(book: &[u8], cards: Cards, limits: Limits) -> Asked
 }
 
 // 14 of the case, and then those. Nothing is lent for writing here, so that a refusal writes nothing.
-pub fn ask_merged(case: &[u8], book: &[u8], cards: Cards, limits: Limits) -> Asked
+pub fn ask_merged(case: &[u8], book: &[u8], cards: Fields, limits: Limits) -> Asked
     requires { ⌜ AllRead limits (now case) (now book) cards ⌝ }
     ensures { λ r. ⌜ r ≡ andThen (mergedAsked limits Input.First (now (case .entry)))
         (askedFrom (cardMerged limits (now (book .entry))) (cards .count) 0) ⌝ }

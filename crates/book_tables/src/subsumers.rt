@@ -3,9 +3,9 @@
 use crate::cache::SPANS;
 use crate::cache::store;
 use crate::covering::table_covers;
-use book_form::form::Cards;
 use book_form::form::card;
 use book_form::word::bit;
+use field_places::places::Fields;
 use normal_writer::write::normal_table;
 use normal_writer::write::table_at;
 use prepare_pair::prepare::half_size;
@@ -75,7 +75,7 @@ fn add_card(
 // Whether each card in turn covers the case.
 fn test_cards(
     book: &[u8],
-    cards: Cards,
+    cards: Fields,
     limits: Limits,
     n: usize,
     links: &[u8; LINKS],
@@ -104,7 +104,7 @@ fn test_cards(
 pub fn find_subsumers(
     case: &[u8],
     book: &[u8],
-    cards: Cards,
+    cards: Fields,
     limits: Limits,
     work: &mut [u8],
     tables: &mut [u8],

@@ -1,1 +1,8 @@
--- laws
+-- The laws of the definitions book, by subject.
+pub mod CasesDefinitions
+pub mod Idle
+pub mod Unfolds
+pub mod Coverings
+pub mod Questions
+pub mod Empty
+pub mod OtherLimits

@@ -1,15 +1,19 @@
--- Laws of the form of a book: what 24 asks.
---   cards-before, last-field         the fields before the count are cards; the one there is none, unless so many are read as a book may have
---   count-most                       the count is at most that
---   count-is                         and it is the number for which both are so
---   card-tag, card-whole             a card's tag, and that it lies in the book
---   after-card, inside               each field begins where the one before it stops, and that is in the book
---   length-card                      a card has the length that its head says
---   FieldsOf                           n cards stand in the book, no more than it may have, and then the end field, where the file stops
---   form-count, count-form           a book of n cards has the form, and its count is n; a book with the form is one of its count
---   book-form                        24 is answered yes exactly if the book is of n cards for some n
---   one-count                        and there is no other n
---   too-many-cards                   a book that begins with one card more than it may have has not the form
+-- Laws of fields with one tag by place, and of the form of a file of such fields.
+--   field-first, after-field    the first field begins the file, each other begins where the one before it stops
+--   fields-before, last-field   the fields before the count have the tag and are whole; the one there has not or is
+--                               not, unless so many are read as a file may have
+--   count-most                  the count is at most that
+--   count-is                    and it is the number for which both are so
+--   field-tag, field-whole      the tag of such a field, and that it lies in the file
+--   inside                      each of them begins in the file, and so does the one after them
+--   length-value                a value has the length that its head says
+--   FieldsOf                    n fields stand in the file, no more than it may have, and then the end field, where the
+--                               file stops
+--   form-count, count-form      a file of n fields has the form, and its count is n; a file with the form is one of its
+--                               count
+--   fields-form                 a file has the form exactly if it is of n fields for some n
+--   one-count                   and there is no other n
+--   too-many-fields             a file that begins with one field more than it may have has not the form
 use Prim.Native.Nat.{_+_, _<_, _≤_, suc, zero, ℕ}
 use borrow.Author.Tests.{eqb-true, leb-true}
 use lib.Dec.{eqb, leb}
@@ -18,7 +22,7 @@ use lib.Seq.{length-take-le}
 use mathlib.Core.Bool.{Bool, false, false≢true, true}
 use mathlib.Core.List.{List}
 use mathlib.Core.Logic.{_↔_, ⊎-elim}
-use mathlib.Core.Path.{_∙_, _≡_, sym}
+use mathlib.Core.Path.{_∙_, _≡_, refl, sym}
 use native.Mathlib.Decide.{decLt}
 use native.Mathlib.Nat.{eq-or-lt-of-le}
 use native.Mathlib.Numerals.{add-one}
@@ -28,7 +32,27 @@ use Rattle.table.proofs.Bools.{both, by-test}
 use Rattle.table.proofs.Rows.{ends-parts}
 use Rattle.table.specs.Fields.{endsAt}
 use Rattle.table.specs.Layout.{endTag, headSize}
-use Rattle.fields.specs.Form.{fieldCount, fieldPlace, fieldValue, fieldWith, fieldsForm, fieldsFrom, lengthSaid, mostFields, nextPlace}
+use Rattle.fields.specs.Form.{
+  fieldCount,
+  fieldPlace,
+  fieldValue,
+  fieldWith,
+  fieldsForm,
+  fieldsFrom,
+  lengthSaid,
+  mostFields,
+  nextPlace,
+}
+
+-- ---- the places
+
+pub field-first : (file : List ℕ) → fieldPlace file 0 ≡ 0
+unfolding fieldPlace
+field-first file = refl
+
+pub after-field : (file : List ℕ) (k : ℕ) → fieldPlace file (k + 1) ≡ nextPlace file (fieldPlace file k)
+unfolding fieldPlace
+after-field file k = rw (add-one k)
 
 -- ---- the count
 
@@ -45,16 +69,27 @@ module _ (tag : ℕ) (file : List ℕ) where
 
   from : (more k : ℕ) → From more k (fieldsFrom tag file more k)
   unfolding fieldsFrom
-  from zero k = record { least = omega arith; most = omega arith; fields = λ j a b. absurd (omega arith); last = λ l. absurd (omega arith) }
+  from zero k = record {
+    least = omega arith;
+    most = omega arith;
+    fields = λ j a b. absurd (omega arith);
+    last = λ l. absurd (omega arith);
+  }
   from (suc more) k =
       by-test (isField k)
       (λ e. rw e (let f = from more (k + 1) in record {
         least = omega (arith, f .least);
         most = omega (arith, f .most);
-        fields = λ j a b. ⊎-elim (λ (z : k ≡ j). rw (← z) e) (λ (l : k < j). f .fields j (omega arith) b) (eq-or-lt-of-le a);
+        fields = λ j a b.
+            ⊎-elim (λ (z : k ≡ j). rw (← z) e) (λ (l : k < j). f .fields j (omega arith) b) (eq-or-lt-of-le a);
         last = λ l. f .last (omega arith);
       }))
-      (λ e. rw e (record { least = omega arith; most = omega arith; fields = λ j a b. absurd (omega arith); last = λ l. e }))
+      (λ e. rw e (record {
+        least = omega arith;
+        most = omega arith;
+        fields = λ j a b. absurd (omega arith);
+        last = λ l. e;
+      }))
 
   counted : From mostFields 0 (fieldCount tag file)
   unfolding fieldCount
@@ -63,7 +98,8 @@ module _ (tag : ℕ) (file : List ℕ) where
   pub fields-before : (k : ℕ) → k < fieldCount tag file → fieldWith tag file (fieldPlace file k) ≡ true
   fields-before k l = counted .fields k (omega arith) l
 
-  pub last-field : fieldCount tag file < mostFields → fieldWith tag file (fieldPlace file (fieldCount tag file)) ≡ false
+  pub last-field :
+      fieldCount tag file < mostFields → fieldWith tag file (fieldPlace file (fieldCount tag file)) ≡ false
   last-field l = counted .last (omega arith)
 
   pub count-most : fieldCount tag file ≤ mostFields
@@ -82,33 +118,33 @@ module _ (tag : ℕ) (file : List ℕ) where
         ]
       ]
 
-  -- ---- the cards
+  -- ---- the fields
 
-  pub field-tag : (at : ℕ) → fieldWith tag file at ≡ true → getD file at 0 ≡ tag
-  unfolding fieldWith
-  field-tag at h = eqb-true (getD file at 0) tag (both (eqb (getD file at 0) tag) (leb (nextPlace file at) (length file)) h .0)
+  module _ (at : ℕ) (h : fieldWith tag file at ≡ true) where
+    halves : (eqb (getD file at 0) tag ≡ true) × (leb (nextPlace file at) (length file) ≡ true)
+    unfolding fieldWith
+    halves = both (eqb (getD file at 0) tag) (leb (nextPlace file at) (length file)) h
 
-  pub field-whole : (at : ℕ) → fieldWith tag file at ≡ true → nextPlace file at ≤ length file
-  unfolding fieldWith
-  field-whole at h = leb-true (nextPlace file at) (length file) (both (eqb (getD file at 0) tag) (leb (nextPlace file at) (length file)) h .1)
+    pub field-tag : getD file at 0 ≡ tag
+    field-tag = eqb-true (getD file at 0) tag (halves .0)
 
-  pub after-field : (k : ℕ) → fieldPlace file (k + 1) ≡ nextPlace file (fieldPlace file k)
-  unfolding fieldPlace
-  after-field k = rw (add-one k)
+    pub field-whole : nextPlace file at ≤ length file
+    field-whole = leb-true (nextPlace file at) (length file) (halves .1)
 
   pub inside : (k : ℕ) → k ≤ fieldCount tag file → fieldPlace file k ≤ length file
   unfolding fieldPlace
   inside zero l = omega arith
   inside (suc k) l = field-whole (fieldPlace file k) (fields-before k (omega arith))
 
-  pub length-value : (k : ℕ) → k < fieldCount tag file → length (fieldValue file k) ≡ lengthSaid file (fieldPlace file k)
+  pub length-value :
+      (k : ℕ) → k < fieldCount tag file → length (fieldValue file k) ≡ lengthSaid file (fieldPlace file k)
   unfolding fieldValue
   length-value k l =
       let whole = field-whole (fieldPlace file k) (fields-before k l) in
       length-take-le (lengthSaid file (fieldPlace file k)) (drop (fieldPlace file k + headSize) file)
       (rw length-drop (omega arith))
 
--- ---- 24
+-- ---- the form
 
 pub record FieldsOf (tag : ℕ) (file : List ℕ) (n : ℕ) : Type 0 where
   pub most : n ≤ mostFields
@@ -117,14 +153,15 @@ pub record FieldsOf (tag : ℕ) (file : List ℕ) (n : ℕ) : Type 0 where
 
 -- a tag other than that of the end field
 module _ (tag : ℕ) (file : List ℕ) (other : tag ≡ endTag → ⊥) where
-  -- the end field is no card
+  -- the end field is none of them
   end-other : (at : ℕ) → endsAt file at ≡ true → fieldWith tag file at ≡ true → ⊥
   end-other at h c = other (sym (field-tag tag file at c) ∙ ends-parts file at h .1)
 
   pub form-count : (n : ℕ) → FieldsOf tag file n → (fieldsForm tag file ≡ true) × (fieldCount tag file ≡ n)
   unfolding fieldsForm
   form-count n b =
-      let e = count-is tag file n (b .most) (b .fields) (λ l. refuted (fieldWith tag file (fieldPlace file n)) (end-other (fieldPlace file n) (b .ends))) in
+      let last = refuted (fieldWith tag file (fieldPlace file n)) (end-other (fieldPlace file n) (b .ends)) in
+      let e = count-is tag file n (b .most) (b .fields) (λ l. last) in
       (rw e (b .ends), e)
 
   pub count-form : fieldsForm tag file ≡ true → FieldsOf tag file (fieldCount tag file)
@@ -137,8 +174,10 @@ module _ (tag : ℕ) (file : List ℕ) (other : tag ≡ endTag → ⊥) where
   pub one-count : (m n : ℕ) → FieldsOf tag file m → FieldsOf tag file n → m ≡ n
   one-count m n b c = sym (form-count m b .1) ∙ form-count n c .1
 
-  pub too-many-fields : ((k : ℕ) → k ≤ mostFields → fieldWith tag file (fieldPlace file k) ≡ true) → fieldsForm tag file ≡ false
+  pub too-many-fields :
+      ((k : ℕ) → k ≤ mostFields → fieldWith tag file (fieldPlace file k) ≡ true) → fieldsForm tag file ≡ false
   too-many-fields h =
+      let n = fieldCount tag file in
       by-test (fieldsForm tag file)
-      (λ e. absurd (end-other (fieldPlace file (fieldCount tag file)) (count-form e .ends) (h (fieldCount tag file) (count-most tag file))))
+      (λ e. absurd (end-other (fieldPlace file n) (count-form e .ends) (h n (count-most tag file))))
       (λ e. e)

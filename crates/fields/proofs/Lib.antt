@@ -1,2 +1,5 @@
 -- The laws of the definitions, by subject.
+-- worked cases, computed
+pub mod Cases
+-- the form of a file of fields
 pub mod Forms

@@ -1,5 +1,5 @@
--- A file of fields with one tag, and the end field: 01, "A card book: 0 to 32 fields tag 51 .. then the end field"; 02, U3,
--- "up to 32 fields tag 61 .. and the end field".
+-- A file of fields with one tag, and the end field: 01, "A card book: 0 to 32 fields tag 51 .. then the end field"; 02,
+-- U3, "up to 32 fields tag 61 .. and the end field".
 --   mostFields             how many fields a book may have
 --   lengthSaid             the length that the head at a place says
 --   nextPlace              where the field after the one at a place begins, by that length

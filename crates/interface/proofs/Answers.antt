@@ -60,9 +60,10 @@ use Rattle.lcs.specs.Call.{largeAsked, lcsAnswer, lcsAsked, lcsLent, tooLarge}
 use Rattle.lcs.specs.Product.{lcsCount, lcsFile}
 use Rattle.lcs.specs.declared.common.Common.the-variants as common
 use Rattle.book.proofs.Answers.{ask-decides}
-use Rattle.book.proofs.Forms.{count-most}
+use Rattle.fields.proofs.Forms.{count-most}
 use Rattle.book.proofs.Orders.{book-refuses}
 use Rattle.book.proofs.Selections.{word-below}
+use Rattle.book.specs.Form.{cardTag}
 use Rattle.book.specs.Call.{bookAsked, mostSpecificAnswer, mostSpecificAsked}
 use Rattle.book.specs.Selection.{mostSpecificCards}
 use Rattle.book.specs.declared.answer.Selected.the-variants as selected
@@ -389,7 +390,7 @@ module _ (limits : Limits) (bounded : Bounded limits) (case book work : List ℕ
                   (omega arith),
               refl,
             )
-            (λ k l. of-picture c bounded (Card k) (omega (arith, l, count-most book))
+            (λ k l. of-picture c bounded (Card k) (omega (arith, l, count-most cardTag book))
             (λ q a b. inr (inr (inr (inl (a, b, (k, l, refl))))))));
         late = tt;
         passes = (

@@ -3,6 +3,7 @@
 --   length-rowAt, length-rowsFrom, length-fileOf   the sizes of a row, of rows and of a file
 --   rowsFrom-append                                rows after rows
 --   rowCount-fileOf                                a file has the rows of its list
+--   rows-held                                      row j of a table that begins with rows has the bytes of row j there
 --   row-held, end-held                             row j of a file has the bytes of row j of the list, and after the rows comes the end field
 --   file-tag, file-length, file-parent ..          what row j of a file reads back as; the parent, if it fits its field
 use Prim.Native.Nat.{_*_, _+_, _<_, _^_, suc, zero, ℕ}
@@ -57,6 +58,15 @@ rows-same y (w ∷ ws) rest (suc j) l =
     let number : suc y + j ≡ y + suc j = omega arith in
     rw (append-assoc (rowAt y w) (rowsFrom (suc y) ws) rest) (rw (index, number) at later)
 
+pub rows-held : (ws : List (Row pictureSignature)) (rest : List ℕ) (j : ℕ) → j < length ws →
+    let w = rowIn ws j in
+    HoldsRow (rowsFrom 0 ws ++ rest) j (w .parent) (codeAt j (w .kind)) (w .role) (markCode (w .label .bottom))
+    (w .label .wanted .set) (w .label .excluded .set)
+rows-held ws rest j l = record {
+  same =
+      subst (λ y. Same rowSize (rowsFrom 0 ws ++ rest) j (rowAt y (rowIn ws j)) 0) (zero-add j) (rows-same 0 ws rest j l);
+}
+
 module _ (ws : List (Row pictureSignature)) where
   pub end-held : Same endSize (fileOf ws) (length ws) endBytes 0
   end-held =
@@ -67,7 +77,7 @@ module _ (ws : List (Row pictureSignature)) where
     pub row-held :
         let w = rowIn ws j in
         HoldsRow (fileOf ws) j (w .parent) (codeAt j (w .kind)) (w .role) (markCode (w .label .bottom)) (w .label .wanted .set) (w .label .excluded .set)
-    row-held = record { same = subst (λ y. Same rowSize (fileOf ws) j (rowAt y (rowIn ws j)) 0) (zero-add j) (rows-same 0 ws endBytes j l) }
+    row-held = rows-held ws endBytes j l
 
     pub file-tag : tagOf (fileOf ws) j ≡ rowTag
     file-tag = held-tag row-held

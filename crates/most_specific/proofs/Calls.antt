@@ -35,13 +35,13 @@ use Rattle.meaning.specs.NormalTable.{mergedCount}
 use Rattle.normal.proofs.Answers.{merged-decides}
 use Rattle.normal.specs.Call.{mergedAsked}
 use Rattle.book.specs.Call.{bookAsked, cardMerged, cardRead, mostSpecificAnswer, mostSpecificAsked, mostSpecificWork, noBook}
-use Rattle.book.specs.Form.{bookForm, card, cardCount}
+use Rattle.book.specs.Form.{bookForm, card, cardCount, cardTag}
 use Rattle.order.specs.Preorder.{minimal, passedOver, strict}
 use Rattle.book.specs.Selection.{cardCovers, caseCovered, mostSpecific, mostSpecificCards}
 use Rattle.book_tables.specs.Tables.{BookTaken, CardsRead}
 use Rattle.most_specific.specs.Asking.{afterCards, afterCase, selectedOn}
-use Rattle.book_form.specs.Places.{Placed}
-use Rattle.book_form.specs.declared.form.Cards.{Cards}
+use Rattle.field_places.specs.Places.{Placed}
+use Rattle.field_places.specs.declared.places.Fields.{Fields}
 use Rattle.picture.specs.declared.answer.Asked.{Asked}
 use Rattle.picture.specs.declared.answer.Asked.the-variants.{No, Yes}
 use Rattle.book.specs.declared.answer.Selected.{Selected}
@@ -128,7 +128,7 @@ module _ (limits : Limits) (word : ℕ) (work : List ℕ) where
 
 -- ---- after 2 to 13 of the cards
 
-module _ (limits : Limits) (case book : List ℕ) (cards : Cards) (so : CardsRead limits book cards) where
+module _ (limits : Limits) (case book : List ℕ) (cards : Fields) (so : CardsRead limits book cards) where
   abbrev merged : Asked
   merged = andThen (mergedAsked limits First case) (askedFrom (cardMerged limits book) (cards .count) 0)
 
@@ -166,7 +166,7 @@ module _ (limits : Limits) (case book : List ℕ) where
   pub form-refused : bookForm book ≡ false → afterCase limits case book ≡ No noBook
   form-refused bad = rw bad
 
-  module _ (good : bookForm book ≡ true) (cards : Cards) (placed : Placed book cards) (a : Asked) (is : a ≡ askedFrom (cardRead limits book) (cards .count) 0) where
+  module _ (good : bookForm book ≡ true) (cards : Fields) (placed : Placed cardTag book cards) (a : Asked) (is : a ≡ askedFrom (cardRead limits book) (cards .count) 0) where
     cards-are : askedFrom (cardRead limits book) (cardCount book) 0 ≡ a
     cards-are = ap (λ (n : ℕ). askedFrom (cardRead limits book) n 0) (sym (placed .counted)) ∙ sym is
 

@@ -1,14 +1,14 @@
 // The sixth call: question 1, the case, the book's form, its cards, 14 of each, and the word of the most specific cards.
 use book::answer::Selected;
-use book_form::form::Cards;
 use book_form::form::card;
 use book_form::form::find_cards;
-use book_form::form::has_form;
+use book_form::form::has_book_form;
 use book_selection::compare::select_cards;
 use book_tables::cache::SPANS;
 use book_tables::cache::TABLES;
 use book_tables::merged::ask_merged;
 use book_tables::subsumers::find_subsumers;
+use field_places::places::Fields;
 use picture::answer::Answer;
 use picture::answer::Asked;
 use picture::answer::Input;
@@ -29,11 +29,12 @@ ghost use Rattle.book.specs.Selection.{mostSpecificCards};
 ghost use Rattle.book_tables.specs.Cache.{Findable};
 ghost use Rattle.book_tables.specs.Tables.{AllRead};
 ghost use Rattle.most_specific.specs.Asking.{BookRoom, afterCase, afterCards, selectedOn};
-ghost use Rattle.book_form.specs.Places.{Placed};
+ghost use Rattle.book.specs.Form.{cardTag};
+ghost use Rattle.field_places.specs.Places.{Placed};
 
 // 2 to 13 of each card in turn.
-fn read_cards(book: &[u8], cards: Cards, limits: Limits) -> Asked
-    requires { ⌜ (Bounded limits) × (Placed (now book) cards) ⌝ }
+fn read_cards(book: &[u8], cards: Fields, limits: Limits) -> Asked
+    requires { ⌜ (Bounded limits) × (Placed cardTag (now book) cards) ⌝ }
     ensures { λ r. ⌜ r ≡ askedFrom (cardRead limits (now (book .entry))) (cards .count) 0 ⌝ }
 {
     let mut k = 0;
@@ -51,7 +52,7 @@ fn read_cards(book: &[u8], cards: Cards, limits: Limits) -> Asked
 }
 
 // The word, once 14 is answered yes for all; the work space is cleared.
-fn specific_cards(case: &[u8], book: &[u8], cards: Cards, limits: Limits, work: &mut [u8]) -> u32
+fn specific_cards(case: &[u8], book: &[u8], cards: Fields, limits: Limits, work: &mut [u8]) -> u32
     requires { ⌜ Findable limits (now case) (now book) cards (now work) ⌝ }
     ensures { λ r. ⌜ (r ≡ mostSpecificCards limits (now (case .entry)) (now (book .entry)))
         × (now (work .exit) ≡ zeros (workSize limits)) ⌝ }
@@ -71,7 +72,7 @@ fn specific_cards(case: &[u8], book: &[u8], cards: Cards, limits: Limits, work: 
 }
 
 // 14 of the case and of each card; then the word.
-fn select(case: &[u8], book: &[u8], cards: Cards, limits: Limits, work: &mut [u8]) -> Selected
+fn select(case: &[u8], book: &[u8], cards: Fields, limits: Limits, work: &mut [u8]) -> Selected
     requires { ⌜ (AllRead limits (now case) (now book) cards) × (workSize limits ≤ length (now work)) ⌝ }
     ensures { λ r. ⌜ (r ≡ selectedOn (afterCards limits (now (case .entry)) (now (book .entry)))
         (mostSpecificCards limits (now (case .entry)) (now (book .entry))))
@@ -95,7 +96,7 @@ fn ask_book(case: &[u8], book: &[u8], limits: Limits, work: &mut [u8]) -> Select
         (put (now (work .entry)) 0 (zeros (workSize limits))) (now (work .entry))) ⌝ }
 {
     let cards = find_cards(book);
-    if !has_form(book, cards) {
+    if !has_book_form(book, cards) {
         return Selected::Refused(refuse(24, Input::Book));
     }
     match read_cards(book, cards, limits) {

@@ -6,16 +6,16 @@
 use Prim.Native.Nat.{_+_, _<_, _≤_, ℕ}
 use lib.ListN.{getD, length, set}
 use lib.Seq.{getD-set-other, getD-set-same}
+use mathlib.Core.Bool.{true}
 use mathlib.Core.List.{List}
 use mathlib.Core.Logic.{⊎-elim}
 use mathlib.Core.Path.{_∙_, _≡_, ap, subst, sym}
 use native.Mathlib.Nat.{eq-or-lt-of-le}
 use native.Mathlib.Omega.{arith}
 use Rattle.picture.specs.Depth.{depth}
+use Rattle.picture.specs.Questions.{parentOk}
 use Rattle.table.specs.Fields.{parentOf}
-use Rattle.table.specs.declared.layout.Limits.{Limits}
 use Rattle.picture.proofs.Depths.{Ordered, depth-root, depth-under}
-use Rattle.picture.proofs.Fields.{RowOk}
 use Rattle.picture.proofs.Questions.{parent-below}
 use Rattle.picture_questions.specs.Depths.{Known}
 
@@ -40,10 +40,11 @@ pub known-none : (s depths : List ℕ) → Known s 0 depths
 known-none s depths = record { ordered = λ k i j. absurd (omega arith); depths-hold = λ k j. absurd (omega arith) }
 
 -- and after one row more
-pub known-next : (limits : Limits) (s depths : List ℕ) (n d : ℕ) → n < length depths → Known s n depths → RowOk limits s n → d ≡ depth (parentOf s) n → Known s (n + 1) (set depths n d)
-known-next limits s depths n d room known r e =
+pub known-next : (s depths : List ℕ) (n d : ℕ) → n < length depths → Known s n depths →
+    parentOk n (parentOf s n) ≡ true → d ≡ depth (parentOf s) n → Known s (n + 1) (set depths n d)
+known-next s depths n d room known r e =
     record {
-      ordered = λ k i j. below-next (λ (m : ℕ). 0 < m → parentOf s m < m) n (λ m l p. known .ordered m p l) (λ p. parent-below n (parentOf s n) (λ z. omega arith) (r .parent)) k j i;
+      ordered = λ k i j. below-next (λ (m : ℕ). 0 < m → parentOf s m < m) n (λ m l p. known .ordered m p l) (λ p. parent-below n (parentOf s n) (λ z. omega arith) r) k j i;
       depths-hold = λ k j. below-next (λ (m : ℕ). getD (set depths n d) m 0 ≡ depth (parentOf s) m) n (λ m l. getD-set-other depths n m d 0 (λ z. omega arith) ∙ known .depths-hold m l) (getD-set-same depths n d 0 room ∙ e) k j;
     }
 

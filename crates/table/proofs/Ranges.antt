@@ -3,7 +3,7 @@
 --   each-on, each-fails, each-done   a turn of a test of all that goes on, fails, has nothing left; the range is n - i from i
 --   some-at, at-some                 a search succeeds exactly when f holds of a number of the range
 --   each-at, at-each                 a test of all succeeds exactly when f holds of every number of the range
---   some-same                        functions that agree on the range give the same
+--   some-same, each-same             functions that agree on the range give the same
 use mathlib.Core.Path.{_≡_, refl, _∙_}
 use mathlib.Core.Bool.{Bool, true, false, _&&_, false≢true, or-true}
 use mathlib.Core.Logic.{⊎-elim}
@@ -76,3 +76,9 @@ pub some-same : (f g : ℕ → Bool) (n j : ℕ) → ((k : ℕ) → j ≤ k → 
 unfolding some
 some-same f g zero j h = refl
 some-same f g (suc n) j h = rw (h j (omega arith) (omega arith), some-same f g n (j + 1) (λ k l u. h k (omega arith) (omega arith)))
+
+pub each-same : (f g : ℕ → Bool) (n j : ℕ) → ((k : ℕ) → j ≤ k → k < j + n → f k ≡ g k) → each f n j ≡ each g n j
+unfolding each
+each-same f g zero j h = refl
+each-same f g (suc n) j h =
+    rw (h j (omega arith) (omega arith), each-same f g n (j + 1) (λ k l u. h k (omega arith) (omega arith)))

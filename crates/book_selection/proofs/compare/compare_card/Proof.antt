@@ -4,7 +4,8 @@ use native.Mathlib.Omega.{arith}
 use denote.Ref.{now}
 use mathlib.Core.Path.{_∙_, ap, subst, sym}
 use Rattle.table.specs.NameSet.{has}
-use Rattle.book.proofs.Forms.{count-most}
+use Rattle.fields.proofs.Forms.{count-most}
+use Rattle.book.specs.Form.{cardTag}
 use Rattle.book_tables.specs.Cache.{Cached}
 use Rattle.book_selection.specs.Comparing.{Compared}
 use Rattle.book_selection.specs.Standing.{Stands}
@@ -39,7 +40,7 @@ cache-table-requires c κs =
       first = find .ensures .first;
       whole = λ outside. stands-whole (a .limits) (now (a .book)) (find .last .1 .1 .1 .1 .1 .0) (find .result)
           (now (a .tables)) outside stands;
-      below = omega (arith, find .ensures .card-is, pre .below, count-most (now (a .book)));
+      below = omega (arith, find .ensures .card-is, pre .below, count-most cardTag (now (a .book)));
       inside = pre .cached .long;
       spanned = pre .cached .spanned;
     }

@@ -8,9 +8,9 @@ use mathlib.Core.Bool.{false, true}
 use mathlib.Core.Path.{_∙_, _≡_, refl, sym}
 use Rattle.table.specs.NameSet.{has}
 use Rattle.table_rows.proofs.Stores.{blank}
-use Rattle.book.proofs.Forms.{count-most}
+use Rattle.fields.proofs.Forms.{count-most}
 use Rattle.book.proofs.Selections.{cards-preorder}
-use Rattle.book.specs.Form.{mostCards}
+use Rattle.book.specs.Form.{cardTag, mostCards}
 use Rattle.book_selection.specs.Comparing.{ComparedTo, Paired}
 use Rattle.book_selection.specs.Standing.{OwnTable}
 use Rattle.book_selection.proofs.Comparisons.{pair-compared, paired, earlier-ended, earlier-next, earlier-stopped}
@@ -40,7 +40,7 @@ next-card-requires c κs = omega arith
 
 -- a card of the book is one of 32
 small : (c : tie.Start Inv-loop μ-loop) → c .args .own .card < mostCards
-small c = omega (arith, c .pre .below, count-most (now (c .args .book)))
+small c = omega (arith, c .pre .below, count-most cardTag (now (c .args .book)))
 
 loop-holds : tie.Need-loop-holds Inv-loop μ-loop
 loop-holds c =

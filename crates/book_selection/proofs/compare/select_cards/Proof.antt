@@ -2,9 +2,9 @@
 use denote.Ref.{now}
 use mathlib.Core.Path.{_∙_, refl}
 use Rattle.workspace.specs.Prepare.{workSize}
-use Rattle.book.proofs.Forms.{count-most}
+use Rattle.fields.proofs.Forms.{count-most}
 use Rattle.book.proofs.Selections.{cards-preorder}
-use Rattle.book.specs.Form.{mostCards}
+use Rattle.book.specs.Form.{cardTag, mostCards}
 use Rattle.book_selection.proofs.Comparisons.{cleared, selected-bits}
 use borrow.Author.Needs.{needs}
 use Rattle.book_selection.proofs.compare.select_cards.Statement.{statement}
@@ -34,7 +34,7 @@ returns c =
     let clear = c .before .before .before .clear in (
       selected-bits (a .limits) (now (a .book)) (a .covering) mostCards (compared .compare-cards .result)
           (c .without .result)
-          (cards-preorder (a .limits) (now (a .book)) (pre .taken .readable)) (count-most (now (a .book))) (pre .inside)
+          (cards-preorder (a .limits) (now (a .book)) (pre .taken .readable)) (count-most cardTag (now (a .book))) (pre .inside)
           (compared .compare-cards .ensures .0) (c .without .ensures),
       cleared _ (clear .last .0) _ (workSize (a .limits)) refl (compared .compare-cards .ensures .1 ∙ pre .long)
           (clear .ensures),

@@ -4,8 +4,8 @@ use native.Mathlib.Omega.{arith}
 use denote.Ref.{now}
 use mathlib.Core.Bool.{false≢true}
 use mathlib.Core.Path.{refl, sym}
-use Rattle.book.proofs.Forms.{count-most}
-use Rattle.book.specs.Form.{mostCards}
+use Rattle.fields.proofs.Forms.{count-most}
+use Rattle.book.specs.Form.{cardTag, mostCards}
 use Rattle.book_tables.proofs.Caches.{made-same}
 use Rattle.book_tables.proofs.Parts.{made-before, part-room}
 use Rattle.book_selection.proofs.Standings.{cached-stands, made-stands}
@@ -15,7 +15,7 @@ use Rattle.book_selection.proofs.spot.find_table.Tie as tie
 
 -- a card of the book is one of 32
 small : (c : tie.Start) → c .args .k < mostCards
-small c = omega (arith, c .pre .below, count-most (now (c .args .book)))
+small c = omega (arith, c .pre .below, count-most cardTag (now (c .args .book)))
 
 add-rows : tie.Need-add-rows
 add-rows c = omega (arith, small (c .before .before .before))

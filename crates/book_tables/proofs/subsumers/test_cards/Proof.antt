@@ -113,14 +113,14 @@ add-card-requires c κs =
     let made = c .before .before .before .before .before .before .before .before in
     let pre = entry made .pre in
     addable (head made .loop .inv .0) (turn made .if1 .taken) (pre .bounded) (few made) (pre .lower)
-    (head made .before .half-size .ensures) (tabled made) (pre .placed .most)
+    (head made .before .half-size .ensures) (tabled made) (pre .placed .located .most)
 
 -- the way back from the end of the turn
 abbrev made-in : (c : tie.After-slice-known4 Inv-loop μ-loop) → tie.After-normal-table Inv-loop μ-loop
 made-in c = c .before .before .before .before .before .before .before .before .before .before .before
 
 add-k : tie.Need-add-k Inv-loop μ-loop
-add-k c = omega (arith, turn (made-in c) .if1 .taken, entry (made-in c) .pre .placed .most)
+add-k c = omega (arith, turn (made-in c) .if1 .taken, entry (made-in c) .pre .placed .located .most)
 
 loop-less : tie.Need-loop-less Inv-loop μ-loop
 loop-less c = omega (arith, turn (made-in c) .if1 .taken)

@@ -13,13 +13,13 @@ use Rattle.most_specific.proofs.most_specific.ask_book.Tie as tie
 find-cards-requires : tie.Need-find-cards-requires
 find-cards-requires c κs = search needs
 
-has-form-requires : tie.Need-has-form-requires
-has-form-requires c κs = search needs
+has-book-form-requires : tie.Need-has-book-form-requires
+has-book-form-requires c κs = search needs
 
 returns : tie.Need-returns
 returns c =
     let args = c .before .before .before .before .before .before .before .args in
-    let no-is = form-refused (args .limits) (now (args .case)) (now (args .book)) (sym (c .before .before .has-form .ensures) ∙ not-true _ (c .before .if1 .taken)) in
+    let no-is = form-refused (args .limits) (now (args .case)) (now (args .book)) (sym (c .before .before .has-book-form .ensures) ∙ not-true _ (c .before .if1 .taken)) in
     rw (c .refuse .ensures) (stopped (args .limits) (mostSpecificCards (args .limits) (now (args .case)) (now (args .book))) (now (args .work)) (afterCase (args .limits) (now (args .case)) (now (args .book))) noBook no-is)
 
 read-cards-requires : tie.Need-read-cards-requires
@@ -39,7 +39,7 @@ select-requires c κs =
         readable = pre .readable;
         cards-read =
             cards-readable (args .limits) (now (args .case)) (now (args .book))
-            (sym (c .before .before .before .before .before .has-form .ensures)
+            (sym (c .before .before .before .before .before .has-book-form .ensures)
             ∙ not-false _ (c .before .before .before .before .if1 .left))
             (find-cards .result) (find-cards .ensures) (read-cards .result) (read-cards .ensures)
             (c .before .enum-told .given .1);
@@ -61,7 +61,7 @@ returns-2 c =
     let chosen = c .before .before .select in
     let asked = c .before .before .before .before .before .before .before in
     let passed = cards-passed (args .limits) (now (args .case)) (now (args .book))
-    (sym (asked .before .has-form .ensures) ∙ not-false _ (asked .if1 .left)) (find-cards .result) (find-cards .ensures)
+    (sym (asked .before .has-book-form .ensures) ∙ not-false _ (asked .if1 .left)) (find-cards .result) (find-cards .ensures)
     (read-cards .result) (read-cards .ensures) (c .before .before .before .before .enum-told .given .1) in
     left-as (args .limits) (mostSpecificCards (args .limits) (now (args .case)) (now (args .book))) (now (args .work)) (afterCase (args .limits) (now (args .case)) (now (args .book))) (afterCards (args .limits) (now (args .case)) (now (args .book))) passed
     (chosen .result) _ (chosen .ensures)
@@ -71,7 +71,7 @@ returns-3 c =
     let args = c .before .before .before .before .before .before .before .before .before .before .args in
     let find-cards = c .before .before .before .before .before .before .find-cards in
     let read-cards = c .before .before .before .read-cards in
-    let no-is = cards-refused (args .limits) (now (args .case)) (now (args .book)) (sym (c .before .before .before .before .before .has-form .ensures) ∙ not-false _ (c .before .before .before .before .if1 .left)) (find-cards .result) (find-cards .ensures) (read-cards .result) (read-cards .ensures) (c .before .refusal .given .0 .0) (c .before .refusal .given .1) in
+    let no-is = cards-refused (args .limits) (now (args .case)) (now (args .book)) (sym (c .before .before .before .before .before .has-book-form .ensures) ∙ not-false _ (c .before .before .before .before .if1 .left)) (find-cards .result) (find-cards .ensures) (read-cards .result) (read-cards .ensures) (c .before .refusal .given .0 .0) (c .before .refusal .given .1) in
     stopped (args .limits) (mostSpecificCards (args .limits) (now (args .case)) (now (args .book))) (now (args .work)) (afterCase (args .limits) (now (args .case)) (now (args .book))) (c .before .refusal .given .0 .0) no-is
 
 refuse-requires : tie.Need-refuse-requires
@@ -82,7 +82,7 @@ ask-book-spec =
     tie.close
     (tie.spec
     find-cards-requires
-    has-form-requires
+    has-book-form-requires
     refuse-requires
     returns
     read-cards-requires

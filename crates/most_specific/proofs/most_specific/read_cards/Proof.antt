@@ -38,7 +38,9 @@ enum-told : tie.Need-enum-told Inv-loop μ-loop
 enum-told c = search needs
 
 add-k : tie.Need-add-k Inv-loop μ-loop
-add-k c = omega (arith, c .before .before .before .before .if1 .taken, c .before .before .before .before .before .before .before .before .pre .1 .most)
+add-k c =
+    let turn = c .before .before .before .before in
+    omega (arith, turn .if1 .taken, turn .before .before .before .before .pre .1 .located .most)
 
 loop-less : tie.Need-loop-less Inv-loop μ-loop
 loop-less c = omega (arith, c .before .before .before .before .if1 .taken)

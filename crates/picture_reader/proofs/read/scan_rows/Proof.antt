@@ -61,7 +61,7 @@ loop-again c =
       (
         simp length-set (l .inv .1 .0),
         (
-          known-next (a .limits) (now (a .s)) (l .depths) (l .n) _ (omega (arith, r .0 .few, c .before .before .before .before .before .before .before .pre .0, l .inv .1 .0)) (l .inv .1 .1 .0) (r .0) (r .1),
+          known-next (now (a .s)) (l .depths) (l .n) _ (omega (arith, r .0 .few, c .before .before .before .before .before .before .before .pre .0, l .inv .1 .0)) (l .inv .1 .1 .0) (r .0 .parent) (r .1),
           l .inv .1 .1 .1 ∙ scan-step (a .limits) (now (a .s)) (l .n) (l .inv .0) ∙ rw (sym (c .before .before .before .field-at .ensures), c .before .field .given .1),
         ),
       ),

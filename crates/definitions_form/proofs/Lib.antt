@@ -1,0 +1,2 @@
+-- The laws of 25, as the code asks it.
+pub mod NamedDefinitions

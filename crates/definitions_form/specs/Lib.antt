@@ -1,0 +1,2 @@
+-- A definitions book whose form was asked.
+pub mod Formed

@@ -1,0 +1,2 @@
+// 30: the depth of an unfolded picture.
+pub mod depth;
