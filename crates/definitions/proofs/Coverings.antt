@@ -14,7 +14,7 @@ use Prim.Native.Nat.{_%_, _<_, _^_, _≤_, ℕ}
 use borrow.Author.Tests.{leb-true, lt-ltb, ltb-true}
 use lib.Dec.{T, eqb, eqb-refl, eqb→eq, leb, ltb}
 use lib.ListN.{length}
-use mathlib.Core.Bool.{Bool, _&&_, _||_, false≢true, not, true}
+use mathlib.Core.Bool.{_&&_, _||_, false≢true, not, true}
 use mathlib.Core.List.{List}
 use mathlib.Core.Logic.{_↔_, ⊎-elim}
 use mathlib.Core.Path.{_∙_, _≡_, ap, subst, sym}
@@ -32,7 +32,6 @@ use Rattle.ale.proofs.LowestMap.{firstFrom-passes}
 use Rattle.ale.specs.Interpretation.{Interpretation, structureOf}
 use Rattle.ale.specs.PictureSignature.{pictureSignature}
 use Rattle.ale.specs.Structure.{Fits}
-use Rattle.ale.specs.Table.{Table}
 use Rattle.ale.specs.Tree.{Tree}
 use Rattle.tbox.proofs.Counts.{first-found}
 use Rattle.tbox.proofs.Coverings.{fits-unfolded, subsumed-unfolded, unfolded-subsumed}
@@ -129,15 +128,6 @@ module _ (limits : Limits) (bounded : Bounded limits) (book : List ℕ) (ok : De
       FitsTree I (whole s) x → Belongs limits I s x
   fits-belongs I s r x = belongs-tree I s (whole s) (picture-tree limits bounded book ok s r) x .1
 
-  pub respects-book : (I : Interpretation pictureSignature) → Respects pictureSignature D I →
-      RespectsBook limits book I
-  respects-book I r k l x b =
-      let n = nameOf book k in
-      let s = definitionFile book k in
-      let (f, g) = subst (λ j. T (I .holds n x) ↔ FitsTree I (whole (definitionFile book j)) x)
-      (place-only book (ok .once) k l) (r n (field-defines book (ok .form) k l) x b) in
-      (λ h. fits-belongs I s (ok .readable k l) x (f h), λ h. g (belongs-fits I s (ok .readable k l) x h))
-
   pub book-respects : (I : Interpretation pictureSignature) → RespectsBook limits book I →
       Respects pictureSignature D I
   book-respects I r n d x b =
@@ -149,6 +139,15 @@ module _ (limits : Limits) (bounded : Bounded limits) (book : List ℕ) (ok : De
         λ h. belongs-fits I s (ok .readable k l) x (f (subst (λ m. T (I .holds m x)) (sym e) h)),
         λ h. subst (λ m. T (I .holds m x)) e (g (fits-belongs I s (ok .readable k l) x h)),
       )
+
+  pub respects-book : (I : Interpretation pictureSignature) → Respects pictureSignature D I →
+      RespectsBook limits book I
+  respects-book I r k l x b =
+      let n = nameOf book k in
+      let s = definitionFile book k in
+      let (f, g) = subst (λ j. T (I .holds n x) ↔ FitsTree I (whole (definitionFile book j)) x)
+      (place-only book (ok .once) k l) (r n (field-defines book (ok .form) k l) x b) in
+      (λ h. fits-belongs I s (ok .readable k l) x (f h), λ h. g (belongs-fits I s (ok .readable k l) x h))
 
   -- of a picture that is answered yes
   module _ (s : List ℕ) (r : Readable limits s) (u : Unfolds limits book s) where

@@ -1,4 +1,5 @@
 -- The laws of the definitions book, by subject.
+pub mod CasesDefinitions
 pub mod Idle
 pub mod Unfolds
 pub mod Coverings

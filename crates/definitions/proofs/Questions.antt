@@ -8,7 +8,7 @@
 use Prim.Native.Nat.{_+_, _<_, suc, zero, ℕ}
 use mathlib.Core.Bool.{Bool, false, true}
 use mathlib.Core.List.{List, [], _++_, _∷_}
-use mathlib.Core.Logic.{_↔_, _⊎_, inl, inr, ⊎-elim}
+use mathlib.Core.Logic.{_⊎_, inl, inr}
 use mathlib.Core.Path.{_∙_, _≡_, ap, refl, subst, sym}
 use native.Mathlib.Omega.{arith}
 use Rattle.table.proofs.Bools.{is-true, true-is}
@@ -32,7 +32,8 @@ use Rattle.definitions.specs.Unfolded.{Definable, Unfolds, excludesNone,
 -- ---- one question of several pictures
 
 module _ (ask : Picture → Asked) where
-  pub of-decides : (Y : Picture → Type 0) (N : Picture → Refusal → Type 0) → ((p : Picture) → Decides (ask p) (Y p) (N p)) →
+  pub of-decides : (Y : Picture → Type 0) (N : Picture → Refusal → Type 0) →
+      ((p : Picture) → Decides (ask p) (Y p) (N p)) →
       (ps : List Picture) → Decides (askedOf ask ps) (AllOf Y ps) (λ r. FirstOf Y (λ p. N p r) ps)
   unfolding askedOf
   of-decides Y N d [] = record {
@@ -96,14 +97,17 @@ module _ (book : List ℕ) (given : List Picture) where
     abbrev FailsAtPlace : ℕ → Refusal → Type 0
     FailsAtPlace k r = (test (definitionFile book k) ≡ false) × (r ≡ refusal number (Definition k))
 
+    abbrev ofDefinitions : Asked
+    ofDefinitions = askedFrom (definitionAsked testAsked book) (definitionCount book) 0
+
     all-decided :
         Decides (askedOf testAsked (given ++ definitionsOf book)) (PassesAll book given test)
         (FirstFails book given number test)
     all-decided =
         subst (λ a. Decides a (PassesAll book given test) (FirstFails book given number test))
         (sym (of-all testAsked book given))
-        (said-so (andThen (askedOf testAsked given) (askedFrom (definitionAsked testAsked book) (definitionCount book) 0))
-        (and-decides (askedOf testAsked given) (askedFrom (definitionAsked testAsked book) (definitionCount book) 0)
+        (said-so (andThen (askedOf testAsked given) ofDefinitions)
+        (and-decides (askedOf testAsked given) ofDefinitions
         (of-decides testAsked Passes Fails test-decided given)
         (λ all. from-decides (definitionAsked testAsked book) PassesAt FailsAtPlace (definitionCount book) 0
         (λ k a b. asked-decides (test (definitionFile book k)) (refusal number (Definition k))))) (
@@ -402,7 +406,7 @@ module _ (limits : Limits) (book : List ℕ) (given : List Picture) where
     all-refuse number test (of-each, of-place) =
         let ask = testAsked book given number test in
         subst (EveryRefusal P) (sym (of-all ask book given))
-        (and-refuses P (askedOf ask given) (askedFrom (definitionAsked ask book) (definitionCount book) 0)
+        (and-refuses P (askedOf ask given) (ofDefinitions book given number test)
         (of-refuses ask P given (each given of-each))
         (from-refuses P (definitionAsked ask book) (definitionCount book) 0
         (λ k a b. asked-refuses P (test (definitionFile book k)) (refusal number (Definition k))

@@ -8,11 +8,11 @@
 --   picture-unfoldable  and so is a picture that is answered yes
 --   unfolded-readable   the unfolded picture can be read
 --   unfolded-tree       its tree, down to the limit, is that of the unfolded table
-use Prim.Native.Nat.{_+_, _<_, _≤_, suc, ℕ}
+use Prim.Native.Nat.{_<_, _≤_, suc, ℕ}
 use borrow.Author.Tests.{leb-true, not-true}
 use lib.Dec.{T, eqb, leb, ltb}
 use lib.ListN.{length}
-use mathlib.Core.Bool.{Bool, false, not, true}
+use mathlib.Core.Bool.{false, not, true}
 use mathlib.Core.List.{List}
 use mathlib.Core.Path.{_∙_, _≡_, ap, sym}
 use native.Mathlib.Omega.{arith}

@@ -1,5 +1,5 @@
--- 02, U3, "Covering now ranges over interpretations in which a defined name holds of exactly the individuals that fit its
--- picture", with Table 1's extensions.
+-- 02, U3, "Covering now ranges over interpretations in which a defined name holds of exactly the individuals that fit
+-- its picture", with Table 1's extensions.
 --   Belongs        an individual fits a picture: it is in the extension of its concept
 --   RespectsBook   such an interpretation
 --   CoversUnder    the second picture covers the first, under a definitions book

@@ -63,7 +63,8 @@ unfoldedFew limits book s = leb (unfoldedCount limits book s) (limits .rows)
 -- 30. Is its depth at most 12?
 unfoldable pub unfoldedShallow : Limits → List ℕ → List ℕ → Bool
 unfoldedShallow limits book s =
-    each (λ j. leb (depth (unfoldedTable limits book s .parent) j) (limits .depth)) (unfoldedTable limits book s .rows) 0
+    each (λ j. leb (depth (unfoldedTable limits book s .parent) j) (limits .depth))
+    (unfoldedTable limits book s .rows) 0
 
 pub record Unfolds (limits : Limits) (book s : List ℕ) : Type 0 where
   pub excluding : excludesNone book s ≡ true

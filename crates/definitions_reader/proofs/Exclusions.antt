@@ -14,8 +14,8 @@ use Rattle.definitions.specs.Tbox.{definedWord}
 use Rattle.definitions.specs.Unfolded.{excludesNone}
 use Rattle.definitions_reader.specs.Excluded.{excludesAt, excludesNoneOf}
 
-pub load-excluded : (defined : ℕ) (picture : List ℕ) (j names : ℕ) → names ≡ excludedOf picture j → names < 2 ^ nameCount →
-    excludesAt defined picture j ≡ overlap names defined
+pub load-excluded : (defined : ℕ) (picture : List ℕ) (j names : ℕ) → names ≡ excludedOf picture j →
+    names < 2 ^ nameCount → excludesAt defined picture j ≡ overlap names defined
 load-excluded defined picture j names e l =
     ap (λ n. overlap n defined) (ap (λ n. n % 2 ^ nameCount) (sym e) ∙ mod-eq-of-lt l)
 

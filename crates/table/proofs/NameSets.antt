@@ -5,7 +5,7 @@
 --   set-ext                                                 sets with the same names are equal
 --   subset-has, has-subset                                  a set is within another exactly when the other has its names
 --   subset-none                                             only the set of no name is within it
---   has-power                                               the set of one name
+--   has-power, subset-power                                 the set of one name, and when it is within a set
 use mathlib.Core.Path.{_∙_, _≡_, ap, refl, sym}
 use mathlib.Core.Bool.{Bool, _&&_, _||_, false, false≢true, not, true, true≢false}
 use Prim.Native.Nat.{_-_, _/_, _<_, _^_, max, min, suc, zero, ℕ}
@@ -19,6 +19,7 @@ use borrow.Author.Tests.{eq-eqb, eqb-false, eqb-true, le-ltb, lt-ltb, ne-eqb}
 use Rattle.table.specs.Layout.{nameCount}
 use Rattle.table.specs.NameSet.{bit, complement, has, intersection, none, subset, union}
 use Rattle.table.proofs.Bools.{by-test}
+use Rattle.table.proofs.Tests.{refuted}
 use Rattle.table.proofs.Bits.{bit-and, bit-below, bit-bound, bit-complement, bit-or, bit-suc, bit-zero, bits-eq}
 
 pub union-below : (a b : ℕ) → a < 2 ^ nameCount → b < 2 ^ nameCount → union a b < 2 ^ nameCount
@@ -106,3 +107,10 @@ has-power (suc i) zero =
 has-power (suc i) (suc k) =
     let e : 2 ^ suc i / 2 ≡ 2 ^ i = omega arith in
     ap (λ (n : ℕ). eqb n 1) (bit-suc (2 ^ suc i) k ∙ ap (λ (n : ℕ). bit n k) e) ∙ has-power i k ∙ next-same k i
+
+pub subset-power : (n a : ℕ) → subset (2 ^ n) a ≡ has a n
+subset-power n a =
+    by-test (has a n)
+    (λ e. has-subset (2 ^ n) a (λ k h. ap (has a) (eqb-true k n (sym (has-power n k) ∙ h)) ∙ e) ∙ sym e)
+    (λ e. refuted (subset (2 ^ n) a)
+    (λ s. true≢false (sym (subset-has (2 ^ n) a s n (has-power n n ∙ eq-eqb n n refl)) ∙ e)) ∙ sym e)

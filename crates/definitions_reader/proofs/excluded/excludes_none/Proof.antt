@@ -67,7 +67,8 @@ returns-2 : tie.Need-returns-2 Inv-loop μ-loop
 returns-2 c =
     let a = c .before .before .before .args in
     let l = c .before .loop in
-    sym (l .inv ∙ each-done (λ k. not (excludesAt (setOf (a .defined)) (now (a .picture)) k)) (a .rows) (l .j) (omega arith))
+    sym (l .inv ∙ each-done (λ k. not (excludesAt (setOf (a .defined)) (now (a .picture)) k)) (a .rows) (l .j)
+    (omega arith))
 
 pub excludes-none-spec : {M : Type 1} → statement M
 excludes-none-spec =
