@@ -46,7 +46,8 @@ use Rattle.picture.proofs.Readables.{
 use Rattle.meaning.specs.File.{codeAt, kindCode, rowsFrom}
 use Rattle.meaning.specs.Meaning.{kindAt, pictureTable}
 use Rattle.definition_parts.specs.Parts.{partAt}
-use Rattle.unfold_rows.specs.Copies.{Hung, Source, prefix}
+use Rattle.table_rows.specs.Rows.{prefix}
+use Rattle.unfold_rows.specs.Copies.{Hung, Source}
 use Rattle.unfold_rows.specs.Growing.{Capped, Pictures, Standing, mixed}
 use Rattle.unfold_rows.proofs.Bridge.{Copyable, kind-back}
 use Rattle.unfold_rows.proofs.Mixed.{hung-written}
