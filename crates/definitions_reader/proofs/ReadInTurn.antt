@@ -1,12 +1,13 @@
 -- 2 to 13 of the definitions in turn.
 --   definitions-from                                        the questions by the definitions' numbers
 --   ReadTo, read-start, read-next, read-refused, read-all   those below k have passed
+--   all-readable                                            where all have, the definitions are readable
 use Prim.Native.Nat.{_+_, _<_, _≤_, suc, zero, ℕ}
 use mathlib.Core.List.{List}
 use mathlib.Core.Path.{_∙_, _≡_, ap, refl, sym}
 use native.Mathlib.Omega.{arith}
 use Rattle.table.specs.declared.layout.Limits.{Limits}
-use Rattle.picture.proofs.Orders.{YesTo, refused-no, rows-yes, to-no, to-yes, yes-on}
+use Rattle.picture.proofs.Orders.{YesTo, read-decides, refused-no, rows-yes, to-no, to-yes, yes-on, yes-to}
 use Rattle.picture.specs.Asked.{andThen, askedFrom, readAsked}
 use Rattle.picture.specs.Read.{answerOf}
 use Rattle.picture.specs.declared.answer.Answer.{Answer}
@@ -17,6 +18,7 @@ use Rattle.picture.specs.declared.answer.Input.the-variants.{Definition}
 use Rattle.picture.specs.declared.answer.Refusal.{Refusal}
 use Rattle.definitions.specs.Asked.{Picture, askedOf, definitionsAfter, definitionsOf, readOf}
 use Rattle.definitions.specs.Form.{definitionCount, definitionFile}
+use Rattle.definitions_reader.specs.Index.{AllReadable}
 
 module _ (tbox : List ℕ) (ask : Picture → Asked) where
   pub definitions-from : (more k : ℕ) → askedOf ask (definitionsAfter tbox more k) ≡
@@ -55,3 +57,9 @@ module _ (limits : Limits) (tbox : List ℕ) where
   read-all k so done =
       sym (definitions-from tbox (readOf limits) (definitionCount tbox) 0
       ∙ to-yes readAt (definitionCount tbox) k done (so .passed))
+
+  pub all-readable : askedOf (readOf limits) (definitionsOf tbox) ≡ Yes → AllReadable limits tbox
+  all-readable e k l =
+      read-decides limits (Definition k) (definitionFile tbox k) .yes .0
+      (yes-to readAt (definitionCount tbox)
+      (sym (definitions-from tbox (readOf limits) (definitionCount tbox) 0) ∙ e) k l)

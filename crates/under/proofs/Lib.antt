@@ -1,6 +1,7 @@
--- The calls under a definitions book.
+-- The laws of the calls under a definitions book, by subject.
 pub mod Givens
 pub mod Calls
+pub mod Orders
 pub mod Answers
 pub mod Conditions
 pub mod Commons
