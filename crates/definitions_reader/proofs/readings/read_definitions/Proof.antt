@@ -29,9 +29,7 @@ picture-of-requires : tie.Need-picture-of-requires Inv-loop μ-loop
 picture-of-requires c κs = (c .before .before .before .before .pre .1, c .if1 .taken)
 
 cast-t9 : tie.Need-cast-t9 Inv-loop μ-loop
-cast-t9 c =
-    let pre = c .before .before .before .before .before .pre in
-    omega (arith, c .before .if1 .taken, pre .1 .placed .located .most)
+cast-t9 c = search needs
 
 read-requires : tie.Need-read-requires Inv-loop μ-loop
 read-requires c κs = search needs
@@ -69,7 +67,8 @@ loop-again c =
     let told = c .enum-told .given in
     let t = now (args .tbox) in
     read-next (args .limits) Definition (definitionFile t) (definitionCount t) (loop .k) (loop .inv)
-    (counted (c .before .before .before .before)) (c .before .before .read .result) (says (c .before .before)) (told .0 .0) (told .1)
+    (counted (c .before .before .before .before)) (c .before .before .read .result) (says (c .before .before))
+    (told .0 .0) (told .1)
 
 enum-known-refusal : tie.Need-enum-known-refusal Inv-loop μ-loop
 enum-known-refusal c = search needs

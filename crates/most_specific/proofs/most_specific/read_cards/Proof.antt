@@ -33,8 +33,14 @@ read-requires : tie.Need-read-requires Inv-loop μ-loop
 read-requires c κs = search needs
 
 -- the part that was read is card k
-says : (c : tie.After-read Inv-loop μ-loop) → let a = c .before .before .before .before .before .before .args in let k = c .before .before .before .before .loop .k in c .read .result ≡ answerOf (a .limits) (Card k) (card (now (a .book)) k)
-says c = c .read .ensures ∙ ap (answerOf (c .before .before .before .before .before .before .args .limits) (Card (c .before .before .before .before .loop .k))) (c .before .card .ensures)
+says : (c : tie.After-read Inv-loop μ-loop) →
+    let a = c .before .before .before .before .before .before .args in
+    let k = c .before .before .before .before .loop .k in
+    c .read .result ≡ answerOf (a .limits) (Card k) (card (now (a .book)) k)
+says c =
+    let a = c .before .before .before .before .before .before .args in
+    let k = c .before .before .before .before .loop .k in
+    c .read .ensures ∙ ap (answerOf (a .limits) (Card k)) (c .before .card .ensures)
 
 enum-told : tie.Need-enum-told Inv-loop μ-loop
 enum-told c = search needs
