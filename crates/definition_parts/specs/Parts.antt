@@ -1,10 +1,10 @@
--- The pictures of definitions as parts of the book, as the code finds them: `starts` has for each defined name where its
--- picture begins.
+-- The pictures of definitions as parts of the book, as the code finds them: `starts` has for each defined name where
+-- its picture begins.
 --   partLength, partAt   the picture that begins at a place: the length in its field's head less the name byte
 --   Part                 a definition's picture begins there, and lies in the book
 --   Opened               each defined name has such a place, and the picture there is readable, at some limits
 --   Agrees               definitions of the theory are those that the code finds
-use Prim.Native.Nat.{_+_, _-_, _<_, _≤_, ℕ}
+use Prim.Native.Nat.{_+_, _-_, _≤_, ℕ}
 use lib.Dec.{T}
 use lib.ListN.{drop, getD, length, take}
 use mathlib.Core.Bool.{true}

@@ -4,7 +4,7 @@ use table::layout::LENGTH_AT;
 use table::layout::NAMES;
 use table::number::load16;
 ghost use mathlib.Core.Path.{_≡_};
-ghost use Prim.Native.Nat.{ℕ, _<_};
+ghost use Prim.Native.Nat.{_<_};
 ghost use lib.ListN.{getD};
 ghost use Rattle.table.specs.Layout.{nameCount};
 ghost use Rattle.definition_parts.specs.Parts.{Part, partAt, partLength};

@@ -52,7 +52,8 @@ use Rattle.meaning.specs.File.{fileOf}
 use Rattle.meaning.specs.Meaning.{pictureTable, pictureTree}
 use Rattle.definitions.specs.Form.{definitionCount, definitionFile, nameOf}
 use Rattle.definitions.specs.Tbox.{definedWord, defines, placeOf, tboxOf}
-use Rattle.definitions.specs.Unfolded.{Definable, Unfolds, anyDefined, excludesNone, unfoldedCount, unfoldedFew, unfoldedFile, unfoldedShallow, unfoldedTable, wantsDefined}
+use Rattle.definitions.specs.Unfolded.{Definable, Unfolds, anyDefined, excludesNone, unfoldedCount, unfoldedFew}
+use Rattle.definitions.specs.Unfolded.{unfoldedFile, unfoldedShallow, unfoldedTable, wantsDefined}
 use Rattle.definitions.proofs.Idle.{apart, rows-own, tree-own, word-set}
 
 module _ (limits : Limits) (bounded : Bounded limits) (book : List ℕ) where

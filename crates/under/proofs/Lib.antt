@@ -1,1 +1,9 @@
--- laws
+-- The laws of the calls under a definitions book, by subject.
+pub mod Givens
+pub mod Calls
+pub mod Orders
+pub mod Answers
+pub mod Conditions
+pub mod Commons
+pub mod Books
+pub mod Empty

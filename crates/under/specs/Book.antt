@@ -2,28 +2,33 @@
 --   cardsGiven, caseAndCards       the case and the cards as they are asked
 --   bookBefore                     2 to 13 of the case, 24, 2 to 13 of the cards, then the questions of the definitions
 --                                  book
---   unfoldedCards, unfoldedBook    the book of the unfolded cards, in the same order: a list to speak of, which is never
---                                  made
+--   PreparedBook                   that is answered yes
+--   AcceptableBookUnder            and so is 14, of the unfolded case and cards
+--   unfoldedCards, unfoldedBook    the book of the unfolded cards, in the same order: a list to speak of, never made
 --   MostSpecificUnder              card n is nearest, with covering under definitions
 --   mostSpecificUnder, mostSpecificWorkUnder   the answer and the work space: those of the call without a definitions
 --                                  book, for the unfolded case and the unfolded cards
-use Prim.Native.Nat.{ℕ, zero, suc, _+_, _<_}
+use Prim.Native.Nat.{ℕ, zero, suc, _+_, _<_, _≤_}
 use lib.Dec.{leb}
 use lib.ListN.{length}
+use mathlib.Core.Bool.{true}
 use mathlib.Core.List.{List, [], _∷_}
+use mathlib.Core.Path.{_≡_}
 use Rattle.table.specs.declared.layout.Limits.{Limits}
 use Rattle.picture.specs.Asked.{andThen, askedFrom, kept, onAsked, readAsked, roomAsked}
+use Rattle.picture.specs.Readable.{Readable}
 use Rattle.picture.specs.declared.answer.Asked.{Asked}
 use Rattle.picture.specs.declared.answer.Input.the-variants.{Card, First}
+use Rattle.meaning.specs.NormalTable.{mergedCount}
 use Rattle.workspace.specs.Prepare.{workSize}
 use Rattle.book.specs.Call.{cardRead, formAsked, mostSpecificAnswer, mostSpecificWork}
-use Rattle.book.specs.Form.{bookBytes, card, cardCount}
+use Rattle.book.specs.Form.{bookBytes, bookForm, card, cardCount}
 use Rattle.book.specs.Selection.{MostSpecificBy}
 use Rattle.book.specs.declared.answer.Selected.{Selected}
 use Rattle.book.specs.declared.answer.Selected.the-variants.{Refused}
 use Rattle.definitions.specs.Asked.{Picture, definitionsAsked}
 use Rattle.definitions.specs.Covering.{CoversUnder}
-use Rattle.definitions.specs.Unfolded.{unfoldedFile}
+use Rattle.definitions.specs.Unfolded.{Definable, Unfolds, unfoldedFile}
 
 -- of `more` cards from card k on
 abbrev pub cardsGiven : List ℕ → ℕ → ℕ → List Picture
@@ -40,6 +45,20 @@ bookBefore limits tbox case book room =
     (andThen (formAsked book)
     (andThen (askedFrom (cardRead limits book) (cardCount book) 0)
     (definitionsAsked limits tbox (caseAndCards case book)))))
+
+pub record PreparedBook (limits : Limits) (tbox case book : List ℕ) : Type 0 where
+  pub definable : Definable limits tbox
+  pub case-readable : Readable limits case
+  pub form : bookForm book ≡ true
+  pub cards-readable : (k : ℕ) → k < cardCount book → Readable limits (card book k)
+  pub case-unfolds : Unfolds limits tbox case
+  pub cards-unfold : (k : ℕ) → k < cardCount book → Unfolds limits tbox (card book k)
+
+pub record AcceptableBookUnder (limits : Limits) (tbox case book : List ℕ) : Type 0 where
+  pub prepared : PreparedBook limits tbox case book
+  pub case-few : mergedCount limits (unfoldedFile limits tbox case) ≤ limits .rows
+  pub cards-few : (k : ℕ) → k < cardCount book →
+      mergedCount limits (unfoldedFile limits tbox (card book k)) ≤ limits .rows
 
 abbrev pub unfoldedCards : Limits → List ℕ → List ℕ → ℕ → ℕ → List (List ℕ)
 unfoldedCards limits tbox book zero k = []

@@ -1,32 +1,21 @@
--- 003, Definition 2, under a definitions book: "every picture", there and in later requests, "means one that excludes no
--- defined name"; so do the descriptions here.
---   ConceptExcludesNone       a concept description excludes no defined name
+-- 003, Definition 2, under a definitions book: "every picture", there and in later requests, "means one that excludes
+-- no defined name"; so do the descriptions here.
 --   DescriptionCoversUnder    a concept covers a picture, in every interpretation that respects the book
 --   LeastCommonUnder          a picture file is the least common subsumer of two pictures under a book
 use Prim.Native.Nat.{ℕ, _<_}
-use mathlib.Core.Bool.{false, true}
+use mathlib.Core.Bool.{true}
 use mathlib.Core.List.{List}
 use mathlib.Core.Path.{_≡_}
 use Rattle.table.specs.declared.layout.Limits.{Limits}
-use Rattle.ale.specs.Concept.{Concept, InExtension, Over, bottomConcept, conjunction, existential, negation, primitive, topConcept, value}
+use Rattle.ale.specs.Concept.{Concept, InExtension, Over}
 use Rattle.ale.specs.Interpretation.{Interpretation, structureOf}
 use Rattle.ale.specs.PictureSignature.{pictureSignature}
 use Rattle.picture.specs.Readable.{Readable}
 use Rattle.definitions.specs.Covering.{Belongs, CoversUnder, RespectsBook}
-use Rattle.definitions.specs.Unfolded.{excludesNone}
-use Rattle.definitions.specs.Tbox.{definedWord}
+use Rattle.definitions.specs.Tbox.{tboxOf}
+use Rattle.definitions.specs.Unfolded.{excludesNone, unfoldedFile}
 use Rattle.lcs.specs.Description.{LeastCommon}
-use Rattle.definitions.specs.Unfolded.{unfoldedFile}
-use Rattle.table.specs.NameSet.{has}
-
-abbrev pub ConceptExcludesNone : List ℕ → Concept → Type 0
-ConceptExcludesNone tbox (primitive n) = Unit
-ConceptExcludesNone tbox topConcept = Unit
-ConceptExcludesNone tbox (conjunction c d) = ConceptExcludesNone tbox c × ConceptExcludesNone tbox d
-ConceptExcludesNone tbox (existential r c) = ConceptExcludesNone tbox c
-ConceptExcludesNone tbox (value r c) = ConceptExcludesNone tbox c
-ConceptExcludesNone tbox (negation n) = has (definedWord tbox) n ≡ false
-ConceptExcludesNone tbox bottomConcept = Unit
+use Rattle.tbox.specs.Definitions.{NegatesNone}
 
 abbrev pub DescriptionCoversUnder : Limits → List ℕ → Concept → List ℕ → Type 0
 DescriptionCoversUnder limits tbox c picture =
@@ -39,12 +28,12 @@ pub record LeastCommonUnder (limits : Limits) (tbox first second : List ℕ) (n 
   -- "the common picture covers both inputs,"
   pub covers-first : CoversUnder limits tbox picture first
   pub covers-second : CoversUnder limits tbox picture second
-  -- "and every picture that covers both covers it;" every picture that excludes no defined name, also one that would not
-  -- pass 29 or 30
+  -- "and every picture that covers both covers it;" every picture that excludes no defined name, also one that would
+  -- not pass 29 or 30
   pub least : (other : List ℕ) → Readable limits other → excludesNone tbox other ≡ true →
       CoversUnder limits tbox other first → CoversUnder limits tbox other second → CoversUnder limits tbox other picture
   -- 003, Definition 2: so does every concept description over the 64 names and 32 roles that excludes none, of any size
   -- and depth
-  pub least-any : (c : Concept) → Over pictureSignature c → ConceptExcludesNone tbox c →
+  pub least-any : (c : Concept) → Over pictureSignature c → NegatesNone pictureSignature (tboxOf tbox) c →
       DescriptionCoversUnder limits tbox c first → DescriptionCoversUnder limits tbox c second →
       DescriptionCoversUnder limits tbox c picture

@@ -43,10 +43,13 @@ fn put_input(out: &mut [u8], input: Input) -> usize
 {
     match input {
         Input::First => put_text(out, 0, b"refused first "),
-        Input::Buffer | Input::Second | Input::Evidence | Input::Book | Input::Card(_) | Input::Definitions
-            | Input::Definition(_) => {
-            put_text(out, 0, b"refused second ")
-        }
+        Input::Buffer
+        | Input::Second
+        | Input::Evidence
+        | Input::Book
+        | Input::Card(_)
+        | Input::Definitions
+        | Input::Definition(_) => { put_text(out, 0, b"refused second ") }
     }
 }
 

@@ -1,0 +1,7 @@
+-- The laws, by subject.
+pub mod NameWalks
+pub mod SettledSets
+pub mod WantedNames
+pub mod RingSets
+pub mod Settlings
+pub mod UsesFound

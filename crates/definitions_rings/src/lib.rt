@@ -1,0 +1,3 @@
+// Rings of definitions (28).
+pub mod rings;
+pub mod uses;
