@@ -28,7 +28,8 @@ use Rattle.meaning.proofs.CasePictures.{allRow, empty, end, fourRows, picture, 
 use Rattle.definitions.specs.Asked.{Picture, askedOf, definitionsAsked}
 use Rattle.definitions.specs.Form.{definitionFile, definitionsForm}
 use Rattle.definitions.specs.Tbox.{definedWord}
-use Rattle.definitions.specs.Unfolded.{excludesNone, namedOnce, unfoldedCount, unfoldedFew, unfoldedFile, unfoldedShallow}
+use Rattle.definitions.specs.Unfolded.{excludesNone, namedOnce, unfoldedCount, unfoldedFew, unfoldedFile}
+use Rattle.definitions.specs.Unfolded.{unfoldedShallow}
 
 pub data Case : Type 0 where
   form : List ℕ → Bool → Case
