@@ -44,7 +44,8 @@ module _ (tbox s starts : List ℕ) (defined : ℕ) (agrees : Agrees (tboxOf tbo
     unfolded-few =
         by-test (unfoldedFew limits tbox s)
         (λ t. ap (λ n. leb n (limits .rows)) (unfolded-count t))
-        (λ f. lt-leb r (limits .rows) (filed .many (tboxOf tbox) agrees (leb-false (unfoldedCount limits tbox s) (limits .rows) f))
+        (λ f. lt-leb r (limits .rows)
+        (filed .many (tboxOf tbox) agrees (leb-false (unfoldedCount limits tbox s) (limits .rows) f))
         ∙ sym f)
 
     pub unfolded-file : unfoldedFew limits tbox s ≡ true → wantsDefined tbox s ≡ true →
@@ -52,4 +53,5 @@ module _ (tbox s starts : List ℕ) (defined : ℕ) (agrees : Agrees (tboxOf tbo
     unfolding unfoldedFile unfoldedCount
     unfolded-file t w =
         filed .few (tboxOf tbox) agrees (few t) .1
-        ∙ ap (λ b. pick b (fileOf (unfoldRows pictureSignature (tboxOf tbox) (limits .rows) (pictureTable s))) s) (sym w)
+        ∙ ap (λ b. pick b (fileOf (unfoldRows pictureSignature (tboxOf tbox) (limits .rows) (pictureTable s))) s)
+        (sym w)

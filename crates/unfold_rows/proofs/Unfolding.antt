@@ -39,7 +39,8 @@ own-copies limits s readable (suc j) l =
     readable-copies limits s readable (0 + suc j) (0 + suc j) (λ z. omega arith) (λ z. omega arith) (omega arith)
 
 -- a table that has at most as many rows as the limit has the rows of v
-capped-stands : (D : Definitions pictureSignature) (limit i rows : ℕ) (v : List (Origin pictureSignature)) (d : List ℕ) →
+capped-stands : (D : Definitions pictureSignature) (limit i rows : ℕ) (v : List (Origin pictureSignature))
+    (d : List ℕ) →
     Capped D limit i v rows d → rows ≤ limit → Standing D i v rows d
 capped-stands D limit i rows v d c l =
     by-test (ltb limit (length v)) (λ t. absurd (omega (arith, c .many (ltb-true limit (length v) t))))
@@ -57,7 +58,8 @@ module _ (picture tbox starts : List ℕ) (defined limit : ℕ) where
       (D : Definitions pictureSignature) → Agrees D tbox starts defined →
       Capped D limit i (grown pictureSignature D (pictureTable picture) i) rows out
 
-  pub grows-start : (limits : Limits) → Readable limits picture → (rows r : ℕ) (d e : List ℕ) → rows ≡ rowCount picture →
+  pub grows-start : (limits : Limits) → Readable limits picture → (rows r : ℕ) (d e : List ℕ) →
+      rows ≡ rowCount picture →
       r ≡ rows → Added d e (copyBytes picture (λ p. p) 0 rows) 0 rows → rows ≤ limit → Grows r e 0
   grows-start limits readable rows r d e count same added l D agrees =
       let own = copies-length pictureSignature (pictureTable picture) (λ i. i) 0 (rowCount picture) in
@@ -67,7 +69,8 @@ module _ (picture tbox starts : List ℕ) (defined limit : ℕ) where
           bytes =
               ap (λ n. prefix n e) same
               ∙ own-written D picture e rows d added
-              (subst (λ n. (j : ℕ) → j < n → Copyable picture (0 + j) (0 + j)) (sym count) (own-copies limits picture readable)) refl
+              (subst (λ n. (j : ℕ) → j < n → Copyable picture (0 + j) (0 + j)) (sym count)
+              (own-copies limits picture readable)) refl
               ∙ ap (λ n. rowsFrom 0 (mixed D 0 (copies pictureSignature (pictureTable picture) (λ p. p) 0 n))) count;
         };
         many = λ b. absurd (omega (arith, own));
@@ -90,7 +93,8 @@ module _ (picture tbox starts : List ℕ) (defined limit : ℕ) where
       subst (λ n. limit < length (grown pictureSignature D (pictureTable picture) n))
       (let z : limit - i + i ≡ limit = omega arith in z)
       (grown-large pictureSignature D (pictureTable picture) limit i
-      (capped-large D limit i rows (grown pictureSignature D (pictureTable picture) i) out (g D agrees) l) (limit - i)) in
+      (capped-large D limit i rows (grown pictureSignature D (pictureTable picture) i) out (g D agrees) l)
+      (limit - i)) in
       record {
         same-length = same;
         few = λ D agrees few. absurd (omega (arith, large D agrees));
@@ -114,7 +118,8 @@ module _ (picture tbox starts : List ℕ) (defined limit : ℕ) where
         few = λ D agrees few. (
           stands D agrees .count ∙ ap length (still D agrees),
           stands D agrees .bytes
-              ∙ ap (rowsFrom 0) (mixed-all D i (v D) (omega (arith, stands D agrees .count)) ∙ ap (rowsFor pictureSignature D) (still D agrees)),
+              ∙ ap (rowsFrom 0) (mixed-all D i (v D) (omega (arith, stands D agrees .count))
+              ∙ ap (rowsFor pictureSignature D) (still D agrees)),
         );
         many = λ D agrees many. absurd (let e = ap length (still D agrees) in omega (arith, stands D agrees .count));
       }

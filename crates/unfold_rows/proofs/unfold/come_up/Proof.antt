@@ -49,7 +49,8 @@ take-in-requires c κs =
     (c .label-of .ensures .taken, c .before .before .before .before .before .before .before .before .pre .opened)
 
 relabel-requires : tie.Need-relabel-requires
-relabel-requires c κs = has-row _ _ _ _ _ _ _ (c .before .before .before .before .before .before .before .before .before .before .pre)
+relabel-requires c κs =
+    has-row _ _ _ _ _ _ _ (c .before .before .before .before .before .before .before .before .before .before .pre)
 
 hang-all-requires : tie.Need-hang-all-requires
 hang-all-requires c κs =
@@ -57,7 +58,8 @@ hang-all-requires c κs =
     let start = relabelled .before .before .before .before .before .before .before .before .before .before .before in
     let a = start .args in
     let take-in = relabelled .before .before .take-in in
-    let same = anew-length (now (a .out)) _ (a .i) (take-in .result) (setOf (a .defined)) (has-row _ _ _ _ _ _ _ (start .pre))
+    let same = anew-length (now (a .out)) _ (a .i) (take-in .result) (setOf (a .defined))
+    (has-row _ _ _ _ _ _ _ (start .pre))
     (relabelled .relabel .ensures) in
     record {
       opened = taken-opened _ _ _ _ (start .pre .opened) (take-in .ensures .known);

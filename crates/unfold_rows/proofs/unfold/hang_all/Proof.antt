@@ -50,7 +50,8 @@ loop-holds c =
       start .pre .started,
       refl,
       left,
-      onward-start (now (a .tbox)) (now (a .starts)) (setOf (a .taken)) (a .i) (a .limit) (a .table .rows) (now (a .out))
+      onward-start (now (a .tbox)) (now (a .starts)) (setOf (a .taken)) (a .i) (a .limit) (a .table .rows)
+          (now (a .out))
           (c .first .result) names,
     )
 
@@ -73,7 +74,8 @@ hang-requires c κs =
     let opened = start .pre .opened in
     record {
       source = subst (λ s. Source s (rowCount s)) (sym (c .before .definition .ensures))
-          (readable-source (opened .limits) _ (opened .readable (l .name) (named (c .before .before))) (opened .bounded));
+          (readable-source (opened .limits) _ (opened .readable (l .name) (named (c .before .before)))
+          (opened .bounded));
       started = l .inv .0;
       small = start .pre .small;
       room = omega (arith, start .pre .room, l .inv .1);
@@ -106,7 +108,8 @@ next : (c : tie.After-first2 Inv-loop μ-loop) →
     × (namesFrom taken name ≡ name ∷ namesFrom taken (c .first2 .result))
 next c =
     let l = test c .before .loop in
-    remaining-next (setOf (entry (test c) .args .taken)) (setOf (l .left)) (l .name) _ _ _ (c .first2 .result) (l .inv .2)
+    remaining-next (setOf (entry (test c) .args .taken)) (setOf (l .left)) (l .name) _ _ _ (c .first2 .result)
+    (l .inv .2)
     (test c .loop-test .taken) (c .before .before .before .only .ensures) (c .before .before .complement .ensures)
     (c .before .intersection .ensures) (c .first2 .ensures)
 
@@ -122,7 +125,8 @@ loop-again c =
     let a = start .args in
     let hang = c .before .before .before .before .before .before .hang in
     let definition = c .before .before .before .before .before .before .before .before .definition in
-    let h = hung-of _ _ (a .i) (a .limit) (l .grown .rows) _ (hang .result .rows) _ (definition .ensures) (hang .ensures) in
+    let h = hung-of _ _ (a .i) (a .limit) (l .grown .rows) _ (hang .result .rows) _ (definition .ensures)
+    (hang .ensures) in
     let (left, later, names) = next c in (
       hung-most _ (a .i) (a .limit) (l .grown .rows) _ (hang .result .rows) _ h,
       h .same-length ∙ l .inv .1,
