@@ -34,7 +34,8 @@ returns c =
     let clear = c .before .before .before .clear in (
       selected-bits (a .limits) (now (a .book)) (a .covering) mostCards (compared .compare-cards .result)
           (c .without .result)
-          (cards-preorder (a .limits) (now (a .book)) (pre .taken .readable)) (count-most cardTag (now (a .book))) (pre .inside)
+          (cards-preorder (a .limits) (now (a .book)) (pre .taken .readable))
+          (count-most cardTag (now (a .book))) (pre .inside)
           (compared .compare-cards .ensures .0) (c .without .ensures),
       cleared _ (clear .last .0) _ (workSize (a .limits)) refl (compared .compare-cards .ensures .1 ∙ pre .long)
           (clear .ensures),
