@@ -3,17 +3,14 @@
 --   copies-bytes        rows copied after the first row of the table
 --   own-bytes           the picture's own rows
 use Prim.Native.Nat.{ℕ, zero, suc, _%_, _+_, _^_, _<_, _≤_}
-use borrow.Author.Tests.{ne-eqb}
 use lib.Dec.{eqb}
 use lib.ListN.{length}
-use mathlib.Core.Bool.{Bool}
 use mathlib.Core.List.{List, [], _++_, _∷_, append-nil}
 use mathlib.Core.Logic.{_⊎_, ⊎-elim}
 use mathlib.Core.Path.{_∙_, _≡_, ap, ap₂, refl, subst, sym}
 use native.Mathlib.Omega.{arith}
 use Rattle.table.specs.Fields.{excludedOf, impossibleOf, kindOf, parentOf, roleOf, rowOf, wantedOf}
-use Rattle.table.specs.Layout.{kindExists, kindForAll, kindRoot, nameCount}
-use Rattle.table.specs.Pick.{pick}
+use Rattle.table.specs.Layout.{kindExists, kindForAll, nameCount}
 use Rattle.ale.specs.Encoding.{Row}
 use Rattle.ale.specs.PictureSignature.{pictureSignature}
 use Rattle.ale.specs.Table.{Table}

@@ -5,16 +5,14 @@
 --   hung-later               the row from which a copy hangs, if it did not hang from the root
 --   set-whole                a set of names that was read is below the bound
 use Prim.Native.Nat.{ℕ, zero, suc, _%_, _+_, _-_, _<_, _^_, _≤_}
-use lib.ListN.{length, take}
-use mathlib.Core.List.{List, [], _++_, append-assoc, append-nil}
+use lib.ListN.{length}
+use mathlib.Core.List.{List, _++_, append-assoc, append-nil}
 use mathlib.Core.Path.{_∙_, _≡_, ap, refl, subst, sym}
 use native.Mathlib.Nat.{mod-eq-of-lt}
 use native.Mathlib.Omega.{arith}
-use lib.ListN.{length-append}
-use lib.Seq.{length-take-le, take-at}
 use Rattle.table.proofs.Puts.{length-put}
 use Rattle.table.proofs.Rows.{length-rowOf}
-use Rattle.table.specs.Fields.{excludedOf, impossibleOf, kindOf, parentOf, roleOf, rowOf, wantedOf}
+use Rattle.table.specs.Fields.{excludedOf, impossibleOf, kindOf, parentOf, roleOf, wantedOf}
 use Rattle.table.specs.Layout.{«place», nameCount, rowSize}
 use Rattle.table.specs.Put.{put}
 use Rattle.table_rows.proofs.Prefixes.{prefix-put}

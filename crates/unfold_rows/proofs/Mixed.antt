@@ -11,7 +11,7 @@
 use Prim.Native.Nat.{ℕ, zero, suc, _*_, _+_, _-_, _<_, _≤_}
 use lib.ListN.{drop, getD, length, length-append, take, take-append-drop}
 use lib.Seq.{drop-append-seam, take-append-seam}
-use mathlib.Core.List.{List, [], _++_, _∷_, append-assoc, append-nil}
+use mathlib.Core.List.{List, [], _++_, _∷_, append-assoc}
 use mathlib.Core.Path.{_∙_, _≡_, ap, ap₂, refl, subst, sym}
 use native.Mathlib.Omega.{arith}
 use Rattle.table.specs.Layout.{«place», rowSize}
@@ -19,15 +19,14 @@ use Rattle.table.specs.Put.{put}
 use Rattle.table.proofs.Rows.{Same, same-after, same-first}
 use Rattle.ale.specs.Encoding.{Row}
 use Rattle.ale.specs.PictureSignature.{pictureSignature}
-use Rattle.ale.specs.Table.{Table}
 use Rattle.tbox.specs.Definitions.{Definitions}
-use Rattle.tbox.specs.Unfold.{Origin, copies, hung, parentIn, rowsFor, unfoldedRow}
+use Rattle.tbox.specs.Unfold.{Origin, copies, parentIn, rowsFor, unfoldedRow}
 use Rattle.meaning.specs.File.{rowAt, rowsFrom}
 use Rattle.meaning.specs.Meaning.{pictureTable}
 use Rattle.meaning.proofs.Files.{length-rowAt, length-rowsFrom, rowsFrom-append}
 use Rattle.table_rows.specs.Rows.{prefix}
 use Rattle.unfold_rows.specs.Copies.{Added, copyBytes}
-use Rattle.unfold_rows.proofs.Bridge.{Copyable, copies-bytes, raw-length, rawRows}
+use Rattle.unfold_rows.proofs.Bridge.{Copyable, copies-bytes, rawRows}
 use Rattle.unfold_rows.specs.Growing.{mixed, rawRow}
 
 -- bytes put in the place of as many others

@@ -6,15 +6,15 @@
 --   names-taken                    the names that were taken in, rising
 --   risen-anew, risen-idle         the table then: the row takes in definitions, or it wants no defined name
 --   has-row, anew-length           row i is there, and writing it anew keeps the length
-use Prim.Native.Nat.{_%_, _+_, _*_, _/_, _<_, _^_, _≤_, suc, zero, ℕ}
+use Prim.Native.Nat.{_%_, _/_, _<_, _^_, _≤_, suc, ℕ}
 use borrow.Author.Tests.{eqb-true, lt-ltb, not-false}
-use lib.Dec.{T, eqb, ltb}
-use lib.ListN.{getD, length}
+use lib.Dec.{eqb, ltb}
+use lib.ListN.{length}
 use mathlib.Core.Bool.{Bool, _&&_, false, false≢true, not, true}
 use mathlib.Core.List.{List, [], _++_, _∷_}
 use mathlib.Core.Path.{_∙_, _≡_, ap, ap₂, refl, subst, sym}
 use native.Mathlib.Omega.{arith}
-use Rattle.table.specs.Fields.{excludedOf, impossibleOf, kindOf, parentOf, roleOf, rowOf, wantedOf}
+use Rattle.table.specs.Fields.{kindOf, parentOf, roleOf, rowOf, wantedOf}
 use Rattle.table.specs.Layout.{nameBytes, nameCount, numberSize, rowLength, rowTag, «place»}
 use Rattle.table.specs.NameSet.{complement, has, intersection, none}
 use Rattle.table.specs.NameValues.{overlap, setOf}

@@ -5,22 +5,21 @@
 --   grows-stop    more rows than the limit: they stay too many
 --   grows-end     every row has come up: further ones would change nothing
 use Prim.Native.Nat.{_+_, _-_, _<_, _≤_, suc, zero, ℕ}
-use borrow.Author.Tests.{eqb-false, eqb-true, ltb-false, ltb-true}
-use lib.Dec.{eqb, ltb}
+use borrow.Author.Tests.{ltb-false, ltb-true}
+use lib.Dec.{ltb}
 use lib.ListN.{length}
-use mathlib.Core.List.{List, []}
+use mathlib.Core.List.{List}
 use mathlib.Core.Path.{_∙_, _≡_, ap, refl, subst, sym}
 use native.Mathlib.Omega.{arith}
 use Rattle.table.specs.declared.layout.Limits.{Limits}
 use Rattle.table.proofs.Bools.{by-test}
 use Rattle.ale.specs.PictureSignature.{pictureSignature}
-use Rattle.ale.specs.Table.{Table}
 use Rattle.tbox.specs.Definitions.{Definitions}
-use Rattle.tbox.specs.Unfold.{Origin, copies, grown, ownRows, rowsFor, unfoldRows}
+use Rattle.tbox.specs.Unfold.{Origin, copies, grown, rowsFor}
 use Rattle.tbox.proofs.Origins.{copies-length}
 use Rattle.tbox.proofs.UnfoldedTables.{grown-large, grown-more}
 use Rattle.picture.specs.Readable.{Readable, rowCount}
-use Rattle.picture.proofs.Readables.{readable-impossible, readable-root, readable-some}
+use Rattle.picture.proofs.Readables.{readable-impossible, readable-root}
 use Rattle.meaning.specs.File.{rowsFrom}
 use Rattle.meaning.specs.Meaning.{pictureTable}
 use Rattle.definition_parts.specs.Parts.{Agrees}

@@ -1,9 +1,6 @@
 -- At the loop's head rows 1 to k - 1 of the definition have been pushed.
-use Prim.Native.Nat.{_+_, _-_, _/_, _<_, _≤_}
-use lib.ListN.{length}
-use Rattle.table.specs.Layout.{rowSize}
+use Prim.Native.Nat.{_+_, _-_, _<_, _≤_}
 use native.Mathlib.Omega.{arith}
-use borrow.Author.Needs.{needs}
 use denote.Ref.{now}
 use mathlib.Core.Path.{_∙_, _≡_, ap, refl, subst}
 use Rattle.ale.specs.PictureSignature.{pictureSignature}

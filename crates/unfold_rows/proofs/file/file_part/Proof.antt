@@ -1,5 +1,4 @@
 -- The rows with their end field.
-use Prim.Native.Nat.{_≤_}
 use lib.ListN.{take}
 use lib.Seq.{length-take-le}
 use native.Mathlib.Omega.{arith}

@@ -1,7 +1,5 @@
 -- The end field is written behind the rows, if they are within the limit.
-use Prim.Native.Nat.{_<_, _≤_}
 use native.Mathlib.Omega.{arith}
-use borrow.Author.Needs.{needs}
 use denote.Ref.{now}
 use Rattle.table.specs.NameValues.{setOf}
 use Rattle.unfold_rows.proofs.Filing.{filed, filed-large}

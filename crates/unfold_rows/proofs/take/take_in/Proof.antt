@@ -4,7 +4,6 @@ use native.Mathlib.Omega.{arith}
 use denote.Ref.{now}
 use mathlib.Core.Bool.{true}
 use mathlib.Core.Path.{_≡_, refl, subst, sym}
-use lib.ListN.{getD}
 use Rattle.table.specs.Layout.{nameCount}
 use Rattle.table.specs.NameSet.{has}
 use Rattle.table.specs.NameValues.{setOf}

@@ -1,18 +1,13 @@
 -- Row i stands as it was copied. Where it wants no defined name it stays; else it is written anew, and what it took in
 -- is hung to it.
-use Prim.Native.Nat.{_<_, _≤_}
-use lib.ListN.{length}
 use native.Mathlib.Omega.{arith}
 use borrow.Author.Needs.{needs}
 use borrow.Author.Tests.{not-true}
 use denote.Ref.{now}
 use mathlib.Core.Bool.{false}
 use mathlib.Core.Path.{_∙_, _≡_, ap, refl, sym}
-use Rattle.table.specs.Bounds.{maxRows}
 use Rattle.table.specs.Fields.{wantedOf}
-use Rattle.table.specs.Layout.{rowSize, «place»}
 use Rattle.table.specs.NameValues.{overlap, setOf}
-use Rattle.table.proofs.Puts.{length-put}
 use Rattle.unfold_rows.proofs.Rising.{anew-length, has-row, risen-anew, risen-idle, taken-opened}
 use Rattle.unfold_rows.proofs.unfold.come_up.Statement.{statement}
 use Rattle.unfold_rows.proofs.unfold.come_up.Tie as tie

@@ -1,8 +1,7 @@
 -- At the loop's head: the table has the rows after i of them have come up, or more than the limit (`Grows`).
-use Prim.Native.Nat.{_+_, _-_, _<_, _≤_}
+use Prim.Native.Nat.{_-_, _≤_}
 use lib.ListN.{length}
 use native.Mathlib.Omega.{arith}
-use borrow.Author.Needs.{needs}
 use denote.Ref.{now}
 use mathlib.Core.Path.{_∙_, _≡_, refl, subst, sym}
 use Rattle.table.specs.NameValues.{setOf}
