@@ -64,7 +64,8 @@ names-skip taken a r l m f =
 names-next : (taken n : ℕ) → n < nameCount → has taken n ≡ true → namesFrom taken n ≡ n ∷ namesFrom taken (n + 1)
 names-next taken n l h =
     ap (filterFrom (has taken) n) (let e : nameCount - n ≡ suc (nameCount - (n + 1)) = omega arith in e)
-    ∙ ap (λ b. pick b (n ∷ filterFrom (has taken) (suc n) (nameCount - (n + 1))) (filterFrom (has taken) (suc n) (nameCount - (n + 1)))) h
+    ∙ ap (λ b. pick b (n ∷ filterFrom (has taken) (suc n) (nameCount - (n + 1)))
+    (filterFrom (has taken) (suc n) (nameCount - (n + 1)))) h
     ∙ ap (λ z. n ∷ filterFrom (has taken) z (nameCount - (n + 1))) (let e : suc n ≡ n + 1 = omega arith in e)
 
 pub names-first : (taken r : ℕ) → Lowest taken r → namesFrom taken 0 ≡ namesFrom taken r
@@ -115,7 +116,8 @@ module _ (D : Definitions pictureSignature) (i limit : ℕ) where
       length (v ++ hung pictureSignature q i (length v)) ≡ length v + (q .rows - 1)
   hung-length q v =
       length-append v (hung pictureSignature q i (length v))
-      ∙ ap (λ n. length v + n) (copies-length pictureSignature q (parentIn pictureSignature i (length v)) 1 (q .rows - 1))
+      ∙ ap (λ n. length v + n)
+      (copies-length pictureSignature q (parentIn pictureSignature i (length v)) 1 (q .rows - 1))
 
   -- a table that has the rows of v, or more than the limit
   capped-cases : (v : List (Origin pictureSignature)) (rows : ℕ) (d : List ℕ) → Capped D limit (suc i) v rows d →
@@ -141,7 +143,8 @@ module _ (D : Definitions pictureSignature) (i limit : ℕ) where
                   ap (λ n. prefix n e) count
                   ∙ hung-written D s d e i (suc i) rows (rowCount s) v (was .count) l (was .bytes) added
                   (subst (λ n. (k : ℕ) → k < rowCount s - 1 → Copyable s (1 + k) (n + k)) (sym (was .count)) copyable)
-                  ∙ ap (λ n. rowsFrom 0 (mixed D (suc i) (v ++ hung pictureSignature (pictureTable s) i n))) (was .count);
+                  ∙ ap (λ n. rowsFrom 0 (mixed D (suc i) (v ++ hung pictureSignature (pictureTable s) i n)))
+                  (was .count);
             };
         many = λ large.
             ⊎-elim (λ same. omega (arith, h .stopped (omega arith))) (λ (a, b). omega (arith, h .stopped (omega arith)))
@@ -149,13 +152,16 @@ module _ (D : Definitions pictureSignature) (i limit : ℕ) where
       }
 
   pub hang-capped : (limits : Limits) (s : List ℕ) → Readable limits s → (n : ℕ) → D .picture n ≡ pictureTable s →
-      (d e : List ℕ) (rows r : ℕ) (v : List (Origin pictureSignature)) → i < length v → Capped D limit (suc i) v rows d →
+      (d e : List ℕ) (rows r : ℕ) (v : List (Origin pictureSignature)) → i < length v →
+      Capped D limit (suc i) v rows d →
       Hung s i limit rows d r e →
       Capped D limit (suc i) (v ++ hung pictureSignature (D .picture n) i (length v)) r e
   hang-capped limits s readable n same d e rows r v l c h =
       subst (λ q. Capped D limit (suc i) (v ++ hung pictureSignature q i (length v)) r e) (sym same)
       (hang-table s d e rows r v l
-      (λ k b. readable-copies limits s readable (1 + k) (length v + k) (λ z. omega arith) (λ z. omega arith) (omega arith)) c h)
+      (λ k b.
+      readable-copies limits s readable (1 + k) (length v + k) (λ z. omega arith) (λ z. omega arith) (omega arith))
+      c h)
 
 -- ---- the loop
 
@@ -181,7 +187,8 @@ module _ (tbox starts : List ℕ) (taken i limit rows₀ : ℕ) (out₀ : List �
       let w = u ++ hung pictureSignature (D .picture name) i (length u) in (
         w,
         omega (arith, hung-length D i limit (D .picture name) u),
-        hang-capped D i limit limits (partAt tbox (getD starts name 0)) readable name (p name member) d e rows r u b f h,
+        hang-capped D i limit limits (partAt tbox (getD starts name 0)) readable name
+            (p name member) d e rows r u b f h,
         sym (ap (attach pictureSignature D u i) more) ∙ g,
       )
 
@@ -193,4 +200,5 @@ module _ (tbox starts : List ℕ) (taken i limit rows₀ : ℕ) (out₀ : List �
   onward-end rows out name past on D v p l c =
       let (u, b, f, g) = on D v p l c in
       subst (λ w. Capped D limit (suc i) w rows out)
-      (ap (λ n. attach pictureSignature D u i (filterFrom (has taken) name n)) (let z : 0 ≡ nameCount - name = omega arith in z) ∙ g) f
+      (ap (λ n. attach pictureSignature D u i (filterFrom (has taken) name n))
+      (let z : 0 ≡ nameCount - name = omega arith in z) ∙ g) f

@@ -3,17 +3,14 @@
 --   copies-bytes        rows copied after the first row of the table
 --   own-bytes           the picture's own rows
 use Prim.Native.Nat.{ℕ, zero, suc, _%_, _+_, _^_, _<_, _≤_}
-use borrow.Author.Tests.{ne-eqb}
 use lib.Dec.{eqb}
 use lib.ListN.{length}
-use mathlib.Core.Bool.{Bool}
 use mathlib.Core.List.{List, [], _++_, _∷_, append-nil}
 use mathlib.Core.Logic.{_⊎_, ⊎-elim}
 use mathlib.Core.Path.{_∙_, _≡_, ap, ap₂, refl, subst, sym}
 use native.Mathlib.Omega.{arith}
 use Rattle.table.specs.Fields.{excludedOf, impossibleOf, kindOf, parentOf, roleOf, rowOf, wantedOf}
-use Rattle.table.specs.Layout.{kindExists, kindForAll, kindRoot, nameCount}
-use Rattle.table.specs.Pick.{pick}
+use Rattle.table.specs.Layout.{kindExists, kindForAll, nameCount}
 use Rattle.ale.specs.Encoding.{Row}
 use Rattle.ale.specs.PictureSignature.{pictureSignature}
 use Rattle.ale.specs.Table.{Table}
@@ -39,11 +36,14 @@ raw-length (o ∷ w) = ap suc (raw-length w)
 module _ (q : Table pictureSignature) (up : ℕ → ℕ) where
   copies-last : (k n : ℕ) → copies pictureSignature q up k (suc n) ≡
       copies pictureSignature q up k n ++ (record { parent = up (q .parent (k + n)); table = q; row = k + n } ∷ [])
-  copies-last k zero = ap (λ z. record { parent = up (q .parent z); table = q; row = z } ∷ []) (let e : k ≡ k + 0 = omega arith in e)
+  copies-last k zero =
+      ap (λ z. record { parent = up (q .parent z); table = q; row = z } ∷ []) (let e : k ≡ k + 0 = omega arith in e)
   copies-last k (suc n) =
       ap (λ z. record { parent = up (q .parent k); table = q; row = k } ∷ z)
       (copies-last (suc k) n
-      ∙ ap (λ z. copies pictureSignature q up (suc k) n ++ (record { parent = up (q .parent z); table = q; row = z } ∷ [])) (let e : suc k + n ≡ k + suc n = omega arith in e))
+      ∙ ap (λ z. copies pictureSignature q up (suc k) n
+      ++ (record { parent = up (q .parent z); table = q; row = z } ∷ []))
+      (let e : suc k + n ≡ k + suc n = omega arith in e))
 
   copies-count : (k n : ℕ) → length (copies pictureSignature q up k n) ≡ n
   copies-count k zero = refl
@@ -57,7 +57,9 @@ all-back : kindCode (kindAt kindForAll) ≡ kindForAll
 all-back = refl
 
 pub kind-back : (code : ℕ) → (code ≡ kindExists) ⊎ (code ≡ kindForAll) → kindCode (kindAt code) ≡ code
-kind-back code h = ⊎-elim (λ e. subst (λ z. kindCode (kindAt z) ≡ z) (sym e) some-back) (λ e. subst (λ z. kindCode (kindAt z) ≡ z) (sym e) all-back) h
+kind-back code h =
+    ⊎-elim (λ e. subst (λ z. kindCode (kindAt z) ≡ z) (sym e) some-back)
+    (λ e. subst (λ z. kindCode (kindAt z) ≡ z) (sym e) all-back) h
 
 mark-back : (m : ℕ) → m ≤ 1 → markCode (eqb m 1) ≡ m
 mark-back zero l = refl
@@ -71,15 +73,19 @@ pub record Copyable (s : List ℕ) (k y : ℕ) : Type 0 where
 
 module _ (s : List ℕ) (up : ℕ → ℕ) where
   row-bytes : (k y : ℕ) → Copyable s k y →
-      rowAt y (rawRow (record { parent = up (pictureTable s .parent k); table = pictureTable s; row = k })) ≡ copyOf s k (up (parentOf s k))
+      rowAt y (rawRow (record { parent = up (pictureTable s .parent k); table = pictureTable s; row = k }))
+      ≡ copyOf s k (up (parentOf s k))
   row-bytes k y c =
-      ap₂ (λ a b. rowOf (up (parentOf s k)) a (roleOf s k) b (wantedOf s k % 2 ^ nameCount) (excludedOf s k % 2 ^ nameCount)) (c .kinds) (mark-back (impossibleOf s k) (c .marks))
+      ap₂ (λ a b. rowOf (up (parentOf s k)) a (roleOf s k) b (wantedOf s k % 2 ^ nameCount)
+      (excludedOf s k % 2 ^ nameCount)) (c .kinds) (mark-back (impossibleOf s k) (c .marks))
 
-  pub copies-bytes : (k n y : ℕ) → ((j : ℕ) → j < n → Copyable s (k + j) (y + j)) → rowsFrom y (rawRows (copies pictureSignature (pictureTable s) up k n)) ≡ copyBytes s up k n
+  pub copies-bytes : (k n y : ℕ) → ((j : ℕ) → j < n → Copyable s (k + j) (y + j)) →
+      rowsFrom y (rawRows (copies pictureSignature (pictureTable s) up k n)) ≡ copyBytes s up k n
   unfolding copyBytes
   copies-bytes k zero y h = refl
   copies-bytes k (suc n) y h =
-      let o : Origin pictureSignature = record { parent = up (pictureTable s .parent (k + n)); table = pictureTable s; row = k + n } in
+      let o : Origin pictureSignature =
+      record { parent = up (pictureTable s .parent (k + n)); table = pictureTable s; row = k + n } in
       let v = copies pictureSignature (pictureTable s) up k n in
       ap (λ w. rowsFrom y (rawRows w)) (copies-last (pictureTable s) up k n)
       ∙ ap (rowsFrom y) (raw-append v (o ∷ []))

@@ -1,7 +1,7 @@
 -- The end field behind the unfolded rows.
 --   filed         written where the rows are within the limit
 --   filed-large   not written where they are too many
-use Prim.Native.Nat.{_+_, _<_, _≤_, ℕ}
+use Prim.Native.Nat.{_<_, _≤_, ℕ}
 use lib.ListN.{length, take}
 use mathlib.Core.List.{List, _++_}
 use mathlib.Core.Path.{_∙_, _≡_, ap}

@@ -6,15 +6,15 @@
 --   names-taken                    the names that were taken in, rising
 --   risen-anew, risen-idle         the table then: the row takes in definitions, or it wants no defined name
 --   has-row, anew-length           row i is there, and writing it anew keeps the length
-use Prim.Native.Nat.{_%_, _+_, _*_, _/_, _<_, _^_, _≤_, suc, zero, ℕ}
+use Prim.Native.Nat.{_%_, _/_, _<_, _^_, _≤_, suc, ℕ}
 use borrow.Author.Tests.{eqb-true, lt-ltb, not-false}
-use lib.Dec.{T, eqb, ltb}
-use lib.ListN.{getD, length}
+use lib.Dec.{eqb, ltb}
+use lib.ListN.{length}
 use mathlib.Core.Bool.{Bool, _&&_, false, false≢true, not, true}
 use mathlib.Core.List.{List, [], _++_, _∷_}
 use mathlib.Core.Path.{_∙_, _≡_, ap, ap₂, refl, subst, sym}
 use native.Mathlib.Omega.{arith}
-use Rattle.table.specs.Fields.{excludedOf, impossibleOf, kindOf, parentOf, roleOf, rowOf, wantedOf}
+use Rattle.table.specs.Fields.{kindOf, parentOf, roleOf, rowOf, wantedOf}
 use Rattle.table.specs.Layout.{nameBytes, nameCount, numberSize, rowLength, rowTag, «place»}
 use Rattle.table.specs.NameSet.{complement, has, intersection, none}
 use Rattle.table.specs.NameValues.{overlap, setOf}
@@ -64,7 +64,8 @@ parent-bytes p k r m w x =
 same-row : (a b k r m w x : ℕ) → beBytes numberSize a ≡ beBytes numberSize b → rowOf a k r m w x ≡ rowOf b k r m w x
 unfolding rowOf
 same-row a b k r m w x e =
-    ap (λ z. (rowTag ∷ []) ++ (beBytes numberSize rowLength ++ (z ++ ((k ∷ r ∷ m ∷ []) ++ (beBytes nameBytes w ++ beBytes nameBytes x))))) e
+    let rest = (k ∷ r ∷ m ∷ []) ++ (beBytes nameBytes w ++ beBytes nameBytes x) in
+    ap (λ z. (rowTag ∷ []) ++ (beBytes numberSize rowLength ++ (z ++ rest))) e
 
 pub row-again : (s : List ℕ) (n p k r m w x m' w' x' : ℕ) → HoldsRow s n p k r m w x →
     rowOf (parentOf s n) (kindOf s n) (roleOf s n) m' w' x' ≡ rowOf p k r m' w' x'
@@ -84,8 +85,10 @@ taken-opened tbox starts defined taken o known = record {
   readable = λ n h. o .readable n (known n h);
 }
 
-module _ (D : Definitions pictureSignature) (tbox starts : List ℕ) (defined : ℕ) (agrees : Agrees D tbox starts defined) where
-  pub taken-pictures : (taken : ℕ) → ((n : ℕ) → has taken n ≡ true → has defined n ≡ true) → Pictures D tbox starts taken
+module _ (D : Definitions pictureSignature) (tbox starts : List ℕ) (defined : ℕ)
+    (agrees : Agrees D tbox starts defined) where
+  pub taken-pictures : (taken : ℕ) → ((n : ℕ) → has taken n ≡ true → has defined n ≡ true) →
+      Pictures D tbox starts taken
   taken-pictures taken known n h =
       agrees .pictures n (true-is (has (D .defined .set) n) (ap (λ z. has z n) (agrees .names) ∙ known n h))
 
@@ -100,7 +103,8 @@ module _ (D : Definitions pictureSignature) (tbox starts : List ℕ) (defined : 
     split : Split D i v o
     split = mixed-next D i v (record { parent = 0; table = p; row = 0 }) (omega (arith, standing .count))
 
-    held : HoldsRow d i (o .parent) (codeAt i (o .table .kind (o .row))) (o .table .role (o .row)) (markCode (l .bottom))
+    held : HoldsRow d i (o .parent) (codeAt i (o .table .kind (o .row))) (o .table .role (o .row))
+        (markCode (l .bottom))
         (l .wanted .set) (l .excluded .set)
     held = record { same = row-stands D d i rows v o split (standing .bytes) }
 
@@ -118,11 +122,14 @@ module _ (D : Definitions pictureSignature) (tbox starts : List ℕ) (defined : 
     row-unfolded : (t : Taking) → Shows t (taking pictureSignature D l) →
         relabelled d i t defined ≡ rowAt i (unfoldedRow pictureSignature D o)
     row-unfolded t h =
-        ap₂ (λ a b. rowOf (parentOf d i) (kindOf d i) (roleOf d i) (t .impossible) (intersection a (complement b)) (setOf (t .excluded)))
+        ap₂ (λ a b. rowOf (parentOf d i) (kindOf d i) (roleOf d i) (t .impossible) (intersection a (complement b))
+        (setOf (t .excluded)))
         (h .wanted) (sym (agrees .names))
-        ∙ ap₂ (λ a b. rowOf (parentOf d i) (kindOf d i) (roleOf d i) a (intersection (taking pictureSignature D l .label .wanted .set) (complement (D .defined .set))) b)
+        ∙ ap₂ (λ a b. rowOf (parentOf d i) (kindOf d i) (roleOf d i) a
+        (intersection (taking pictureSignature D l .label .wanted .set) (complement (D .defined .set))) b)
         (h .impossible) (h .excluded)
-        ∙ row-again d i (o .parent) (codeAt i (o .table .kind (o .row))) (o .table .role (o .row)) (markCode (l .bottom))
+        ∙ row-again d i (o .parent) (codeAt i (o .table .kind (o .row))) (o .table .role (o .row))
+        (markCode (l .bottom))
         (l .wanted .set) (l .excluded .set) (markCode (taking pictureSignature D l .label .bottom))
         (intersection (taking pictureSignature D l .label .wanted .set) (complement (D .defined .set)))
         (taking pictureSignature D l .label .excluded .set) held
@@ -146,7 +153,8 @@ module _ (D : Definitions pictureSignature) (tbox starts : List ℕ) (defined : 
     risen-anew start t small read taken row m e r is at a =
         let h = taken .shows D (record { label = l; taken = [] }) agrees (label-shown start read) in
         let anew : prefix rows m ≡ rowsFrom 0 (mixed D (suc i) v) =
-        ap (prefix rows) at ∙ row-written D d row i rows v o split (standing .count) (standing .bytes) (is ∙ row-unfolded t h) in
+        ap (prefix rows) at
+        ∙ row-written D d row i rows v o split (standing .count) (standing .bytes) (is ∙ row-unfolded t h) in
         subst (λ w. Capped D limit (suc i) w r e)
         (ap (attach pictureSignature D v i) (names-taken t h) ∙ sym visited)
         (a .capped D v (taken-pictures (setOf (t .taken)) (taken .known)) (omega (arith, standing .count))
@@ -160,13 +168,16 @@ module _ (D : Definitions pictureSignature) (tbox starts : List ℕ) (defined : 
     idle f n a b =
         false≢true
         (sym (has-none n)
-        ∙ ap (λ z. has z n) (sym (eqb-true (intersection (wantedOf d i) defined) 0 (not-false (eqb (intersection (wantedOf d i) defined) 0) f)))
+        ∙ ap (λ z. has z n)
+        (sym (eqb-true (intersection (wantedOf d i) defined) 0
+        (not-false (eqb (intersection (wantedOf d i) defined) 0) f)))
         ∙ has-intersection (wantedOf d i) defined n
         ∙ ap₂ (λ x y. x && y)
         (ap (λ z. has z n) wanted-read ∙ is-true (has (l .wanted .set) n) a)
         (ap (λ z. has z n) (sym (agrees .names)) ∙ is-true (has (D .defined .set) n) b))
 
-    kept-names : WantsNone pictureSignature D l → l .wanted .set ≡ intersection (l .wanted .set) (complement (D .defined .set))
+    kept-names : WantsNone pictureSignature D l →
+        l .wanted .set ≡ intersection (l .wanted .set) (complement (D .defined .set))
     kept-names none =
         set-ext (l .wanted .set) (intersection (l .wanted .set) (complement (D .defined .set)))
         (λ n. sym (has-intersection (l .wanted .set) (complement (D .defined .set)) n
@@ -182,7 +193,8 @@ module _ (D : Definitions pictureSignature) (tbox starts : List ℕ) (defined : 
 
     row-idle : WantsNone pictureSignature D l → rowAt i (rawRow o) ≡ rowAt i (unfoldedRow pictureSignature D o)
     row-idle none =
-        ap (λ z. rowOf (o .parent) (codeAt i (o .table .kind (o .row))) (o .table .role (o .row)) (markCode (l .bottom)) z (l .excluded .set))
+        ap (λ z. rowOf (o .parent) (codeAt i (o .table .kind (o .row))) (o .table .role (o .row))
+        (markCode (l .bottom)) z (l .excluded .set))
         (kept-names none)
         ∙ ap (λ (s : Theory.Taking pictureSignature).
         rowOf (o .parent) (codeAt i (o .table .kind (o .row))) (o .table .role (o .row)) (markCode (s .label .bottom))
@@ -195,7 +207,11 @@ module _ (D : Definitions pictureSignature) (tbox starts : List ℕ) (defined : 
         subst (λ w. Capped D limit (suc i) w rows d)
         (sym (visited ∙ ap (attach pictureSignature D v i) (taken-idle pictureSignature D l (idle f))))
         (record {
-          few = λ b. record { count = standing .count; bytes = standing .bytes ∙ row-kept D i v o split (row-idle (idle f)) };
+          few = λ b.
+              record {
+                count = standing .count;
+                bytes = standing .bytes ∙ row-kept D i v o split (row-idle (idle f));
+              };
           many = λ b. absurd (omega (arith, standing .count));
         })
 

@@ -4,10 +4,10 @@
 --   unfolded-few     29
 --   unfolded-count   the rows that 29 counts, if they are not too many
 --   unfolded-file    the unfolded picture as a file, where a row wants a defined name
-use Prim.Native.Nat.{_<_, _≤_, ℕ}
-use borrow.Author.Tests.{le-leb, leb-false, leb-true, lt-leb}
+use Prim.Native.Nat.{_≤_, ℕ}
+use borrow.Author.Tests.{leb-false, leb-true, lt-leb}
 use lib.Dec.{leb}
-use lib.ListN.{length, take}
+use lib.ListN.{take}
 use mathlib.Core.Bool.{true}
 use mathlib.Core.List.{List}
 use mathlib.Core.Path.{_∙_, _≡_, ap, sym}
@@ -19,7 +19,7 @@ use Rattle.ale.specs.PictureSignature.{pictureSignature}
 use Rattle.tbox.specs.Unfold.{unfoldRows}
 use Rattle.meaning.specs.File.{fileOf}
 use Rattle.meaning.specs.Meaning.{pictureTable}
-use Rattle.definitions.specs.Tbox.{definedWord, tboxOf}
+use Rattle.definitions.specs.Tbox.{tboxOf}
 use Rattle.definitions.specs.Unfolded.{unfoldedCount, unfoldedFew, unfoldedFile, wantsDefined}
 use Rattle.definitions.proofs.Idle.{word-set}
 use Rattle.definition_parts.specs.Parts.{Agrees}
@@ -44,7 +44,8 @@ module _ (tbox s starts : List ℕ) (defined : ℕ) (agrees : Agrees (tboxOf tbo
     unfolded-few =
         by-test (unfoldedFew limits tbox s)
         (λ t. ap (λ n. leb n (limits .rows)) (unfolded-count t))
-        (λ f. lt-leb r (limits .rows) (filed .many (tboxOf tbox) agrees (leb-false (unfoldedCount limits tbox s) (limits .rows) f))
+        (λ f. lt-leb r (limits .rows)
+        (filed .many (tboxOf tbox) agrees (leb-false (unfoldedCount limits tbox s) (limits .rows) f))
         ∙ sym f)
 
     pub unfolded-file : unfoldedFew limits tbox s ≡ true → wantsDefined tbox s ≡ true →
@@ -52,4 +53,5 @@ module _ (tbox s starts : List ℕ) (defined : ℕ) (agrees : Agrees (tboxOf tbo
     unfolding unfoldedFile unfoldedCount
     unfolded-file t w =
         filed .few (tboxOf tbox) agrees (few t) .1
-        ∙ ap (λ b. pick b (fileOf (unfoldRows pictureSignature (tboxOf tbox) (limits .rows) (pictureTable s))) s) (sym w)
+        ∙ ap (λ b. pick b (fileOf (unfoldRows pictureSignature (tboxOf tbox) (limits .rows) (pictureTable s))) s)
+        (sym w)

@@ -5,22 +5,21 @@
 --   grows-stop    more rows than the limit: they stay too many
 --   grows-end     every row has come up: further ones would change nothing
 use Prim.Native.Nat.{_+_, _-_, _<_, _≤_, suc, zero, ℕ}
-use borrow.Author.Tests.{eqb-false, eqb-true, ltb-false, ltb-true}
-use lib.Dec.{eqb, ltb}
+use borrow.Author.Tests.{ltb-false, ltb-true}
+use lib.Dec.{ltb}
 use lib.ListN.{length}
-use mathlib.Core.List.{List, []}
+use mathlib.Core.List.{List}
 use mathlib.Core.Path.{_∙_, _≡_, ap, refl, subst, sym}
 use native.Mathlib.Omega.{arith}
 use Rattle.table.specs.declared.layout.Limits.{Limits}
 use Rattle.table.proofs.Bools.{by-test}
 use Rattle.ale.specs.PictureSignature.{pictureSignature}
-use Rattle.ale.specs.Table.{Table}
 use Rattle.tbox.specs.Definitions.{Definitions}
-use Rattle.tbox.specs.Unfold.{Origin, copies, grown, ownRows, rowsFor, unfoldRows}
+use Rattle.tbox.specs.Unfold.{Origin, copies, grown, rowsFor}
 use Rattle.tbox.proofs.Origins.{copies-length}
 use Rattle.tbox.proofs.UnfoldedTables.{grown-large, grown-more}
 use Rattle.picture.specs.Readable.{Readable, rowCount}
-use Rattle.picture.proofs.Readables.{readable-impossible, readable-root, readable-some}
+use Rattle.picture.proofs.Readables.{readable-impossible, readable-root}
 use Rattle.meaning.specs.File.{rowsFrom}
 use Rattle.meaning.specs.Meaning.{pictureTable}
 use Rattle.definition_parts.specs.Parts.{Agrees}
@@ -39,7 +38,8 @@ own-copies limits s readable (suc j) l =
     readable-copies limits s readable (0 + suc j) (0 + suc j) (λ z. omega arith) (λ z. omega arith) (omega arith)
 
 -- a table that has at most as many rows as the limit has the rows of v
-capped-stands : (D : Definitions pictureSignature) (limit i rows : ℕ) (v : List (Origin pictureSignature)) (d : List ℕ) →
+capped-stands : (D : Definitions pictureSignature) (limit i rows : ℕ) (v : List (Origin pictureSignature))
+    (d : List ℕ) →
     Capped D limit i v rows d → rows ≤ limit → Standing D i v rows d
 capped-stands D limit i rows v d c l =
     by-test (ltb limit (length v)) (λ t. absurd (omega (arith, c .many (ltb-true limit (length v) t))))
@@ -57,7 +57,8 @@ module _ (picture tbox starts : List ℕ) (defined limit : ℕ) where
       (D : Definitions pictureSignature) → Agrees D tbox starts defined →
       Capped D limit i (grown pictureSignature D (pictureTable picture) i) rows out
 
-  pub grows-start : (limits : Limits) → Readable limits picture → (rows r : ℕ) (d e : List ℕ) → rows ≡ rowCount picture →
+  pub grows-start : (limits : Limits) → Readable limits picture → (rows r : ℕ) (d e : List ℕ) →
+      rows ≡ rowCount picture →
       r ≡ rows → Added d e (copyBytes picture (λ p. p) 0 rows) 0 rows → rows ≤ limit → Grows r e 0
   grows-start limits readable rows r d e count same added l D agrees =
       let own = copies-length pictureSignature (pictureTable picture) (λ i. i) 0 (rowCount picture) in
@@ -67,7 +68,8 @@ module _ (picture tbox starts : List ℕ) (defined limit : ℕ) where
           bytes =
               ap (λ n. prefix n e) same
               ∙ own-written D picture e rows d added
-              (subst (λ n. (j : ℕ) → j < n → Copyable picture (0 + j) (0 + j)) (sym count) (own-copies limits picture readable)) refl
+              (subst (λ n. (j : ℕ) → j < n → Copyable picture (0 + j) (0 + j)) (sym count)
+              (own-copies limits picture readable)) refl
               ∙ ap (λ n. rowsFrom 0 (mixed D 0 (copies pictureSignature (pictureTable picture) (λ p. p) 0 n))) count;
         };
         many = λ b. absurd (omega (arith, own));
@@ -90,7 +92,8 @@ module _ (picture tbox starts : List ℕ) (defined limit : ℕ) where
       subst (λ n. limit < length (grown pictureSignature D (pictureTable picture) n))
       (let z : limit - i + i ≡ limit = omega arith in z)
       (grown-large pictureSignature D (pictureTable picture) limit i
-      (capped-large D limit i rows (grown pictureSignature D (pictureTable picture) i) out (g D agrees) l) (limit - i)) in
+      (capped-large D limit i rows (grown pictureSignature D (pictureTable picture) i) out (g D agrees) l)
+      (limit - i)) in
       record {
         same-length = same;
         few = λ D agrees few. absurd (omega (arith, large D agrees));
@@ -114,7 +117,8 @@ module _ (picture tbox starts : List ℕ) (defined limit : ℕ) where
         few = λ D agrees few. (
           stands D agrees .count ∙ ap length (still D agrees),
           stands D agrees .bytes
-              ∙ ap (rowsFrom 0) (mixed-all D i (v D) (omega (arith, stands D agrees .count)) ∙ ap (rowsFor pictureSignature D) (still D agrees)),
+              ∙ ap (rowsFrom 0) (mixed-all D i (v D) (omega (arith, stands D agrees .count))
+              ∙ ap (rowsFor pictureSignature D) (still D agrees)),
         );
         many = λ D agrees many. absurd (let e = ap length (still D agrees) in omega (arith, stands D agrees .count));
       }

@@ -2,7 +2,7 @@
 --   asks                     the question of row k
 --   asks-read                its answer, by the names that were read
 --   wants-found, wants-none  of all rows
-use Prim.Native.Nat.{_<_, _^_, _≤_, ℕ}
+use Prim.Native.Nat.{_<_, _^_, ℕ}
 use mathlib.Core.Bool.{Bool, false, false≢true, true}
 use mathlib.Core.List.{List}
 use mathlib.Core.Path.{_∙_, _≡_, ap, sym}

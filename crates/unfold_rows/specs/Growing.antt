@@ -4,7 +4,8 @@
 --   Standing               the table has these rows
 --   Capped                 it has them if they are not more than the limit, and else more rows than the limit
 --   Pictures               the pictures of some names are those that the code finds
---   Attachable, Attached   definitions hung to row i, which has come up, by rising name: what is asked before, what has been done
+--   Attachable, Attached   definitions hung to row i, which has come up, by rising name: what is asked before, what has
+--                          been done
 --   Rising, Risen          the same of row i coming up
 --   Unfoldable, Unfolded   the same of the whole picture
 --   Filed                  the same with the end field behind the rows: a picture file
@@ -30,8 +31,12 @@ use Rattle.definition_parts.specs.Parts.{Agrees, Opened, partAt}
 use Rattle.table_rows.specs.Rows.{prefix}
 
 abbrev pub rawRow : Origin pictureSignature → Row pictureSignature
-rawRow o =
-    record { parent = o .parent; kind = o .table .kind (o .row); role = o .table .role (o .row); label = o .table .label (o .row) }
+rawRow o = record {
+  parent = o .parent;
+  kind = o .table .kind (o .row);
+  role = o .table .role (o .row);
+  label = o .table .label (o .row);
+}
 
 module _ (D : Definitions pictureSignature) where
   abbrev pub mixed : ℕ → List (Origin pictureSignature) → List (Row pictureSignature)
@@ -76,7 +81,8 @@ pub record Risen (tbox starts : List ℕ) (defined i limit rows : ℕ) (d : List
       Agrees D tbox starts defined → Standing D i v rows d →
       Capped D limit (suc i) (visit pictureSignature D p v i) r e
 
-pub record Unfoldable (picture : List ℕ) (rows : ℕ) (tbox starts : List ℕ) (defined limit : ℕ) (out : List ℕ) : Type 0 where
+pub record Unfoldable (picture : List ℕ) (rows : ℕ) (tbox starts : List ℕ) (defined limit : ℕ)
+    (out : List ℕ) : Type 0 where
   pub limits : Limits
   pub bounded : Bounded limits
   pub readable : Readable limits picture

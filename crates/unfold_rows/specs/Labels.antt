@@ -1,11 +1,10 @@
 -- The label of a row, read and written.
 --   LabelRead    a row's label, with nothing taken in
 --   relabelled   the row with another label, without the defined names
-use Prim.Native.Nat.{_<_, _^_, ℕ}
+use Prim.Native.Nat.{ℕ}
 use mathlib.Core.List.{List}
 use mathlib.Core.Path.{_≡_}
 use Rattle.table.specs.Fields.{excludedOf, impossibleOf, kindOf, parentOf, roleOf, rowOf, wantedOf}
-use Rattle.table.specs.Layout.{nameCount}
 use Rattle.table.specs.NameSet.{complement, intersection, none}
 use Rattle.table.specs.NameValues.{setOf}
 use Rattle.unfold_rows.specs.declared.take.Taking.{Taking}

@@ -1,9 +1,6 @@
 -- At the loop's head rows 1 to k - 1 of the definition have been pushed.
-use Prim.Native.Nat.{_+_, _-_, _/_, _<_, _≤_}
-use lib.ListN.{length}
-use Rattle.table.specs.Layout.{rowSize}
+use Prim.Native.Nat.{_+_, _-_, _<_, _≤_}
 use native.Mathlib.Omega.{arith}
-use borrow.Author.Needs.{needs}
 use denote.Ref.{now}
 use mathlib.Core.Path.{_∙_, _≡_, ap, refl, subst}
 use Rattle.ale.specs.PictureSignature.{pictureSignature}
@@ -16,7 +13,8 @@ use Rattle.unfold_rows.proofs.copy.hang.Tie as tie
 
 abbrev Inv-loop : tie.InvT-loop
 Inv-loop s i limit out₀ first rows grown₀ k₀ out grown k =
-    (grown .rows + 1 ≡ first + k) × (0 < k) × (k ≤ rows) × Added out₀ out (copyBytes s (parentIn pictureSignature i first) 1 (k - 1)) first (k - 1)
+    (grown .rows + 1 ≡ first + k) × (0 < k) × (k ≤ rows)
+    × Added out₀ out (copyBytes s (parentIn pictureSignature i first) 1 (k - 1)) first (k - 1)
 
 abbrev μ-loop : tie.MeasureT-loop
 μ-loop s i limit out₀ first rows grown₀ k₀ out grown k = rows - k
@@ -40,8 +38,13 @@ returns c = record { same-length = refl; fitted = λ l. absurd (omega (arith, c 
 loop-holds : tie.Need-loop-holds Inv-loop μ-loop
 unfolding rowCount
 loop-holds c =
-    let start = c .before .before .before in
-    (omega arith, omega arith, start .pre .source .some, added-none (now (start .args .out)) (now (start .args .s)) (parentIn pictureSignature (start .args .i) (start .args .table .rows)) 1 (start .args .table .rows))
+    let start = c .before .before .before in (
+      omega arith,
+      omega arith,
+      start .pre .source .some,
+      added-none (now (start .args .out)) (now (start .args .s))
+          (parentIn pictureSignature (start .args .i) (start .args .table .rows)) 1 (start .args .table .rows),
+    )
 
 parent-requires : tie.Need-parent-requires Inv-loop μ-loop
 unfolding rowCount
@@ -77,7 +80,9 @@ push-requires c κs =
 
 add-k : tie.Need-add-k Inv-loop μ-loop
 unfolding rowCount
-add-k c = omega (arith, c .before .before .before .before .before .before .before .before .before .before .before .before .pre .source .most, c .before .before .before .before .before .before .before .loop-test .taken)
+add-k c =
+    let test = c .before .before .before .before .before .before .before in
+    omega (arith, test .before .before .before .before .before .pre .source .most, test .loop-test .taken)
 
 loop-less : tie.Need-loop-less Inv-loop μ-loop
 unfolding rowCount
@@ -97,9 +102,11 @@ loop-again c =
       omega (arith, push .ensures .0, l .inv .0),
       omega arith,
       omega arith,
-      added-hung (now (start .args .out)) (l .out) _ (now (start .args .s)) (start .args .i) (l .k) (start .args .table .rows) (l .grown .rows) (above .result) _
+      added-hung (now (start .args .out)) (l .out) _ (now (start .args .s)) (start .args .i) (l .k)
+          (start .args .table .rows) (l .grown .rows) (above .result) _
           (l .inv .1) (l .inv .3) (l .inv .0) (omega (arith, start .pre .room, l .inv .0))
-          (above .ensures ∙ ap (parentIn pictureSignature (start .args .i) (start .args .table .rows)) (parent .ensures .0)) (copied .ensures) (push .ensures .1),
+          (above .ensures ∙ ap (parentIn pictureSignature (start .args .i) (start .args .table .rows))
+          (parent .ensures .0)) (copied .ensures) (push .ensures .1),
     )
 
 same-length : tie.Need-same-length Inv-loop μ-loop
@@ -115,7 +122,10 @@ returns-2 c =
       same-length = l .inv .3 .same-length;
       fitted = λ h. (
         omega (arith, l .inv .0, l .inv .1, l .inv .2, c .loop-test .left),
-        subst (λ n. Added (now (start .args .out)) (l .out) (copyBytes (now (start .args .s)) (parentIn pictureSignature (start .args .i) (start .args .table .rows)) 1 n) (start .args .table .rows) n) e (l .inv .3),
+        subst (λ n. Added (now (start .args .out)) (l .out)
+            (copyBytes (now (start .args .s)) (parentIn pictureSignature (start .args .i) (start .args .table .rows)) 1
+            n)
+            (start .args .table .rows) n) e (l .inv .3),
       );
       stopped = λ h. absurd (omega (arith, c .before .before .if1 .left, start .pre .source .some));
     }

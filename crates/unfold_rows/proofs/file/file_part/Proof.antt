@@ -1,5 +1,4 @@
 -- The rows with their end field.
-use Prim.Native.Nat.{_≤_}
 use lib.ListN.{take}
 use lib.Seq.{length-take-le}
 use native.Mathlib.Omega.{arith}
@@ -15,7 +14,8 @@ place-requires c κs = search needs
 slice-aggregate-result : tie.Need-slice-aggregate-result
 slice-aggregate-result c =
     let start = c .before .before .before in
-    sym (length-take-le (c .before .place .result) (now (start .args .out)) (omega (arith, c .before .place .ensures, start .pre .1)))
+    sym (length-take-le (c .before .place .result) (now (start .args .out))
+    (omega (arith, c .before .place .ensures, start .pre .1)))
 
 returns : tie.Need-returns
 returns c = ap (λ n. take n (now (c .before .before .before .args .out))) (c .before .place .ensures)

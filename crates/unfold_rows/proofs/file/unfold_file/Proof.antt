@@ -1,7 +1,5 @@
 -- The end field is written behind the rows, if they are within the limit.
-use Prim.Native.Nat.{_<_, _≤_}
 use native.Mathlib.Omega.{arith}
-use borrow.Author.Needs.{needs}
 use denote.Ref.{now}
 use Rattle.table.specs.NameValues.{setOf}
 use Rattle.unfold_rows.proofs.Filing.{filed, filed-large}
@@ -24,7 +22,8 @@ returns c =
     let start = c .before .before .before .before .before .before .before .before .before .before .before .before in
     let a = start .args in
     let rows = c .before .before .before .before .before .before .before .«unfold» in
-    filed (now (a .picture)) (now (a .tbox)) (now (a .starts)) (setOf (a .defined)) (a .limit) (rows .result) (now (a .out)) _
+    filed (now (a .picture)) (now (a .tbox)) (now (a .starts)) (setOf (a .defined)) (a .limit) (rows .result)
+    (now (a .out)) _
     (rows .ensures) _
     (omega (arith, c .before .before .before .before .if1 .taken, start .pre .1, rows .ensures .same-length))
     (c .before .before .finish .ensures .1)

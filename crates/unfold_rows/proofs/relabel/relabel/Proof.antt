@@ -35,8 +35,10 @@ same-length c = search needs
 
 returns : tie.Need-returns
 returns c =
-    let a = c .before .before .before .before .before .before .before .before .before .before .before .before .before .before .before .args in
-    let row : ℕ → ℕ → ℕ → ℕ → List ℕ = λ p k r w. put (now (a .out)) (place (a .i) 0) (rowOf p k r (a .s .impossible) w (setOf (a .s .excluded))) in
+    let a = c .before .before .before .before .before .before .before .before .before .before .before .before .before
+    .before .before .args in
+    let row : ℕ → ℕ → ℕ → ℕ → List ℕ =
+    λ p k r w. put (now (a .out)) (place (a .i) 0) (rowOf p k r (a .s .impossible) w (setOf (a .s .excluded))) in
     let parent = c .before .before .before .before .before .before .before .before .before .before .parent in
     let kind = c .before .before .before .before .before .before .before .before .kind in
     let role = c .before .before .before .before .before .before .role in
@@ -44,9 +46,11 @@ returns c =
     c .before .before .push .ensures .1
     ∙ ap (λ p. row p (kind .result) (role .result) (setOf (names .result))) (parent .ensures .0)
     ∙ ap (λ k. row (parentOf (now (a .out)) (a .i)) k (role .result) (setOf (names .result))) (kind .ensures)
-    ∙ ap (λ r. row (parentOf (now (a .out)) (a .i)) (kindOf (now (a .out)) (a .i)) r (setOf (names .result))) (role .ensures)
+    ∙ ap (λ r. row (parentOf (now (a .out)) (a .i)) (kindOf (now (a .out)) (a .i)) r (setOf (names .result)))
+    (role .ensures)
     ∙ ap (λ w. row (parentOf (now (a .out)) (a .i)) (kindOf (now (a .out)) (a .i)) (roleOf (now (a .out)) (a .i)) w)
-    (names .ensures ∙ ap (intersection (setOf (a .s .wanted))) (c .before .before .before .before .before .complement .ensures))
+    (names .ensures ∙ ap (intersection (setOf (a .s .wanted)))
+    (c .before .before .before .before .before .complement .ensures))
 
 pub relabel-spec : {M : Type 1} → statement M
 relabel-spec =

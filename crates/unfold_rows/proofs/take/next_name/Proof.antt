@@ -20,7 +20,9 @@ first-requires c κs = search needs
 returns : tie.Need-returns
 returns c =
     let a = c .before .before .before .before .before .before .args in
-    lowest-wanted (a .s) (setOf (a .defined)) _ _ _ (c .first .result) (c .before .before .before .before .before .before .pre) (c .before .before .before .intersection .ensures) (c .before .before .complement .ensures) (c .before .intersection2 .ensures) (c .first .ensures)
+    lowest-wanted (a .s) (setOf (a .defined)) _ _ _ (c .first .result)
+    (c .before .before .before .before .before .before .pre) (c .before .before .before .intersection .ensures)
+    (c .before .before .complement .ensures) (c .before .intersection2 .ensures) (c .first .ensures)
 
 pub next-name-spec : {M : Type 1} → statement M
 next-name-spec =

@@ -4,7 +4,6 @@ use native.Mathlib.Omega.{arith}
 use denote.Ref.{now}
 use mathlib.Core.Bool.{true}
 use mathlib.Core.Path.{_≡_, refl, subst, sym}
-use lib.ListN.{getD}
 use Rattle.table.specs.Layout.{nameCount}
 use Rattle.table.specs.NameSet.{has}
 use Rattle.table.specs.NameValues.{setOf}
@@ -51,7 +50,8 @@ returns c =
     let next = c .before .next-name in
     record {
       known = l .inv .2;
-      shows = onward-stop (now (a .tbox)) (now (a .starts)) (setOf (a .defined)) (a .start) (l .s) (l .left) (next .result)
+      shows = onward-stop (now (a .tbox)) (now (a .starts)) (setOf (a .defined)) (a .start) (l .s) (l .left)
+          (next .result)
           (l .inv .3) (next .ensures) (c .if1 .taken);
     }
 
@@ -98,7 +98,8 @@ loop-again c =
     let next = c .before .before .before .next-name in
     let (b, is) = found (c .before .before) in
     let took = c .take-one in
-    let took-in = subst (λ p. Took (l .s) p (next .result) (took .result)) (c .before .definition .ensures) (took .ensures) in (
+    let took-in = subst (λ p. Took (l .s) p (next .result) (took .result)) (c .before .definition .ensures)
+    (took .ensures) in (
       omega (arith, l .inv .0),
       taken-below (setOf (l .s .taken)) (next .result) _ (l .inv .1) b (took-in .taken),
       known-next (setOf (a .defined)) (setOf (l .s .taken)) (next .result) _ (took-in .taken) (l .inv .2) is,

@@ -36,13 +36,16 @@ union-requires-3 c κs = search needs
 
 returns : tie.Need-returns
 returns c =
-    let s = c .before .before .before .before .before .before .before .before .before .before .before .before .args .s in
+    let s = c .before .before .before .before .before .before .before .before .before .before .before .before .args .s
+    in
     let w = c .before .before .before .before .before .before .before .wanted in
     let x = c .before .before .before .before .before .excluded in
     record {
-      wanted = c .before .before .before .before .before .before .union .ensures ∙ ap (union (setOf (s .wanted))) (w .ensures .0);
+      wanted = c .before .before .before .before .before .before .union .ensures
+          ∙ ap (union (setOf (s .wanted))) (w .ensures .0);
       excluded = c .before .before .before .before .union2 .ensures ∙ ap (union (setOf (s .excluded))) (x .ensures .0);
-      impossible = c .before .before .either-mark .ensures ∙ ap (λ z. pick (eqb z 1) 1 (s .impossible)) (c .before .before .before .impossible .ensures);
+      impossible = c .before .before .either-mark .ensures
+          ∙ ap (λ z. pick (eqb z 1) 1 (s .impossible)) (c .before .before .before .impossible .ensures);
       taken = c .union3 .ensures ∙ ap (union (setOf (s .taken))) (c .before .only .ensures);
       wanted-below = subst (λ z. z < 2 ^ nameCount) (w .ensures .0) (w .ensures .1);
       excluded-below = subst (λ z. z < 2 ^ nameCount) (x .ensures .0) (x .ensures .1);

@@ -1,18 +1,13 @@
 -- Row i stands as it was copied. Where it wants no defined name it stays; else it is written anew, and what it took in
 -- is hung to it.
-use Prim.Native.Nat.{_<_, _≤_}
-use lib.ListN.{length}
 use native.Mathlib.Omega.{arith}
 use borrow.Author.Needs.{needs}
 use borrow.Author.Tests.{not-true}
 use denote.Ref.{now}
 use mathlib.Core.Bool.{false}
 use mathlib.Core.Path.{_∙_, _≡_, ap, refl, sym}
-use Rattle.table.specs.Bounds.{maxRows}
 use Rattle.table.specs.Fields.{wantedOf}
-use Rattle.table.specs.Layout.{rowSize, «place»}
 use Rattle.table.specs.NameValues.{overlap, setOf}
-use Rattle.table.proofs.Puts.{length-put}
 use Rattle.unfold_rows.proofs.Rising.{anew-length, has-row, risen-anew, risen-idle, taken-opened}
 use Rattle.unfold_rows.proofs.unfold.come_up.Statement.{statement}
 use Rattle.unfold_rows.proofs.unfold.come_up.Tie as tie
@@ -49,7 +44,8 @@ take-in-requires c κs =
     (c .label-of .ensures .taken, c .before .before .before .before .before .before .before .before .pre .opened)
 
 relabel-requires : tie.Need-relabel-requires
-relabel-requires c κs = has-row _ _ _ _ _ _ _ (c .before .before .before .before .before .before .before .before .before .before .pre)
+relabel-requires c κs =
+    has-row _ _ _ _ _ _ _ (c .before .before .before .before .before .before .before .before .before .before .pre)
 
 hang-all-requires : tie.Need-hang-all-requires
 hang-all-requires c κs =
@@ -57,7 +53,8 @@ hang-all-requires c κs =
     let start = relabelled .before .before .before .before .before .before .before .before .before .before .before in
     let a = start .args in
     let take-in = relabelled .before .before .take-in in
-    let same = anew-length (now (a .out)) _ (a .i) (take-in .result) (setOf (a .defined)) (has-row _ _ _ _ _ _ _ (start .pre))
+    let same = anew-length (now (a .out)) _ (a .i) (take-in .result) (setOf (a .defined))
+    (has-row _ _ _ _ _ _ _ (start .pre))
     (relabelled .relabel .ensures) in
     record {
       opened = taken-opened _ _ _ _ (start .pre .opened) (take-in .ensures .known);

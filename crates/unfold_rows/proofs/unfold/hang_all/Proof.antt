@@ -46,7 +46,8 @@ loop-holds c =
       start .pre .started,
       refl,
       walk-start (setOf (a .taken)) (c .first .result) (c .first .ensures),
-      onward-start (now (a .tbox)) (now (a .starts)) (setOf (a .taken)) (a .i) (a .limit) (a .table .rows) (now (a .out))
+      onward-start (now (a .tbox)) (now (a .starts)) (setOf (a .taken)) (a .i) (a .limit) (a .table .rows)
+          (now (a .out))
           (c .first .result) (names-first (setOf (a .taken)) (c .first .result) (c .first .ensures)),
     )
 
@@ -68,7 +69,8 @@ hang-requires c κs =
     let opened = start .pre .opened in
     record {
       source = subst (λ s. Source s (rowCount s)) (sym (c .before .definition .ensures))
-          (readable-source (opened .limits) _ (opened .readable (l .name) (named (c .before .before))) (opened .bounded));
+          (readable-source (opened .limits) _ (opened .readable (l .name) (named (c .before .before)))
+          (opened .bounded));
       started = l .inv .0;
       small = start .pre .small;
       room = omega (arith, start .pre .room, l .inv .1);
@@ -99,7 +101,8 @@ loop-again c =
     let a = start .args in
     let hang = c .before .before .before .before .hang in
     let definition = c .before .before .before .before .before .before .definition in
-    let h = hung-of _ _ (a .i) (a .limit) (l .grown .rows) _ (hang .result .rows) _ (definition .ensures) (hang .ensures) in
+    let h = hung-of _ _ (a .i) (a .limit) (l .grown .rows) _ (hang .result .rows) _ (definition .ensures)
+    (hang .ensures) in
     let struck = c .before .without .ensures in
     let low = test c .loop-test .taken in
     let names = names-after _ _ _ _ _ (l .inv .2) low struck (c .first2 .ensures) in (

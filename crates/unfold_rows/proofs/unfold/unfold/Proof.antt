@@ -1,8 +1,7 @@
 -- At the loop's head: the table has the rows after i of them have come up, or more than the limit (`Grows`).
-use Prim.Native.Nat.{_+_, _-_, _<_, _≤_}
+use Prim.Native.Nat.{_-_, _≤_}
 use lib.ListN.{length}
 use native.Mathlib.Omega.{arith}
-use borrow.Author.Needs.{needs}
 use denote.Ref.{now}
 use mathlib.Core.Path.{_∙_, _≡_, refl, subst, sym}
 use Rattle.table.specs.NameValues.{setOf}
@@ -54,13 +53,15 @@ returns c =
     let head = c .before .before .before .before in
     let l = head .loop in
     let a = head .before .before .before .before .before .before .before .before .args in
-    grows-stop (now (a .picture)) (now (a .tbox)) (now (a .starts)) (setOf (a .defined)) (a .limit) (l .table .rows) (l .i)
+    grows-stop (now (a .picture)) (now (a .tbox)) (now (a .starts)) (setOf (a .defined)) (a .limit) (l .table .rows)
+    (l .i)
     (now (a .out)) (l .out) (l .inv .2) (kept head) (l .inv .0) (c .if2 .taken)
 
 come-up-requires : tie.Need-come-up-requires Inv-loop μ-loop
 come-up-requires c κs =
     let l = c .before .before .before .before .before .loop in
-    let start = c .before .before .before .before .before .before .before .before .before .before .before .before .before in
+    let start = c .before .before .before .before .before .before .before .before .before .before .before .before
+    .before in
     let pre = start .pre in
     record {
       opened = pre .opened;
@@ -103,7 +104,8 @@ returns-2 c =
     let head = c .before .before in
     let l = head .loop in
     let a = head .before .before .before .before .before .before .before .before .args in
-    grows-end (now (a .picture)) (now (a .tbox)) (now (a .starts)) (setOf (a .defined)) (a .limit) (l .table .rows) (l .i)
+    grows-end (now (a .picture)) (now (a .tbox)) (now (a .starts)) (setOf (a .defined)) (a .limit) (l .table .rows)
+    (l .i)
     (now (a .out)) (l .out) (l .inv .2) (kept head) (l .inv .0) (omega (arith, c .if1 .left))
 
 pub unfold-spec : {M : Type 1} → statement M

@@ -50,7 +50,11 @@ returns c =
 
 add-j : tie.Need-add-j Inv-loop μ-loop
 add-j c =
-    omega (arith, c .before .before .before .loop-test .taken, c .before .before .before .before .before .before .pre .1)
+    omega (
+      arith,
+      c .before .before .before .loop-test .taken,
+      c .before .before .before .before .before .before .pre .1,
+    )
 
 loop-less : tie.Need-loop-less Inv-loop μ-loop
 loop-less c = omega (arith, c .before .before .before .loop-test .taken)
@@ -62,7 +66,8 @@ loop-again c =
       omega (arith, c .before .before .before .loop-test .taken),
       λ k b.
           ⊎-elim
-          (λ (e : k ≡ l .j). subst (λ z. asks (now (a .picture)) (setOf (a .defined)) z ≡ false) (sym e) (here (c .before) ∙ c .if1 .left))
+          (λ (e : k ≡ l .j). subst (λ z. asks (now (a .picture)) (setOf (a .defined)) z ≡ false) (sym e)
+          (here (c .before) ∙ c .if1 .left))
           (λ (e : k < l .j). l .inv .1 k e)
           (eq-or-lt-of-le {n = k} {m = l .j} (omega arith)),
     )
