@@ -1,4 +1,5 @@
 -- The laws of the calls under a definitions book, by subject.
+pub mod AgainstShortcuts
 pub mod Givens
 pub mod Calls
 pub mod Orders
