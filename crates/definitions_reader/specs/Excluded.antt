@@ -1,5 +1,5 @@
--- 27 at a set of names, of the first rows of a picture.
---   excludesAt, excludesNoneOf   a row excludes a name of the set; no row does
+-- 27 at a set of names.
+--   excludesAt, excludesNoneOf   a row of a picture excludes one of some names; no row does
 use Prim.Native.Nat.{ℕ}
 use mathlib.Core.Bool.{Bool, not}
 use mathlib.Core.List.{List}
@@ -7,8 +7,8 @@ use Rattle.table.specs.NameValues.{overlap}
 use Rattle.table.specs.Range.{each}
 use Rattle.meaning.specs.Meaning.{pictureTable}
 
-abbrev pub excludesAt : ℕ → List ℕ → ℕ → Bool
-excludesAt defined picture j = overlap (pictureTable picture .label j .excluded .set) defined
+abbrev pub excludesAt : List ℕ → ℕ → ℕ → Bool
+excludesAt picture names j = overlap (pictureTable picture .label j .excluded .set) names
 
-abbrev pub excludesNoneOf : ℕ → List ℕ → ℕ → Bool
-excludesNoneOf defined picture rows = each (λ j. not (excludesAt defined picture j)) rows 0
+abbrev pub excludesNoneOf : List ℕ → ℕ → Bool
+excludesNoneOf picture names = each (λ j. not (excludesAt picture names j)) (pictureTable picture .rows) 0
