@@ -2,6 +2,7 @@
 -- a label, a conjunction joins labels and successors, a restriction is one successor.
 --   Singletons                  the sets of one name
 --   join, fits-join             two trees in one, which an element fits exactly if it fits both
+--   join-rolesKnown             of known roles, if both are
 --   nameTree, restrictionTree   a label of names; one successor
 --   conceptTree                 the tree of a concept
 --   fits-conceptTree            an element fits it exactly if it is in the extension of the concept (003, Table 1)
@@ -49,7 +50,7 @@ module _ (S : Signature) where
   abbrev pub restrictionTree : Kind → ℕ → Tree S → Tree S
   restrictionTree k r t = node (emptyLabel S) (cons k r t nil)
 
-  join-rolesKnown : (t u : Tree S) → RolesKnown S t → RolesKnown S u → RolesKnown S (join t u)
+  pub join-rolesKnown : (t u : Tree S) → RolesKnown S t → RolesKnown S u → RolesKnown S (join t u)
   join-rolesKnown (node l f) (node m g) a b = rolesKnown-append S f g a b
 
 module _ (S : Signature) (M : Structure S) where

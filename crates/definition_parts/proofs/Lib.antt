@@ -1,2 +1,3 @@
 -- The laws, by subject.
+pub mod NameWalks
 pub mod Parts

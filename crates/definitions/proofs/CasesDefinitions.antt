@@ -1,4 +1,5 @@
 -- Worked cases of a definitions book, computed from bytes. Names 3 and 5 are {3} = 8 and {5} = 32; r is 8, s is 9.
+--   define     a definition, before what follows it
 --   form       a book, and whether 25 is answered yes
 --   asked      limits, a book, the given pictures, and what is answered to all questions
 --   unfolded   limits, a book, a picture, and the unfolded file
@@ -27,7 +28,8 @@ use Rattle.meaning.proofs.CasePictures.{allRow, empty, end, fourRows, picture, 
 use Rattle.definitions.specs.Asked.{Picture, askedOf, definitionsAsked}
 use Rattle.definitions.specs.Form.{definitionFile, definitionsForm}
 use Rattle.definitions.specs.Tbox.{definedWord}
-use Rattle.definitions.specs.Unfolded.{excludesNone, namedOnce, unfoldedCount, unfoldedFew, unfoldedFile, unfoldedShallow}
+use Rattle.definitions.specs.Unfolded.{excludesNone, namedOnce, unfoldedCount, unfoldedFew, unfoldedFile}
+use Rattle.definitions.specs.Unfolded.{unfoldedShallow}
 
 pub data Case : Type 0 where
   form : List ℕ → Bool → Case
@@ -46,7 +48,7 @@ runAll (c ∷ cs) = ran c ∷ runAll cs
 -- ---- books, byte by byte
 
 -- a definition of less than 256 bytes, before what follows it
-abbrev define : ℕ → List ℕ → List ℕ → List ℕ
+abbrev pub define : ℕ → List ℕ → List ℕ → List ℕ
 define name s rest = 0x61 ∷ 0 ∷ (1 + length s) ∷ name ∷ (s ++ rest)
 
 -- name bytes alone

@@ -47,7 +47,8 @@ use Rattle.definitions.specs.Form.{definitionCount, definitionFile, defi
 use Rattle.definitions.specs.Tbox.{definedWord, defines, placeOf, tboxOf}
 use Rattle.definitions.specs.Unfolded.{Definable, Unfolds, namedOnce, unfoldedFile, unfoldedTable}
 use Rattle.definitions.proofs.Idle.{word-set}
-use Rattle.definitions.proofs.Unfolds.{book-sound, defined-place, picture-tree, picture-unfoldable, unfolded-readable, unfolded-tree}
+use Rattle.definitions.proofs.Unfolds.{book-sound, defined-place, picture-tree, picture-unfoldable}
+use Rattle.definitions.proofs.Unfolds.{unfolded-readable, unfolded-tree}
 
 -- ---- the places of the definitions
 

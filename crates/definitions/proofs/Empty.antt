@@ -33,7 +33,8 @@ use Rattle.definitions.specs.Asked.{Picture, definitionsAsked}
 use Rattle.definitions.specs.Form.{definitionCount, definitionsForm, nameOf}
 use Rattle.definitions.specs.Refusals.{AllOf}
 use Rattle.definitions.specs.Tbox.{definedWord, tboxOf}
-use Rattle.definitions.specs.Unfolded.{Definable, Unfolds, anyDefined, excludesNone, namedOnce, unfoldedFile, wantsDefined}
+use Rattle.definitions.specs.Unfolded.{Definable, Unfolds, anyDefined, excludesNone, namedOnce, unfoldedFile}
+use Rattle.definitions.specs.Unfolded.{wantsDefined}
 use Rattle.definitions.proofs.Idle.{few-own, shallow-own}
 use Rattle.definitions.proofs.Questions.{definable-asked}
 

@@ -15,7 +15,9 @@ use Rattle.table.proofs.Bools.{is-true, true-is}
 use Rattle.table.specs.declared.layout.Limits.{Limits}
 use Rattle.ale.specs.PictureSignature.{pictureSignature}
 use Rattle.tbox.specs.Acyclic.{acyclic}
-use Rattle.picture.proofs.Orders.{AllFrom, Decides, EveryRefusal, FirstFrom, Unreadable, and-decides, and-refuses, asked-decides, asked-refuses, from-decides, from-refuses, read-decides, read-refuses, said-so}
+use Rattle.picture.proofs.Orders.{AllFrom, Decides, EveryRefusal, FirstFrom, Unreadable, and-decides, and-refuses}
+use Rattle.picture.proofs.Orders.{asked-decides, asked-refuses, from-decides, from-refuses, read-decides, read-refuses}
+use Rattle.picture.proofs.Orders.{said-so}
 use Rattle.picture.specs.Asked.{andThen, askedFrom}
 use Rattle.picture.specs.Readable.{FailsAt, Readable}
 use Rattle.picture.specs.Refusal.{refusal, refusalAt}
@@ -23,9 +25,13 @@ use Rattle.picture.specs.declared.answer.Asked.{Asked}
 use Rattle.picture.specs.declared.answer.Asked.the-variants.{No, Yes}
 use Rattle.picture.specs.declared.answer.Input.the-variants.{Definition, Definitions}
 use Rattle.picture.specs.declared.answer.Refusal.{Refusal}
-use Rattle.definitions.specs.Asked.{Picture, acyclicAsked, askedOf, definitionsAfter, definitionsAsked, definitionsOf, excludesAsked, fewAsked, formAsked, onceAsked, question, readOf, shallowAsked}
+use Rattle.definitions.specs.Asked.{Picture, acyclicAsked, askedOf, definitionsAfter, definitionsAsked}
+use Rattle.definitions.specs.Asked.{definitionsOf, excludesAsked, fewAsked, formAsked, onceAsked, question}
+use Rattle.definitions.specs.Asked.{readOf, shallowAsked}
 use Rattle.definitions.specs.Form.{definitionCount, definitionFile, definitionsForm}
-use Rattle.definitions.specs.Refusals.{AllOf, DefinitionsNo, FirstFails, FirstOf, PassesAll, YesBefore, excluding, named-twice, no-form, of-definition, of-given, ring, too-deep, too-large, unreadable}
+use Rattle.definitions.specs.Refusals.{AllOf, DefinitionsNo, FirstFails, FirstOf, PassesAll, YesBefore, excluding}
+use Rattle.definitions.specs.Refusals.{named-twice, no-form, of-definition, of-given, ring, too-deep, too-large}
+use Rattle.definitions.specs.Refusals.{unreadable}
 use Rattle.definitions.specs.Tbox.{tboxOf}
 use Rattle.definitions.specs.Unfolded.{Definable, Unfolds, excludesNone, namedOnce, unfoldedFew, unfoldedShallow}
 

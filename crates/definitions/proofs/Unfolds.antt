@@ -4,7 +4,8 @@
 --   excludes-none       27, as the theory says it
 --   table-some          a readable picture has a row
 --   picture-tree        its tree, down to the limit, is whole
---   book-sound          the definitions of a book are such as the theory asks for
+--   asked-sound         once 2 to 13 and 27 are answered yes, the definitions of a book are such as the theory asks for
+--   book-sound          so they are once all is answered yes
 --   picture-unfoldable  and so is a picture that is answered yes
 --   unfolded-readable   the unfolded picture can be read
 --   unfolded-tree       its tree, down to the limit, is that of the unfolded table
@@ -51,7 +52,8 @@ use Rattle.meaning.specs.File.{fileOf}
 use Rattle.meaning.specs.Meaning.{pictureTable, pictureTree}
 use Rattle.definitions.specs.Form.{definitionCount, definitionFile, nameOf}
 use Rattle.definitions.specs.Tbox.{definedWord, defines, placeOf, tboxOf}
-use Rattle.definitions.specs.Unfolded.{Definable, Unfolds, anyDefined, excludesNone, unfoldedCount, unfoldedFew, unfoldedFile, unfoldedShallow, unfoldedTable, wantsDefined}
+use Rattle.definitions.specs.Unfolded.{Definable, Unfolds, anyDefined, excludesNone, unfoldedCount, unfoldedFew}
+use Rattle.definitions.specs.Unfolded.{unfoldedFile, unfoldedShallow, unfoldedTable, wantsDefined}
 use Rattle.definitions.proofs.Idle.{apart, rows-own, tree-own, word-set}
 
 module _ (limits : Limits) (bounded : Bounded limits) (book : List ℕ) where
@@ -80,18 +82,23 @@ module _ (limits : Limits) (bounded : Bounded limits) (book : List ℕ) where
   pub table-some : (s : List ℕ) → Readable limits s → 0 < pictureTable s .rows
   table-some s readable = readable-some limits s readable
 
+  pub asked-sound : ((k : ℕ) → k < definitionCount book → Readable limits (definitionFile book k)) →
+      ((k : ℕ) → k < definitionCount book → excludesNone book (definitionFile book k) ≡ true) → Sound pictureSignature D
+  asked-sound readable excluding = record {
+    rooted = λ n d. table-some (definitionFile book (placeOf book n)) (readable (placeOf book n) (defined-place n d));
+    ordered = λ n d. picture-parents limits (definitionFile book (placeOf book n))
+        (readable (placeOf book n) (defined-place n d));
+    excluding = λ n d. excludes-none (definitionFile book (placeOf book n))
+        (excluding (placeOf book n) (defined-place n d));
+  }
+
   module _ (ok : Definable limits book) where
     readable-of : (n : ℕ) → T (pictureSignature .has (D .defined) n) →
         Readable limits (definitionFile book (placeOf book n))
     readable-of n d = ok .readable (placeOf book n) (defined-place n d)
 
     pub book-sound : Sound pictureSignature D
-    book-sound = record {
-      rooted = λ n d. table-some (definitionFile book (placeOf book n)) (readable-of n d);
-      ordered = λ n d. picture-parents limits (definitionFile book (placeOf book n)) (readable-of n d);
-      excluding = λ n d. excludes-none (definitionFile book (placeOf book n))
-          (ok .unfolds (placeOf book n) (defined-place n d) .excluding);
-    }
+    book-sound = asked-sound (ok .readable) (λ k l. ok .unfolds k l .excluding)
 
     pub picture-tree : (s : List ℕ) → Readable limits s →
         pictureTree limits s ≡ wholeTree pictureSignature (pictureTable s)

@@ -5,8 +5,9 @@
 --   part-file, part-there      the part of the book from there is the definition's picture, and lies in the book
 --   index-all                  all of them
 use Prim.Native.Nat.{_+_, _-_, _<_, _^_, _≤_, suc, zero, ℕ}
+use borrow.Author.Count.{below-more}
 use borrow.Author.Tests.{eq-eqb, eqb-true, lt-ltb, ne-eqb, not-false, not-true}
-use lib.Dec.{T, eqb, ltb}
+use lib.Dec.{eqb, ltb}
 use lib.ListN.{drop, getD, length, length-set, set, take}
 use lib.Seq.{drop-drop, getD-set-other, getD-set-same, take-nil}
 use mathlib.Core.Bool.{Bool, _&&_, _||_, false, false≢true, not, or-true, true, true≢false}
@@ -14,12 +15,11 @@ use mathlib.Core.List.{List, [], _∷_}
 use mathlib.Core.Logic.{⊎-elim}
 use mathlib.Core.Path.{_∙_, _≡_, ap, refl, subst, sym}
 use native.Mathlib.Decide.{decLt, ℕ-discrete}
-use native.Mathlib.Nat.{eq-or-lt-of-le}
 use native.Mathlib.Omega.{arith}
-use Rattle.table.proofs.Bools.{both, by-test, either, is-true}
+use Rattle.table.proofs.Bools.{both, by-test, either}
 use Rattle.table.proofs.NameSets.{has-none, has-power, has-union, subset-power}
-use Rattle.table.proofs.Ranges.{at-each, at-some, each-at, some-at}
-use Rattle.table.proofs.SetsBelow.{has-setBelow, word-is}
+use Rattle.table.proofs.Ranges.{at-each, at-some, some-at}
+use Rattle.table.proofs.SetsBelow.{word-is}
 use Rattle.table.proofs.Tests.{refuted}
 use Rattle.table.specs.Bounds.{Bounded, benchLimits}
 use Rattle.table.specs.Layout.{headSize, lengthOffset, nameCount, numberSize}
@@ -28,7 +28,6 @@ use Rattle.table.specs.NameValues.{setOf}
 use Rattle.table.specs.Number.{be}
 use Rattle.table.specs.Range.{each}
 use Rattle.table.specs.declared.layout.Limits.{Limits}
-use Rattle.ale.specs.PictureSignature.{pictureSignature}
 use Rattle.picture.specs.Readable.{Readable}
 use Rattle.meaning.specs.Meaning.{pictureTable}
 use Rattle.fields.proofs.Forms.{field-whole, fields-before, length-value}
@@ -39,7 +38,7 @@ use Rattle.definitions.proofs.Unfolds.{defined-place}
 use Rattle.definitions.specs.Form.{definitionCount, definitionFile, definitionTag, definitionsForm, nameOf}
 use Rattle.definitions.specs.Tbox.{definedWord, defines, placeOf, tboxOf}
 use Rattle.definitions.specs.Unfolded.{namedOnce}
-use Rattle.definition_parts.specs.Parts.{Agrees, Opened, Part, partAt, partLength}
+use Rattle.definition_parts.specs.Parts.{Agrees, Opened, Part, partAt}
 use Rattle.definitions_reader.specs.Index.{AllReadable, Indexed, pictureStart}
 use Rattle.definitions_reader.specs.declared.index.Index.{Index}
 
@@ -63,12 +62,6 @@ module _ (tbox starts : List ℕ) where
     agree = λ e. absurd (true≢false e);
     start = λ e j l. absurd (omega arith);
   }
-
--- a fact of the numbers below k, and of k
-one-more : (P : ℕ → Type 0) (k : ℕ) → ((j : ℕ) → j < k → P j) → P k → (j : ℕ) → j < k + 1 → P j
-one-more P k low here j l =
-    let i : j ≤ k = omega arith in
-    ⊎-elim (λ e. subst P (sym e) here) (λ b. low j b) (eq-or-lt-of-le {n = j} {m = k} i)
 
 -- of definition k the name, the set of it alone, and where its picture begins; then the set and the test with it
 module _ (tbox starts : List ℕ) (defined : ℕ) (once : Bool) (k : ℕ) (so : IndexedTo tbox starts defined once k)
@@ -96,7 +89,7 @@ module _ (tbox starts : List ℕ) (defined : ℕ) (once : Bool) (k : ℕ) (so : 
   index-next = record {
     size = length-set starts name at ∙ so .size;
     most = omega arith;
-    met = one-more (λ j. has word (nameOf tbox j) ≡ true) k
+    met = below-more (λ j. has word (nameOf tbox j) ≡ true) k
         (λ j b. after (nameOf tbox j) ∙ ap (λ t. t || eqb (nameOf tbox j) name) (so .met j b))
         (after (nameOf tbox k)
         ∙ ap (λ t. has defined (nameOf tbox k) || t) (eq-eqb (nameOf tbox k) name (sym is))
@@ -106,7 +99,7 @@ module _ (tbox starts : List ℕ) (defined : ℕ) (once : Bool) (k : ℕ) (so : 
         (λ e. (k, omega arith, sym is ∙ sym (eqb-true n name e)))
         (either (has defined n) (eqb n name) (sym (after n) ∙ h));
     differ = λ e i j a u.
-        one-more (λ j. i < j → ¬ (nameOf tbox i ≡ nameOf tbox j)) k
+        below-more (λ j. i < j → ¬ (nameOf tbox i ≡ nameOf tbox j)) k
         (λ j b c. so .differ (first e .0) i j c b) (λ c same. first e .1 i c (same ∙ sym is)) j u a;
     agree = λ e. by-test once
         (λ (t : once ≡ true).
@@ -115,7 +108,7 @@ module _ (tbox starts : List ℕ) (defined : ℕ) (once : Bool) (k : ℕ) (so : 
         let (i, b, same) = so .meets name (sym seen ∙ again) in
         (i, k, b, omega arith, same ∙ is))
         (λ t. let (i, j, a, b, same) = so .agree t in (i, j, a, omega arith, same));
-    start = λ e. one-more (λ j. getD (set starts name at) (nameOf tbox j) 0 ≡ pictureStart tbox j) k
+    start = λ e. below-more (λ j. getD (set starts name at) (nameOf tbox j) 0 ≡ pictureStart tbox j) k
         (λ j b. getD-set-other starts name (nameOf tbox j) at 0 (first e .1 j b) ∙ so .start (first e .0) j b)
         (ap (λ n. getD (set starts name at) n 0) (sym is)
         ∙ getD-set-same starts name at 0 (omega (arith, so .size, below)) ∙ begins);

@@ -1,4 +1,4 @@
 -- The laws of reading a definitions book.
 pub mod Exclusions
 pub mod Indexes
-pub mod ReadInTurn
+pub mod DefinitionsInTurn

@@ -1,5 +1,4 @@
 -- The laws, by subject.
-pub mod NameWalks
 pub mod SettledSets
 pub mod WantedNames
 pub mod RingSets

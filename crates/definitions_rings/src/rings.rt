@@ -1,6 +1,6 @@
 // 28, "is there no ring of definitions": in rounds, the defined names that use none but those found before.
 use crate::uses::find_uses;
-use crate::uses::without;
+use definition_parts::names::without;
 use table::layout::NAMES;
 use table::names::Names;
 ghost use mathlib.Core.Path.{_≡_};

@@ -1,30 +1,18 @@
-// Which defined names the picture of a definition uses, and names one by one.
+// Which defined names the picture of a definition uses.
+use definition_parts::names::without;
 use definition_parts::part::definition;
 use table::layout::NAMES;
 use table::layout::ROW_SIZE;
 use table::names::Names;
 use table_rows::row::wanted;
 ghost use mathlib.Core.Path.{_≡_};
-ghost use mathlib.Core.Bool.{_&&_, not, true};
 ghost use Prim.Native.Nat.{ℕ, _<_};
-ghost use lib.Dec.{eqb};
-ghost use Rattle.table.specs.Layout.{nameCount};
 ghost use Rattle.table.specs.NameSet.{has};
 ghost use Rattle.table.specs.NameValues.{setOf};
 ghost use Rattle.picture.specs.Readable.{rowCount};
 ghost use Rattle.table_rows.specs.Rows.{HasRow};
 ghost use Rattle.definition_parts.specs.Parts.{Opened};
 ghost use Rattle.definitions_rings.specs.Rings.{Uses, usedIn};
-
-// A set without one of its names.
-pub fn without(set: Names, name: usize) -> Names
-    requires { ⌜ (name < nameCount) × (has (setOf set) name ≡ true) ⌝ }
-    ensures { λ r. ⌜ (setOf r < setOf set)
-        × ((m : ℕ) → m < nameCount → has (setOf r) m ≡ (has (setOf set) m && not (eqb m name))) ⌝ }
-{
-    let one = Names::only(name);
-    set.intersection(one.complement())
-}
 
 // The defined names that some row of a picture wants.
 fn used_names(picture: &[u8], defined: Names) -> Names

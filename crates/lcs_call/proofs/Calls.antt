@@ -21,7 +21,7 @@ use Rattle.meaning.proofs.Files.{length-fileOf}
 use Rattle.meaning.proofs.Normals.{normal-meaning, normal-normal, normal-roles}
 use Rattle.meaning.specs.File.{fileOf}
 use Rattle.meaning.specs.NormalTable.{normalFile, normalTreeOf}
-use Rattle.normal_writer.specs.Grown.{prefix}
+use Rattle.table_rows.specs.Rows.{prefix}
 use Rattle.picture.specs.Asked.{andThen, kept, onAsked}
 use Rattle.picture.specs.declared.answer.Asked.{Asked}
 use Rattle.picture.specs.Readable.{Readable}

@@ -1,5 +1,4 @@
 -- Laws of the call as the code makes it, by its tests.
---   ReadTo, read-start, read-next, read-refused, read-all   2 to 13 of the cards in turn: those below k have passed
 --   selected-word                                           the covering cards without those that subsume another are the most specific
 --   covering-inside                                         a covering card is a card of the book
 --   cleared-part                                            the work space, cleared
@@ -16,7 +15,8 @@ use mathlib.Core.List.{List, _++_}
 use mathlib.Core.Path.{_∙_, _≡_, ap, refl, subst, sym}
 use native.Mathlib.Omega.{arith}
 use Rattle.picture.specs.Refusal.{shortBuffer}
-use Rattle.picture.proofs.Orders.{YesTo, and-yes, read-decides, refused-no, rows-yes, to-no, to-yes, yes-on, yes-to}
+use Rattle.picture.proofs.Orders.{and-yes, read-decides, refused-no, rows-yes, yes-to}
+use Rattle.picture.proofs.ReadInTurn.{read-each}
 use Rattle.picture.specs.Asked.{andThen, askedFrom, kept}
 use Rattle.picture.specs.Read.{answerOf}
 use Rattle.picture.specs.Readable.{Readable}
@@ -47,31 +47,6 @@ use Rattle.picture.specs.declared.answer.Asked.the-variants.{No, Yes}
 use Rattle.book.specs.declared.answer.Selected.{Selected}
 use Rattle.book.specs.declared.answer.Selected.the-variants as selected
 use Rattle.table.proofs.SetsBelow.{has-setBelow, word-is}
-
--- ---- the cards, read in turn
-
-module _ (limits : Limits) (book : List ℕ) (count : ℕ) where
-  pub record ReadTo (k : ℕ) : Type 0 where
-    pub most : k ≤ count
-    pub passed : YesTo (cardRead limits book) k
-
-  pub read-start : ReadTo 0
-  read-start = record { most = omega arith; passed = λ j l. absurd (omega arith) }
-
-  module _ (k : ℕ) (so : ReadTo k) (l : k < count) (a : Answer) (is : a ≡ answerOf limits (Card k) (card book k)) where
-    pub read-next : (n : ℕ) → a ≡ answer.Rows n → ReadTo (k + 1)
-    read-next n rows =
-        record {
-          most = omega arith;
-          passed = yes-on (cardRead limits book) k (rows-yes limits (Card k) (card book k) n (sym is ∙ rows)) (so .passed);
-        }
-
-    pub read-refused : (r : Refusal) → a ≡ answer.Refused r → No r ≡ askedFrom (cardRead limits book) count 0
-    read-refused r refused =
-        sym (to-no (cardRead limits book) count k r l (refused-no limits (Card k) (card book k) r (sym is ∙ refused)) (so .passed))
-
-  pub read-all : (k : ℕ) → ReadTo k → count ≤ k → Yes ≡ askedFrom (cardRead limits book) count 0
-  read-all k so done = sym (to-yes (cardRead limits book) count k done (so .passed))
 
 -- ---- what is selected
 
@@ -180,7 +155,7 @@ module _ (limits : Limits) (case book : List ℕ) where
     cards-readable e =
         record {
           places-are = placed;
-          readable = λ k l. read-decides limits (Card k) (card book k) .yes .0 (yes-to (cardRead limits book) (cards .count) (sym is ∙ e) k l);
+          readable = read-each limits Card (card book) (cards .count) (sym is ∙ e);
         }
 
 -- ---- the call by its tests

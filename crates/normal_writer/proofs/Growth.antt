@@ -26,7 +26,8 @@ use Rattle.table.specs.NameValues.{setOf}
 use Rattle.table.proofs.Bools.{or-assoc, or-none}
 use Rattle.table.proofs.Puts.{length-put}
 use Rattle.table.proofs.Rows.{length-rowOf}
-use Rattle.normal_writer.specs.Grown.{Entered, Grown, Room, Written, prefix}
+use Rattle.normal_writer.specs.Grown.{Entered, Grown, Room, Written}
+use Rattle.table_rows.specs.Rows.{prefix}
 use Rattle.normal_writer.specs.declared.node.Edge.{Edge}
 use Rattle.row_sets.specs.declared.label.Label.{Label}
 use Rattle.normal_writer.specs.declared.node.Branch.{Branch}

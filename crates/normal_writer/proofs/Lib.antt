@@ -1,5 +1,4 @@
 -- The laws of the writer: merged rows counted, written and tidied; the whole table.
-pub mod Prefixes
 pub mod Growth
 pub mod Nodes
 pub mod Leavings

@@ -29,14 +29,15 @@ use Rattle.ale.specs.Tree as tree
 use Rattle.ale.specs.Tree.{Forest, Kind, Tree, any, bottomLabel, bottomTree, cons, exists, forAll, nil, node, sameKind, sizes}
 use Rattle.meaning.specs.File.{codeAt, markCode, rowAt, rowsFrom}
 use Rattle.meaning.specs.Meaning.{kindAt}
-use Rattle.normal_writer.specs.Grown.{Entered, Grown, Left, Room, Written, bare, isInconsistent, clash, isDropped, prefix}
+use Rattle.normal_writer.specs.Grown.{Entered, Grown, Left, Room, Written, bare, isInconsistent, clash, isDropped}
+use Rattle.table_rows.specs.Rows.{prefix}
 use Rattle.row_sets.specs.Labels.{LabelIs}
 use Rattle.normal_writer.specs.declared.node.Branch.{Branch}
 use Rattle.normal_writer.specs.declared.node.Edge.{Edge}
 use Rattle.row_sets.specs.declared.label.Label.{Label}
 use Rattle.normal_writer.proofs.Growth.{entered-length}
 use Rattle.table.proofs.NameSets.{subset-none}
-use Rattle.normal_writer.proofs.Prefixes.{prefix-before, prefix-put}
+use Rattle.table_rows.proofs.Prefixes.{prefix-before, prefix-put}
 
 -- ---- the tests
 

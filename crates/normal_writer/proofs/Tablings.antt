@@ -30,10 +30,10 @@ use Rattle.table.specs.Pick.{pick}
 use Rattle.table.specs.Put.{put}
 use Rattle.table.specs.declared.layout.Limits.{Limits}
 use Rattle.normal_writer.specs.Built.{Built}
-use Rattle.normal_writer.specs.Grown.{prefix}
+use Rattle.table_rows.specs.Rows.{prefix}
 use Rattle.normal_writer.specs.Tables.{Tabled}
 use Rattle.normal_writer.specs.declared.node.Branch.{Branch}
-use Rattle.normal_writer.proofs.Prefixes.{take-put}
+use Rattle.table_rows.proofs.Prefixes.{take-put}
 
 pub table-put : (rows n : ℕ) (scratch out l₁ l₂ : List ℕ) → n ≡ place rows 0 → place rows 0 ≤ length scratch →
     place rows endSize ≤ length out → l₁ ≡ put out 0 (take n scratch) → l₂ ≡ put l₁ (place rows 0) endBytes →

@@ -11,7 +11,7 @@ use Rattle.ale.specs.Tree.{size}
 use Rattle.meaning.specs.File.{rowsFrom}
 use Rattle.meaning.specs.NormalTable.{mergedCount, normalTreeOf}
 use Rattle.row_sets.specs.Parts.{capped}
-use Rattle.normal_writer.specs.Grown.{prefix}
+use Rattle.table_rows.specs.Rows.{prefix}
 use Rattle.normal_writer.specs.declared.node.Branch.{Branch}
 
 pub record Built (limits : Limits) (s : List ℕ) (out : List ℕ) (r : Branch) (end : List ℕ) : Type 0 where

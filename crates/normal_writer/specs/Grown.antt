@@ -1,6 +1,5 @@
 -- What a function that writes merged rows has done: it has counted a forest of them up to the limit and one more, and has written
 -- what tidying leaves of it. Nobody has to believe these.
---   prefix                            the bytes of the rows that a table under construction has
 --   Room                              what such a function needs of its arguments
 --   Written                           the rows of a forest stand after those that were there, and whether a some-successor is ⊥
 --   Grown                             a forest was counted, and what tidying leaves of it was written if the count is within the limit
@@ -9,7 +8,7 @@
 --   isInconsistent, isDropped, Left   01, "broken", "dropped": how a row is left once what hangs from it is there
 use Prim.Native.Nat.{_+_, _≤_, suc, ℕ}
 use lib.Dec.{eqb}
-use lib.ListN.{length, take}
+use lib.ListN.{length}
 use mathlib.Core.Bool.{Bool, _&&_, _||_, false, not}
 use mathlib.Core.List.{List, _++_}
 use mathlib.Core.Path.{_≡_}
@@ -20,6 +19,7 @@ use Rattle.table.specs.NameSet.{none}
 use Rattle.table.specs.NameValues.{overlap, setOf}
 use Rattle.table.specs.Pick.{pick}
 use Rattle.table.specs.Put.{put}
+use Rattle.table_rows.specs.Rows.{prefix}
 use Rattle.ale.specs.Encoding.{encodeForest}
 use Rattle.ale.specs.Normal.{bottomExists, tidyAll}
 use Rattle.ale.specs.PictureSignature.{pictureSignature}
@@ -29,9 +29,6 @@ use Rattle.normal_writer.specs.declared.node.Branch.{Branch}
 use Rattle.normal_writer.specs.declared.node.Edge.{Edge}
 use Rattle.row_sets.specs.Parts.{capped}
 use Rattle.row_sets.specs.declared.label.Label.{Label}
-
-abbrev pub prefix : ℕ → List ℕ → List ℕ
-prefix rows out = take (place rows 0) out
 
 pub record Room (limit : ℕ) (b : Branch) (out : List ℕ) : Type 0 where
   pub limit-most : limit ≤ maxRows

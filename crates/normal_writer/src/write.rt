@@ -19,7 +19,7 @@ ghost use Rattle.table.specs.Layout.{«place», endSize};
 ghost use Rattle.table.specs.Put.{put};
 ghost use Rattle.meaning.specs.NormalTable.{normalFile};
 ghost use Rattle.normal.specs.Half.{halfOf};
-ghost use Rattle.normal_writer.specs.Grown.{prefix};
+ghost use Rattle.table_rows.specs.Rows.{prefix};
 ghost use Rattle.normal_writer.specs.Tables.{HalfRoom, RowsRoom, TableRoom, Tabled, tableIn, tableRows};
 
 // As many bytes as the rows of the longest table take.

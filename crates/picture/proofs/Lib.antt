@@ -5,5 +5,6 @@ pub mod Fields
 pub mod Scans
 pub mod Readables
 pub mod Orders
+pub mod ReadInTurn
 pub mod Keeping
 pub mod Cases

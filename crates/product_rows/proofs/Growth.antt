@@ -19,7 +19,7 @@ use Rattle.ale.specs.PictureSignature.{pictureSignature}
 use Rattle.ale.specs.Tree.{Forest, Tree, cons, exists, nil, sizes}
 use Rattle.meaning.specs.File.{rowsFrom}
 use Rattle.normal_writer.proofs.Growth.{rows-append}
-use Rattle.normal_writer.specs.Grown.{prefix}
+use Rattle.table_rows.specs.Rows.{prefix}
 use Rattle.table_rows.specs.declared.builder.Builder.{Builder}
 use Rattle.product_rows.specs.Grown.{Built, Grown, Room}
 use Rattle.table.specs.declared.layout.Limits.{Limits}

@@ -32,8 +32,9 @@ use Rattle.ale.specs.Tree.{Forest, cons, nil, node, sizes}
 use Rattle.meaning.specs.File.{codeAt, markCode, rowAt, rowsFrom}
 use Rattle.meaning.specs.Meaning.{kindAt}
 use Rattle.normal_writer.proofs.Nodes.{dropped-bare}
-use Rattle.normal_writer.proofs.Prefixes.{prefix-before, prefix-put}
-use Rattle.normal_writer.specs.Grown.{bare, prefix}
+use Rattle.table_rows.proofs.Prefixes.{prefix-before, prefix-put}
+use Rattle.normal_writer.specs.Grown.{bare}
+use Rattle.table_rows.specs.Rows.{prefix}
 use Rattle.row_sets.specs.Labels.{LabelIs}
 use Rattle.row_sets.specs.declared.label.Label.{Label}
 use Rattle.normal_writer.specs.declared.node.Edge.{Edge}

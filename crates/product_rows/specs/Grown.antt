@@ -21,7 +21,8 @@ use Rattle.ale.specs.Encoding.{encode, encodeForest}
 use Rattle.ale.specs.PictureSignature.{pictureSignature}
 use Rattle.ale.specs.Tree.{Forest, Tree, size, sizes}
 use Rattle.meaning.specs.File.{markCode, rowsFrom}
-use Rattle.normal_writer.specs.Grown.{bare, prefix}
+use Rattle.normal_writer.specs.Grown.{bare}
+use Rattle.table_rows.specs.Rows.{prefix}
 use Rattle.row_sets.specs.Parts.{capped}
 use Rattle.row_sets.specs.declared.label.Label.{Label}
 use Rattle.normal_writer.specs.declared.node.Edge.{Edge}

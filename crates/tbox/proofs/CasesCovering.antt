@@ -1,5 +1,5 @@
--- What respects definitions, what negates or excludes no defined name, computed. Names 3, 4 and 5 are defined; the picture
--- of 3 wants 7, or asks nothing.
+-- What respects definitions, what negates or excludes no defined name, computed. Names 3, 4 and 5 are defined; the
+-- picture of 3 wants 7, or asks nothing.
 --   name-without      not an individual of which 3 holds, but not 7
 --   fits-without      not one that fits the picture of 3, and 3 does not hold
 --   negates-other     ¬7 negates no defined name

@@ -45,7 +45,8 @@ module _ (S : Signature) (D : Definitions S) where
     conceptTree-excludes (existential r c) h = ((λ i _. tt, none-excluded), (conceptTree-excludes c h, tt))
     conceptTree-excludes (value r c) h = ((λ i _. tt, none-excluded), (conceptTree-excludes c h, tt))
     conceptTree-excludes (negation n) h =
-        ((λ i _. tt, λ i g d. clash (S .has (D .defined) n) (subst (λ z. T (S .has (D .defined) z)) (one .single-has n i g) d) h), tt)
+        let Defined : ℕ → Type 0 = λ z. T (S .has (D .defined) z) in
+        ((λ i _. tt, λ i g d. clash (S .has (D .defined) n) (subst Defined (one .single-has n i g) d) h), tt)
     conceptTree-excludes bottomConcept h = ((λ i _. tt, none-excluded), tt)
 
     -- covering by a concept is covering by its tree
@@ -64,7 +65,8 @@ module _ (S : Signature) (D : Definitions S) where
         (known : (n : ℕ) → T (S .has (D .defined) n) → RolesKnown S (wholeTree S (unfolded S D limit (D .picture n))))
         (p q : Table S) (first : Unfoldable S D limit p) (second : Unfoldable S D limit q) (common : Tree S)
         (least : (c : Concept) → Over S c → ConceptSubsumed S (conceptOf S (wholeTree S (unfolded S D limit p))) c →
-        ConceptSubsumed S (conceptOf S (wholeTree S (unfolded S D limit q))) c → ConceptSubsumed S (conceptOf S common) c) where
+        ConceptSubsumed S (conceptOf S (wholeTree S (unfolded S D limit q))) c →
+        ConceptSubsumed S (conceptOf S common) c) where
       pub least-under-concepts : (c : Concept) → Over S c → NegatesNone S D c →
           ConceptSubsumedUnder (conceptOf S (wholeTree S p)) c → ConceptSubsumedUnder (conceptOf S (wholeTree S q)) c →
           ConceptSubsumedUnder (conceptOf S common) c

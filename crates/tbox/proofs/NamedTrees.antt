@@ -1,5 +1,5 @@
--- Trees that speak of certain names only (ale/proofs/CountermodelNames: `Named`), put together and made from tables; and
--- what fits them. P holds of every wanted name, Q of every excluded one.
+-- Trees that speak of certain names only (ale/proofs/CountermodelNames: `Named`), put together and made from tables;
+-- and what fits them. P holds of every wanted name, Q of every excluded one.
 --   named-map      P and Q made weaker
 --   named-join     two trees in one
 --   table-named    the tree of a table whose labels are such

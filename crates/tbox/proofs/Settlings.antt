@@ -1,9 +1,9 @@
--- The rounds in which rings are looked for. A name that is settled uses such as were settled in the round before; rounds
--- only add names, and a round that adds none is the last that adds any.
---   settled-out, settled-in     a name is settled in round k + 1 exactly if it is defined and uses names of round k only
+-- The rounds in which rings are looked for. A name that is settled uses such as were settled in the round before; what
+-- is settled stays so, and after a round that adds no name none adds any.
+--   settled-out, settled-in     a name is settled in round k + 1 exactly if it is defined and uses names of round k
 --   settled-uses                so what a settled name uses was settled before
 --   all-settled, settled-all    28 is answered yes exactly if every defined name is settled
---   wants-uses, uses-defined    what a row wants and is defined is used; what is used is defined
+--   wants-uses, uses-defined    a defined name that a row wants is used; what is used is defined
 --   settled-on, settled-later   what is settled stays so
 --   Stable, stable-later        a round that adds nothing; no later one adds any
 use Prim.Native.Nat.{_+_, _<_, suc, zero, ℕ}

@@ -13,49 +13,31 @@ use mathlib.Core.Logic.{_↔_, _⊎_}
 use mathlib.Core.Path.{_≡_}
 use Rattle.table.specs.Bounds.{Bounded, pictureSize}
 use Rattle.table.specs.declared.layout.Limits.{Limits}
-use Rattle.picture.proofs.Orders.{and-yes}
-use Rattle.picture.specs.Refusal.{shortBuffer}
+use Rattle.picture.proofs.Orders.{and-yes, test-decides}
 use Rattle.picture.specs.declared.answer.Asked.the-variants.{Yes}
 use Rattle.meaning.specs.NormalTable.{mergedCount}
-use Rattle.normal.proofs.Answers.{one-decides}
-use Rattle.normal.specs.Call.{oneAsked}
-use Rattle.workspace.proofs.Lendings.{room-both, room-yes, two-decides}
-use Rattle.workspace.specs.Lent.{lentAsked, roomy}
-use Rattle.workspace.specs.Prepare.{Acceptable, workSize}
-use Rattle.evidence.proofs.Verifications as verifications
-use Rattle.evidence.specs.Call.{verifyAsked, verifyLent}
+use Rattle.workspace.proofs.Lendings.{room-both, room-yes}
+use Rattle.workspace.specs.Lent.{roomy}
+use Rattle.workspace.specs.Prepare.{workSize}
+use Rattle.evidence.proofs.Soundness.{evidence-taken}
+use Rattle.evidence.specs.Call.{evidenceAsked}
 use Rattle.evidence.specs.Taken.{MapOf, RefutationOf}
-use Rattle.lcs.proofs.Answers.{lcs-decides}
-use Rattle.lcs.specs.Call.{lcsAsked}
+use Rattle.lcs.specs.Call.{largeAsked, tooLarge}
 use Rattle.lcs.specs.Product.{lcsCount}
-use Rattle.definitions.proofs.Unfolds.{unfolded-readable}
 use Rattle.definitions.specs.Unfolded.{unfoldedFile}
-use Rattle.under.specs.Calls.{normalizeBefore, pairBefore, verifyBefore}
-use Rattle.under.specs.Given.{AcceptableUnder, one, pair}
+use Rattle.under.specs.Given.{AcceptableUnder, one}
 use Rattle.under.proofs.Calls.{lcsAll, normalizeAll, pairAll, verifyAll, verifyLentAll}
-use Rattle.under.proofs.Givens.{PreparedUnder, acceptable-prepared, acceptable-unfolded, lent-yes, unfolded-acceptable}
+use Rattle.under.proofs.Givens.{PreparedUnder, acceptable-unfolded}
+use Rattle.under.proofs.Orders.{one-decides, pair-decides}
 
 module _ (limits : Limits) (bounded : Bounded limits) (tbox : List ℕ) where
   pub one-yes : (picture : List ℕ) (room : ℕ) → (normalizeAll limits tbox picture room ≡ Yes)
       ↔ ((pictureSize limits ≤ room) × PreparedUnder limits tbox (one picture)
       × (mergedCount limits (unfoldedFile limits tbox picture) ≤ limits .rows))
   one-yes picture room =
-      let s = unfoldedFile limits tbox picture in
-      let both = and-yes (normalizeBefore limits tbox picture room) (oneAsked limits s room) in
-      let before = lent-yes limits tbox (one picture) (leb (pictureSize limits) room) in
-      let after = one-decides limits s room .yes in (
-        λ e.
-            let (a, b) = both .0 e in
-            let base = after .0 b in
-            (base .enough, before .0 a .1, base .few),
-        λ (enough, ok, few). both .1 (
-          before .1 (le-leb (pictureSize limits) room enough, ok),
-          after .1 (record {
-            enough = enough;
-            readable = unfolded-readable limits bounded tbox (ok .definable) picture (ok .readable .0) (ok .unfolds .0);
-            few = few;
-          }),
-        ),
+      let decides = one-decides limits bounded tbox picture room .yes in (
+        λ e. let ((long, ok), few) = decides .0 e in (leb-true (pictureSize limits) room long, ok, few),
+        λ (long, ok, few). decides .1 ((le-leb (pictureSize limits) room long, ok), few),
       )
 
   module _ (first second : List ℕ) where
@@ -68,71 +50,46 @@ module _ (limits : Limits) (bounded : Bounded limits) (tbox : List ℕ) where
     abbrev Ok : Type 0
     Ok = AcceptableUnder limits tbox first second
 
-    abbrev ready : Ok → PreparedUnder limits tbox (pair first second)
-    ready = acceptable-prepared limits tbox first second
-
-    abbrev base : Ok → Acceptable limits p q
-    base = acceptable-unfolded limits tbox first second bounded
-
-    abbrev back : PreparedUnder limits tbox (pair first second) → Acceptable limits p q → Ok
-    back = unfolded-acceptable limits tbox first second
-
-    module _ (size work result : ℕ) where
-      pub pair-yes : (pairAll limits tbox first second size work result ≡ Yes)
-          ↔ ((workSize limits ≤ work) × (size ≤ result) × Ok)
-      pair-yes =
-          let room = roomy limits size work result in
-          let both = and-yes (pairBefore limits tbox first second size work result) (lentAsked limits room p q) in
-          let before = lent-yes limits tbox (pair first second) room in
-          let after = two-decides limits p q size work result .yes in (
-            λ e.
-                let (a, b) = both .0 e in
-                let lent = after .0 b in
-                (lent .work-long, lent .result-long, back (before .0 a .1) (lent .pair)),
-            λ (enough, long, ok). both .1 (
-              before .1 (room-yes limits size work result enough long, ready ok),
-              after .1 (record { work-long = enough; result-long = long; pair = base ok }),
-            ),
-          )
+    pub pair-yes : (size work result : ℕ) → (pairAll limits tbox first second size work result ≡ Yes)
+        ↔ ((workSize limits ≤ work) × (size ≤ result) × Ok)
+    pair-yes size work result =
+        let decides = pair-decides limits bounded tbox first second (roomy limits size work result) .yes in (
+          λ e.
+              let (room, ok) = decides .0 e in
+              let (enough, long) = room-both limits size work result room in
+              (enough, long, ok),
+          λ (enough, long, ok). decides .1 (room-yes limits size work result enough long, ok),
+        )
 
     pub lcs-yes : (work result : ℕ) → (lcsAll limits tbox first second work result ≡ Yes)
         ↔ ((workSize limits ≤ work) × (pictureSize limits ≤ result) × Ok × (lcsCount limits p q ≤ limits .rows))
     lcs-yes work result =
         let size = pictureSize limits in
-        let both = and-yes (pairBefore limits tbox first second size work result) (lcsAsked limits p q work result) in
-        let before = lent-yes limits tbox (pair first second) (roomy limits size work result) in
-        let after = lcs-decides limits p q work result .yes in (
-          λ e.
-              let (a, b) = both .0 e in
-              let (lent, few) = after .0 b in
-              (lent .work-long, lent .result-long, back (before .0 a .1) (lent .pair), few),
-          λ (enough, long, ok, few). both .1 (
-            before .1 (room-yes limits size work result enough long, ready ok),
-            after .1 (record { work-long = enough; result-long = long; pair = base ok }, few),
-          ),
+        let both = and-yes (pairAll limits tbox first second size work result) (largeAsked limits p q) in
+        let lent = pair-yes size work result in
+        let large = test-decides (lcsCount limits p q) (limits .rows) tooLarge .yes in (
+          λ e. let (a, b) = both .0 e in let (enough, long, ok) = lent .0 a in (enough, long, ok, large .0 b),
+          λ (enough, long, ok, few). both .1 (lent .1 (enough, long, ok), large .1 few),
         )
 
     pub check-lent : (room : ℕ) → (verifyLentAll limits tbox first second room ≡ Yes)
         ↔ ((workSize limits ≤ room) × Ok)
     check-lent room =
-        let both = and-yes (verifyBefore limits tbox first second room) (verifyLent limits p q room) in
-        let before = lent-yes limits tbox (pair first second) (leb (workSize limits) room) in
-        let after = verifications.lent-decides limits p q room .yes in (
-          λ e. let (a, b) = both .0 e in let (enough, ok) = after .0 b in (enough, back (before .0 a .1) ok),
-          λ (enough, ok). both .1
-              (before .1 (le-leb (workSize limits) room enough, ready ok), after .1 (enough, base ok)),
+        let decides = pair-decides limits bounded tbox first second (leb (workSize limits) room) .yes in (
+          λ e. let (enough, ok) = decides .0 e in (leb-true (workSize limits) room enough, ok),
+          λ (enough, ok). decides .1 (le-leb (workSize limits) room enough, ok),
         )
 
     pub verify-yes : (evidence : List ℕ) (room : ℕ) → (verifyAll limits tbox first second evidence room ≡ Yes)
         ↔ ((workSize limits ≤ room) × Ok × (MapOf limits p q evidence ⊎ RefutationOf limits p q evidence))
     verify-yes evidence room =
-        let both = and-yes (verifyBefore limits tbox first second room) (verifyAsked limits p q evidence room) in
-        let before = lent-yes limits tbox (pair first second) (leb (workSize limits) room) in
-        let after = verifications.verify-yes limits p q evidence room bounded in (
-          λ e.
-              let (a, b) = both .0 e in
-              let (enough, ok, taken) = after .0 b in
-              (enough, back (before .0 a .1) ok, taken),
-          λ (enough, ok, taken). both .1
-              (before .1 (le-leb (workSize limits) room enough, ready ok), after .1 (enough, base ok, taken)),
+        let both = and-yes (verifyLentAll limits tbox first second room) (evidenceAsked limits p q evidence) in
+        let lent = check-lent room in (
+          λ e. let (a, b) = both .0 e in let (enough, ok) = lent .0 a in (enough, ok, taken ok .0 b),
+          λ (enough, ok, is). both .1 (lent .1 (enough, ok), taken ok .1 is),
         )
+      where
+        taken : (ok : Ok) →
+            (evidenceAsked limits p q evidence ≡ Yes) ↔ (MapOf limits p q evidence ⊎ RefutationOf limits p q evidence)
+        taken ok =
+            evidence-taken limits p q evidence bounded (acceptable-unfolded limits tbox first second bounded ok)

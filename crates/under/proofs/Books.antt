@@ -1,27 +1,29 @@
 -- The nearest cards under a definitions book: the book of the unfolded cards has as many cards, each unfolded, so its
 -- nearest cards for the unfolded case are the nearest under the definitions book.
---   cards-all             what is true of every card given, by its number
---   before-yes            1, the case, 24, the cards and the definitions book: all yes exactly with room and of a
---                         prepared book
+--   cards-all, from-same         what is true of every card given, by its number; questions that are the same
+--   CaseNo, BeforeNo             the first no before 14: of the case, 24, of a card, of the definitions book; with 1
+--   before-decides, before-refuses   all that is yes exactly with room and of a prepared book; what every refusal has
 --   unfolded-form, unfolded-count, unfolded-card   the book of the unfolded cards
---   book-unfolded         it and the unfolded case are acceptable without a definitions book
---   book-yes              the same and 14: all yes exactly with room and of an acceptable book
---   most-specific-all, most-specific-work-all      what is asked in all, then the word; the work space
---   most-specific-same, most-specific-work-same    where a book is prepared, the call is that without a definitions
---                         book, for the unfolded case and the book of the unfolded cards
+--   book-unfolded                it and the unfolded case are acceptable without a definitions book
 --   case-covered, card-covered   covering under the definitions book is covering of the unfolded ones
---   most-specific-under   so a card is nearest under it exactly if it is nearest there
---   nearest-under         and the word's bits are these cards;
---   some-under            it is not 0 exactly if some card covers the case;
---   below-each-under      each covering card covers a nearest one;
---   together-under        cards that cover each other are nearest together or not at all
+--   most-specific-under          so a card is nearest under it exactly if it is nearest there
+--   most-specific-all, most-specific-work-all      what is asked in all, then the word; the work space
+--   book-order                   after what is asked before the first 14 comes 14 alone, of the unfolded case and cards
+--   BookNo, book-decides, book-refuses   so all is yes exactly with room and of an acceptable book; the first no; what
+--                                every refusal has
+--   most-specific-same, most-specific-work-same    where a book is prepared, the call is that without a definitions
+--                                book, for the unfolded case and the book of the unfolded cards
+--   nearest-under                the word's bits are the nearest cards under the definitions book;
+--   some-under                   it is not 0 exactly if some card covers the case;
+--   below-each-under             each covering card covers a nearest one;
+--   together-under               cards that cover each other are nearest together or not at all
 use Prim.Native.Nat.{_+_, _<_, _≤_, suc, zero, ℕ}
 use borrow.Author.Tests.{le-leb, leb-true}
 use lib.Dec.{leb}
 use lib.ListN.{getD, length}
 use mathlib.Core.Bool.{false, true}
 use mathlib.Core.List.{List, []}
-use mathlib.Core.Logic.{_↔_, ⊎-elim}
+use mathlib.Core.Logic.{_↔_, _⊎_, ⊎-elim}
 use mathlib.Core.Path.{_∙_, _≡_, ap, refl, subst, sym}
 use native.Mathlib.Nat.{eq-or-lt-of-le, zero-add}
 use native.Mathlib.Omega.{arith}
@@ -30,34 +32,37 @@ use Rattle.table.specs.Bounds.{Bounded}
 use Rattle.table.specs.NameSet.{has}
 use Rattle.table.specs.Put.{put, zeros}
 use Rattle.table.specs.declared.layout.Limits.{Limits}
-use Rattle.picture.proofs.Orders.{and-yes, asked-decides, from-yes, read-decides, test-decides}
+use Rattle.picture.proofs.Orders.{AllFrom, Decides, EveryRefusal, FirstFrom, Unreadable, and-decides, and-refuses, asked-decides, asked-refuses, from-decides, from-refuses, from-yes, read-decides, read-refuses, said-so, test-decides}
 use Rattle.picture.proofs.Readables.{readable-size}
 use Rattle.picture.specs.Asked.{andThen, askedFrom, kept, onAsked, readAsked, roomAsked}
-use Rattle.picture.specs.Readable.{Readable}
-use Rattle.picture.specs.Refusal.{shortBuffer}
+use Rattle.picture.specs.Readable.{FailsAt, Readable}
+use Rattle.picture.specs.Refusal.{refusalAt, shortBuffer, tooMany}
 use Rattle.picture.specs.declared.answer.Asked.{Asked}
 use Rattle.picture.specs.declared.answer.Asked.the-variants.{No, Yes}
 use Rattle.picture.specs.declared.answer.Input.the-variants.{Card, First}
+use Rattle.picture.specs.declared.answer.Refusal.{Refusal}
 use Rattle.meaning.specs.Covering.{Covers}
 use Rattle.meaning.specs.NormalTable.{mergedCount}
+use Rattle.normal.proofs.Answers.{TooMany, merged-decides, merged-refuses}
+use Rattle.normal.specs.Call.{mergedAsked}
 use Rattle.workspace.specs.Prepare.{workSize}
-use Rattle.book.proofs.Answers.{ask-decides}
-use Rattle.book.proofs.Forms.{count-most}
+use Rattle.fields.proofs.Forms.{count-most}
 use Rattle.book.proofs.Selections.{below-each, most-specific-exactly, some-exactly, together}
 use Rattle.book.proofs.WrittenBooks.{book-written}
-use Rattle.book.specs.Call.{AcceptableBook, bookAsked, cardRead, formAsked, mostSpecificAnswer, mostSpecificAsked, mostSpecificWork, noBook}
-use Rattle.book.specs.Form.{bookForm, card, cardCount, mostLength}
-use Rattle.book.specs.Selection.{MostSpecific, MostSpecificBy, PassedOverBy, mostSpecificCards}
+use Rattle.book.specs.Call.{AcceptableBook, bookAsked, cardMerged, cardRead, formAsked, mostSpecificAnswer, mostSpecificAsked, mostSpecificWork, noBook}
+use Rattle.book.specs.Form.{bookForm, card, cardCount, cardTag, mostLength}
+use Rattle.book.specs.Selection.{MostSpecific, mostSpecificCards}
 use Rattle.book.specs.declared.answer.Selected.the-variants.{Cards, Refused}
 use Rattle.definitions.proofs.Coverings.{under-unfolded}
 use Rattle.definitions.proofs.Unfolds.{unfolded-readable}
 use Rattle.definitions.specs.Asked.{Picture, definitionsAsked}
 use Rattle.definitions.specs.Covering.{CoversUnder}
-use Rattle.definitions.specs.Unfolded.{Definable, Unfolds, unfoldedFile}
-use Rattle.definitions.proofs.Questions.{asked-definable, definable-asked}
-use Rattle.definitions.specs.Refusals.{AllOf}
+use Rattle.definitions.specs.Unfolded.{Unfolds, unfoldedFile}
+use Rattle.definitions.proofs.Questions.{OfDefinitions, definitions-decides, definitions-refuses}
+use Rattle.definitions.specs.Refusals.{AllOf, DefinitionsNo}
 use Rattle.under.specs.Book.{AcceptableBookUnder, MostSpecificUnder, PreparedBook, bookBefore, cardsGiven, caseAndCards, mostSpecificUnder, mostSpecificWorkUnder, unfoldedBook, unfoldedCards}
 use Rattle.under.proofs.Calls.{kept-and, on-and}
+use Rattle.under.proofs.Orders.{same-after}
 
 -- ---- what is asked
 
@@ -74,7 +79,17 @@ cards-all P book (suc more) k =
       λ each. (each k (omega arith) (omega arith), from (λ j a b. each j (omega arith) (omega arith))),
     )
 
+pub from-same : (ask other : ℕ → Asked) (more k : ℕ) → ((j : ℕ) → k ≤ j → j < k + more → ask j ≡ other j) →
+    askedFrom ask more k ≡ askedFrom other more k
+unfolding askedFrom
+from-same ask other zero k h = refl
+from-same ask other (suc more) k h =
+    rw (h k (omega arith) (omega arith), from-same ask other more (k + 1) (λ j a b. h j (omega arith) (omega arith)))
+
 module _ (limits : Limits) (tbox case book : List ℕ) where
+  abbrev Reads : ℕ → Type 0
+  Reads k = Readable limits (card book k)
+
   abbrev given : Asked
   given = definitionsAsked limits tbox (caseAndCards case book)
 
@@ -84,56 +99,82 @@ module _ (limits : Limits) (tbox case book : List ℕ) where
   abbrev after-room : Asked
   after-room = andThen (readAsked limits First case) (andThen (formAsked book) (andThen reads given))
 
-  after-yes : (after-room ≡ Yes) ↔ PreparedBook limits tbox case book
-  after-yes =
-      let a = and-yes (readAsked limits First case) (andThen (formAsked book) (andThen reads given)) in
-      let b = and-yes (formAsked book) (andThen reads given) in
-      let c = and-yes reads given in
-      let read = read-decides limits First case .yes in
-      let form = asked-decides (bookForm book) noBook .yes in
-      let cards = from-yes (cardRead limits book) (λ k. Readable limits (card book k))
-      (λ k. read-decides limits (Card k) (card book k) .yes) (cardCount book) 0 in
-      let unfolds = cards-all (λ p. Unfolds limits tbox (p .file)) book (cardCount book) 0 in (
-        λ e.
-            let (r, e₁) = a .0 e in
-            let (f, e₂) = b .0 e₁ in
-            let (s, e₃) = c .0 e₂ in
-            let (ok, (u, v)) = asked-definable limits tbox (caseAndCards case book) e₃ in
-            record {
-              definable = ok;
-              case-readable = read .0 r;
-              form = form .0 f;
-              cards-readable = λ k l. cards .0 s k (omega arith) (omega arith);
-              case-unfolds = u;
-              cards-unfold = λ k l. unfolds .0 v k (omega arith) (omega arith);
-            },
-        λ ok. a .1 (
-          read .1 (ok .case-readable),
-          b .1 (
-            form .1 (ok .form),
-            c .1 (
-              cards .1 (λ k m l. ok .cards-readable k (omega arith)),
-              definable-asked limits tbox (caseAndCards case book) (ok .definable)
-                  (ok .case-unfolds, unfolds .1 (λ k m l. ok .cards-unfold k (omega arith))),
+  -- the first no, question by question: 2 to 13 of the cards and what comes after; 24; the case
+  abbrev CardsNo : Refusal → Type 0
+  CardsNo r =
+      FirstFrom Reads (λ k. Unreadable limits (Card k) (card book k)) (cardCount book) 0 r
+      ⊎ (AllFrom Reads (cardCount book) 0 × DefinitionsNo limits tbox (caseAndCards case book) r)
+
+  abbrev FormNo : Refusal → Type 0
+  FormNo r = ((bookForm book ≡ false) × (r ≡ noBook)) ⊎ ((bookForm book ≡ true) × CardsNo r)
+
+  abbrev pub CaseNo : Refusal → Type 0
+  CaseNo r = Unreadable limits First case r ⊎ (Readable limits case × FormNo r)
+
+  after-decides : Decides after-room (PreparedBook limits tbox case book) CaseNo
+  after-decides =
+      let unfolds = cards-all (λ p. Unfolds limits tbox (p .file)) book (cardCount book) 0 in
+      said-so after-room
+      (and-decides (readAsked limits First case) (andThen (formAsked book) (andThen reads given))
+      (read-decides limits First case)
+      (λ c. and-decides (formAsked book) (andThen reads given) (asked-decides (bookForm book) noBook)
+      (λ f. and-decides reads given
+      (from-decides (cardRead limits book) Reads (λ k. Unreadable limits (Card k) (card book k)) (cardCount book) 0
+      (λ k a b. read-decides limits (Card k) (card book k)))
+      (λ all. definitions-decides limits tbox (caseAndCards case book))))) (
+        λ (c, (f, (all, (ok, (u, v))))). record {
+          definable = ok;
+          case-readable = c;
+          form = f;
+          cards-readable = λ k l. all k (omega arith) (omega arith);
+          case-unfolds = u;
+          cards-unfold = λ k l. unfolds .0 v k (omega arith) (omega arith);
+        },
+        λ ok. (
+          ok .case-readable,
+          (
+            ok .form,
+            (
+              λ k a l. ok .cards-readable k (omega arith),
+              (ok .definable, (ok .case-unfolds, unfolds .1 (λ k a l. ok .cards-unfold k (omega arith)))),
             ),
           ),
         ),
       )
+      (λ r. (λ h. h, λ h. h))
 
-  pub before-yes : (room : ℕ) → (bookBefore limits tbox case book room ≡ Yes)
-      ↔ ((workSize limits ≤ room) × PreparedBook limits tbox case book)
+  abbrev pub BeforeNo : ℕ → Refusal → Type 0
+  BeforeNo room r = ((room < workSize limits) × (r ≡ shortBuffer)) ⊎ ((workSize limits ≤ room) × CaseNo r)
+
+  pub before-decides : (room : ℕ) → Decides (bookBefore limits tbox case book room)
+      ((workSize limits ≤ room) × PreparedBook limits tbox case book) (BeforeNo room)
   unfolding bookBefore
-  before-yes room =
-      let both = and-yes (roomAsked (leb (workSize limits) room)) after-room in
-      let long = test-decides (workSize limits) room shortBuffer .yes in (
-        λ e. let (a, b) = both .0 e in (long .0 a, after-yes .0 b),
-        λ (l, ok). both .1 (long .1 l, after-yes .1 ok),
-      )
+  before-decides room =
+      and-decides (roomAsked (leb (workSize limits) room)) after-room
+      (test-decides (workSize limits) room shortBuffer) (λ long. after-decides)
 
   before-short : (room : ℕ) → leb (workSize limits) room ≡ false →
       bookBefore limits tbox case book room ≡ No shortBuffer
   unfolding bookBefore
   before-short room e = rw e
+
+  -- 1; 2 to 13 of the case and of the cards, and where; 24; 25 to 30, and 2 to 13 of the definitions
+  pub before-refuses : (P : Refusal → Type 0) → P shortBuffer →
+      ((q n : ℕ) → FailsAt limits case q n → P (refusalAt q First n)) → P noBook →
+      ((k : ℕ) → k < cardCount book → (q n : ℕ) → FailsAt limits (card book k) q n → P (refusalAt q (Card k) n)) →
+      OfDefinitions limits tbox (caseAndCards case book) P →
+      (room : ℕ) → EveryRefusal P (bookBefore limits tbox case book room)
+  unfolding bookBefore
+  before-refuses P short of-case none of-card of-book room =
+      and-refuses P (roomAsked (leb (workSize limits) room)) after-room
+      (asked-refuses P (leb (workSize limits) room) shortBuffer short)
+      (and-refuses P (readAsked limits First case) (andThen (formAsked book) (andThen reads given))
+      (read-refuses P limits First case of-case)
+      (and-refuses P (formAsked book) (andThen reads given) (asked-refuses P (bookForm book) noBook none)
+      (and-refuses P reads given
+      (from-refuses P (cardRead limits book) (cardCount book) 0
+      (λ k a b. read-refuses P limits (Card k) (card book k) (of-card k (omega arith))))
+      (definitions-refuses limits tbox (caseAndCards case book) P of-book))))
 
 -- ---- the book of the unfolded cards
 
@@ -166,14 +207,15 @@ module _ (limits : Limits) (bounded : Bounded limits) (tbox case book : List ℕ
 
   card-readable : (k : ℕ) → k < cardCount book → Readable limits (unfolded k)
   card-readable k l =
-      unfolded-readable limits bounded tbox (ok .definable) (card book k) (ok .cards-readable k l) (ok .cards-unfold k l)
+      unfolded-readable limits bounded tbox (ok .definable) (card book k) (ok .cards-readable k l)
+      (ok .cards-unfold k l)
 
   written : (bookForm again ≡ true) × (cardCount again ≡ length cards)
       × ((k : ℕ) → k < length cards → card again k ≡ getD cards k [])
   unfolding unfoldedBook
   written =
       let n = cards-length (cardCount book) 0 in
-      book-written cards (omega (arith, n, count-most book))
+      book-written cards (omega (arith, n, count-most cardTag book))
       (λ k l.
       let b : k < cardCount book = omega (arith, n) in
       subst (λ s. length s ≤ mostLength) (sym (card-is k b))
@@ -194,6 +236,10 @@ module _ (limits : Limits) (bounded : Bounded limits) (tbox case book : List ℕ
   above : (k : ℕ) → k < cardCount book → k < cardCount again
   above k l = omega (arith, unfolded-count)
 
+  again-readable : (k : ℕ) → k < cardCount again → Readable limits (card again k)
+  again-readable k l =
+      subst (λ s. Readable limits s) (sym (unfolded-card k (below k l))) (card-readable k (below k l))
+
   pub book-unfolded : mergedCount limits unfoldedCase ≤ limits .rows →
       ((k : ℕ) → k < cardCount book → mergedCount limits (unfolded k) ≤ limits .rows) →
       AcceptableBook limits unfoldedCase again
@@ -201,8 +247,7 @@ module _ (limits : Limits) (bounded : Bounded limits) (tbox case book : List ℕ
     case-readable =
         unfolded-readable limits bounded tbox (ok .definable) case (ok .case-readable) (ok .case-unfolds);
     form = unfolded-form;
-    cards-readable = λ k l.
-        subst (λ s. Readable limits s) (sym (unfolded-card k (below k l))) (card-readable k (below k l));
+    cards-readable = again-readable;
     case-few = few;
     cards-few = λ k l.
         subst (λ s. mergedCount limits s ≤ limits .rows) (sym (unfolded-card k (below k l))) (each k (below k l));
@@ -214,8 +259,8 @@ module _ (limits : Limits) (bounded : Bounded limits) (tbox case book : List ℕ
       CoversUnder limits tbox (card book k) case ↔ Covers limits (card again k) unfoldedCase
   case-covered k l =
       subst (λ s. CoversUnder limits tbox (card book k) case ↔ Covers limits s unfoldedCase) (sym (unfolded-card k l))
-      (under-unfolded limits bounded tbox (ok .definable) case (card book k) (ok .case-readable) (ok .cards-readable k l)
-      (ok .case-unfolds) (ok .cards-unfold k l))
+      (under-unfolded limits bounded tbox (ok .definable) case (card book k) (ok .case-readable)
+      (ok .cards-readable k l) (ok .case-unfolds) (ok .cards-unfold k l))
 
   pub card-covered : (k j : ℕ) → k < cardCount book → j < cardCount book →
       CoversUnder limits tbox (card book k) (card book j) ↔ Covers limits (card again k) (card again j)
@@ -288,31 +333,75 @@ module _ (limits : Limits) (bounded : Bounded limits) (tbox case book : List ℕ
       kept-and (bookBefore limits tbox case book (length work)) (mostSpecificAsked limits c b (length work))
       (put work 0 (zeros (workSize limits))) work
 
-  pub book-yes : (room : ℕ) → (bookAll room ≡ Yes)
-      ↔ ((workSize limits ≤ room) × AcceptableBookUnder limits tbox case book)
-  book-yes room =
-      let both = and-yes (bookBefore limits tbox case book room) (mostSpecificAsked limits c b room) in
-      let before = before-yes limits tbox case book room in
-      let after = ask-decides limits c b room .yes in (
-        λ e.
-            let (x, y) = both .0 e in
-            let (enough, ok) = before .0 x in
-            let base = after .0 y .1 in (
-              enough,
-              record {
-                prepared = ok;
-                case-few = base .case-few;
-                cards-few = λ k l.
-                    subst (λ s. mergedCount limits s ≤ limits .rows) (unfolded-card limits bounded tbox case book ok k l)
-                    (base .cards-few k (above limits bounded tbox case book ok k l));
-              },
-            ),
-        λ (enough, a). both .1 (
-          before .1 (enough, a .prepared),
-          after .1
-              (enough, book-unfolded limits bounded tbox case book (a .prepared) (a .case-few) (a .cards-few)),
+  -- 14 of the unfolded cards
+  abbrev pub cardFew : ℕ → Asked
+  cardFew k = mergedAsked limits (Card k) (unfoldedFile limits tbox (card book k))
+
+  abbrev merged : Asked
+  merged = andThen (mergedAsked limits First c) (askedFrom cardFew (cardCount book) 0)
+
+  -- the unfolded case and cards are readable, and the book of the cards has the form: what is left is 14
+  opened : (room : ℕ) → workSize limits ≤ room → PreparedBook limits tbox case book →
+      mostSpecificAsked limits c b room ≡ merged
+  unfolding bookAsked
+  opened room long ok =
+      let read = read-decides limits First c .yes .1
+      (unfolded-readable limits bounded tbox (ok .definable) case (ok .case-readable) (ok .case-unfolds)) in
+      let reads = from-yes (cardRead limits b) (λ k. Readable limits (card b k))
+      (λ k. read-decides limits (Card k) (card b k) .yes) (cardCount b) 0 .1
+      (λ k a l. again-readable limits bounded tbox case book ok k (omega arith)) in
+      let cards = ap (λ (n : ℕ). askedFrom (cardMerged limits b) n 0) (unfolded-count limits bounded tbox case book ok)
+      ∙ from-same (cardMerged limits b) cardFew (cardCount book) 0
+      (λ k a l. ap (mergedAsked limits (Card k)) (unfolded-card limits bounded tbox case book ok k (omega arith))) in
+      rw (le-leb (workSize limits) room long, read, unfolded-form limits bounded tbox case book ok, reads)
+      (ap (andThen (mergedAsked limits First c)) cards)
+
+  pub book-order : (room : ℕ) → bookAll room ≡ andThen (bookBefore limits tbox case book room) merged
+  book-order room =
+      same-after (bookBefore limits tbox case book room) (mostSpecificAsked limits c b room) merged
+      (λ e. let (long, ok) = before-decides limits tbox case book room .yes .0 e in opened room long ok)
+
+  abbrev Few : ℕ → Type 0
+  Few k = mergedCount limits (unfoldedFile limits tbox (card book k)) ≤ limits .rows
+
+  abbrev pub BookNo : ℕ → Refusal → Type 0
+  BookNo room r =
+      BeforeNo limits tbox case book room r
+      ⊎ (((workSize limits ≤ room) × PreparedBook limits tbox case book)
+      × (TooMany limits First c r
+      ⊎ ((mergedCount limits c ≤ limits .rows)
+      × FirstFrom Few (λ k. TooMany limits (Card k) (unfoldedFile limits tbox (card book k))) (cardCount book) 0 r)))
+
+  pub book-decides : (room : ℕ) → Decides (bookAll room)
+      ((workSize limits ≤ room) × AcceptableBookUnder limits tbox case book) (BookNo room)
+  book-decides room =
+      subst (λ a. Decides a ((workSize limits ≤ room) × AcceptableBookUnder limits tbox case book) (BookNo room))
+      (sym (book-order room))
+      (said-so (andThen (bookBefore limits tbox case book room) merged)
+      (and-decides (bookBefore limits tbox case book room) merged (before-decides limits tbox case book room)
+      (λ ok. and-decides (mergedAsked limits First c) (askedFrom cardFew (cardCount book) 0)
+      (merged-decides limits First c)
+      (λ few. from-decides cardFew Few (λ k. TooMany limits (Card k) (unfoldedFile limits tbox (card book k)))
+      (cardCount book) 0
+      (λ k a l. merged-decides limits (Card k) (unfoldedFile limits tbox (card book k)))))) (
+        λ ((long, ok), (few, each)). (
+          long,
+          record { prepared = ok; case-few = few; cards-few = λ k l. each k (omega arith) (omega arith) },
         ),
+        λ (long, a).
+            ((long, a .prepared), (a .case-few, λ k m l. a .cards-few k (omega arith))),
       )
+      (λ r. (λ h. h, λ h. h)))
+
+  pub book-refuses : (P : Refusal → Type 0) (room : ℕ) → EveryRefusal P (bookBefore limits tbox case book room) →
+      P (tooMany First) → ((k : ℕ) → k < cardCount book → P (tooMany (Card k))) → EveryRefusal P (bookAll room)
+  book-refuses P room early many each =
+      subst (EveryRefusal P) (sym (book-order room))
+      (and-refuses P (bookBefore limits tbox case book room) merged early
+      (and-refuses P (mergedAsked limits First c) (askedFrom cardFew (cardCount book) 0)
+      (merged-refuses limits First c P many)
+      (from-refuses P cardFew (cardCount book) 0
+      (λ k a l. merged-refuses limits (Card k) (unfoldedFile limits tbox (card book k)) P (each k (omega arith))))))
 
   module _ (ok : PreparedBook limits tbox case book) where
     -- 1 is asked again
@@ -320,7 +409,7 @@ module _ (limits : Limits) (bounded : Bounded limits) (tbox case book : List ℕ
     base-short room e = rw e
 
     yes-long : (room : ℕ) → leb (workSize limits) room ≡ true → bookBefore limits tbox case book room ≡ Yes
-    yes-long room e = before-yes limits tbox case book room .1 (leb-true (workSize limits) room e, ok)
+    yes-long room e = before-decides limits tbox case book room .yes .1 (leb-true (workSize limits) room e, ok)
 
     pub most-specific-same : (room : ℕ) →
         mostSpecificUnder limits tbox case book room ≡ mostSpecificAnswer limits c b room

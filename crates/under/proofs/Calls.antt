@@ -1,8 +1,8 @@
--- The calls under a definitions book: what each asks in all, and that where all before the first 14 is answered yes it is
--- the call without a book, on the unfolded pictures.
+-- The calls under a definitions book: what each asks in all, and that where all before the first 14 is answered yes it
+-- is the call without a book, on the unfolded pictures.
 --   no-before                      a no before the first 14 is the answer, whatever call it is, and every buffer is as
 --                                  it was
---   on-and, kept-and               an answer, and a buffer, after two lots of questions
+--   on-and, kept-and, and-assoc    an answer, and a buffer, after two lots of questions; three lots
 --   same-answer, same-buffer       both, where what is asked before the first 14 is answered yes, and 1 is asked again
 --   normalize-all, normalize-result-all                    what is asked in all, then the length; the normal table
 --   subsumes-all, subsumes-work-all, subsumes-result-all   .. the verdict; both tables; the evidence
@@ -15,18 +15,17 @@ use lib.Dec.{leb}
 use lib.ListN.{length}
 use mathlib.Core.Bool.{Bool, false, true}
 use mathlib.Core.List.{List}
-use mathlib.Core.Path.{_≡_, ap, refl}
+use mathlib.Core.Path.{_∙_, _≡_, ap, refl}
 use Rattle.table.proofs.Bools.{by-test}
 use Rattle.table.specs.Bounds.{pictureSize}
 use Rattle.table.specs.Put.{put}
 use Rattle.table.specs.declared.layout.Limits.{Limits}
 use Rattle.picture.proofs.Keeping.{kept-no}
 use Rattle.picture.proofs.Orders.{on-no}
-use Rattle.picture.specs.Asked.{andThen, kept, onAsked, readAsked, roomAsked}
+use Rattle.picture.specs.Asked.{andThen, kept, onAsked}
 use Rattle.picture.specs.Refusal.{shortBuffer}
 use Rattle.picture.specs.declared.answer.Asked.{Asked}
 use Rattle.picture.specs.declared.answer.Asked.the-variants.{No, Yes}
-use Rattle.picture.specs.declared.answer.Input.the-variants.{First}
 use Rattle.picture.specs.declared.answer.Refusal.{Refusal}
 use Rattle.meaning.specs.NormalTable.{normalFile}
 use Rattle.normal.specs.Call.{normalizeAnswer, normalizeResult, oneAsked}
@@ -58,6 +57,10 @@ pub on-and : {A : Type 0} (no : Refusal → A) (a b : Asked) (value : A) →
     onAsked no a (onAsked no b value) ≡ onAsked no (andThen a b) value
 on-and none Yes b value = refl
 on-and none (No r) b value = refl
+
+pub and-assoc : (a b c : Asked) → andThen a (andThen b c) ≡ andThen (andThen a b) c
+and-assoc Yes b c = refl
+and-assoc (No r) b c = refl
 
 pub kept-and : (a b : Asked) (new old : List ℕ) → kept a (kept b new old) old ≡ kept (andThen a b) new old
 kept-and Yes b new old = refl
@@ -97,7 +100,9 @@ module _ (limits : Limits) (tbox : List ℕ) where
     pub normalize-result-all : (out : List ℕ) → normalizeResultUnder limits tbox picture out
         ≡ kept (normalizeAll (length out)) (put out 0 (normalFile limits s)) out
     unfolding normalizeResultUnder normalizeResult
-    normalize-result-all out = kept-and (normalizeBefore limits tbox picture (length out)) (oneAsked limits s (length out)) _ out
+    normalize-result-all out =
+        kept-and (normalizeBefore limits tbox picture (length out)) (oneAsked limits s (length out))
+        (put out 0 (normalFile limits s)) out
 
     module _ (ok : underAsked limits tbox (one picture) ≡ Yes) where
       one-short : (room : ℕ) → leb (pictureSize limits) room ≡ false → oneAsked limits s room ≡ No shortBuffer
@@ -114,7 +119,8 @@ module _ (limits : Limits) (tbox : List ℕ) where
           normalizeResultUnder limits tbox picture out ≡ normalizeResult limits s out
       unfolding normalizeResultUnder normalizeResult
       normalize-result-same out =
-          same-buffer limits (leb (pictureSize limits) (length out)) tbox (one picture) ok (oneAsked limits s (length out))
+          same-buffer limits (leb (pictureSize limits) (length out)) tbox (one picture) ok
+          (oneAsked limits s (length out))
           (one-short (length out)) _ out
 
   -- ---- two pictures
@@ -126,7 +132,7 @@ module _ (limits : Limits) (tbox : List ℕ) where
     abbrev q : List ℕ
     q = unfoldedFile limits tbox second
 
-    -- 1 to 14, with the length named of the result buffer
+    -- 1 to 14, with the length named of the result buffer; of a check; those and 15; those and 16 to 23
     abbrev pub pairAll : ℕ → ℕ → ℕ → Asked
     pairAll size work result =
         andThen (pairBefore limits tbox first second size work result)
@@ -136,13 +142,10 @@ module _ (limits : Limits) (tbox : List ℕ) where
     verifyLentAll room = andThen (verifyBefore limits tbox first second room) (verifyLent limits p q room)
 
     abbrev pub lcsAll : ℕ → ℕ → Asked
-    lcsAll work result =
-        andThen (pairBefore limits tbox first second (pictureSize limits) work result)
-        (lcsAsked limits p q work result)
+    lcsAll work result = andThen (pairAll (pictureSize limits) work result) (largeAsked limits p q)
 
     abbrev pub verifyAll : List ℕ → ℕ → Asked
-    verifyAll evidence room =
-        andThen (verifyBefore limits tbox first second room) (verifyAsked limits p q evidence room)
+    verifyAll evidence room = andThen (verifyLentAll room) (evidenceAsked limits p q evidence)
 
     pub subsumes-all : (work result : ℕ) → subsumesUnder limits tbox first second work result
         ≡ onAsked verdict.Refused (pairAll (evidenceSize limits) work result) (verdictAnswer limits p q)
@@ -169,8 +172,11 @@ module _ (limits : Limits) (tbox : List ℕ) where
         ≡ onAsked common.Refused (lcsAll work result) (common.Length (length (lcsFile limits p q)))
     unfolding lcsUnder lcsAnswer
     lcs-all work result =
-        on-and common.Refused (pairBefore limits tbox first second (pictureSize limits) work result)
-        (lcsAsked limits p q work result) (common.Length (length (lcsFile limits p q)))
+        let before = pairBefore limits tbox first second (pictureSize limits) work result in
+        let file = lcsFile limits p q in
+        on-and common.Refused before (lcsAsked limits p q work result) (common.Length (length file))
+        ∙ ap (λ (a : Asked). onAsked common.Refused a (common.Length (length file)))
+        (and-assoc before (lcsLent limits p q work result) (largeAsked limits p q))
 
     pub lcs-work-all : (work : List ℕ) (result : ℕ) → lcsWorkUnder limits tbox first second work result
         ≡ kept (pairAll (pictureSize limits) (length work) result) (halvesPut limits p q work) work
@@ -183,15 +189,21 @@ module _ (limits : Limits) (tbox : List ℕ) where
         ≡ kept (lcsAll work (length result)) (put result 0 (lcsFile limits p q)) result
     unfolding lcsResultUnder
     lcs-result-all work result =
-        kept-and (pairBefore limits tbox first second (pictureSize limits) work (length result))
-        (lcsAsked limits p q work (length result)) (put result 0 (lcsFile limits p q)) result
+        let before = pairBefore limits tbox first second (pictureSize limits) work (length result) in
+        let written = put result 0 (lcsFile limits p q) in
+        kept-and before (lcsAsked limits p q work (length result)) written result
+        ∙ ap (λ (a : Asked). kept a written result)
+        (and-assoc before (lcsLent limits p q work (length result)) (largeAsked limits p q))
 
     pub verify-all : (evidence : List ℕ) (room : ℕ) → verifyUnder limits tbox first second evidence room
         ≡ onAsked verified.Refused (verifyAll evidence room) (evidenceKind limits q evidence)
     unfolding verifyUnder verifyAnswer
     verify-all evidence room =
-        on-and verified.Refused (verifyBefore limits tbox first second room) (verifyAsked limits p q evidence room)
-        (evidenceKind limits q evidence)
+        let before = verifyBefore limits tbox first second room in
+        let kind = evidenceKind limits q evidence in
+        on-and verified.Refused before (verifyAsked limits p q evidence room) kind
+        ∙ ap (λ (a : Asked). onAsked verified.Refused a kind)
+        (and-assoc before (verifyLent limits p q room) (evidenceAsked limits p q evidence))
 
     pub verify-work-all : (work : List ℕ) → verifyWorkUnder limits tbox first second work
         ≡ kept (verifyLentAll (length work)) (halvesPut limits p q work) work

@@ -7,14 +7,13 @@
 --   common-refused       with room an acceptable pair is refused only when the product has too many rows
 --   common-given         what the call gives and leaves, with whatever bytes and buffers, is that of an acceptable pair
 use Prim.Native.Nat.{_+_, _<_, _≤_, ℕ}
-use borrow.Author.Tests.{leb-false, leb-true}
+use borrow.Author.Tests.{leb-false}
 use lib.Dec.{T, leb}
 use lib.ListN.{drop, length, take}
 use lib.Seq.{take-at}
-use mathlib.Core.Bool.{true}
 use mathlib.Core.List.{List, [], _∷_}
 use mathlib.Core.Logic.{_⊎_, inl, inr}
-use mathlib.Core.Path.{_∙_, _≡_, ap, refl, subst, sym}
+use mathlib.Core.Path.{_∙_, _≡_, ap, subst, sym}
 use native.Mathlib.Omega.{arith}
 use Rattle.table.proofs.Bools.{by-test}
 use Rattle.table.specs.Bounds.{Bounded, pictureSize}
@@ -36,16 +35,14 @@ use Rattle.tbox.proofs.Expansions.{ExcludesNoneAll, ExcludesNoneTree, tree-excl
 use Rattle.tbox.specs.Covering.{wholeTree}
 use Rattle.tbox.specs.Definitions.{Definitions, NegatesNone}
 use Rattle.picture.proofs.Keeping.{kept-yes}
-use Rattle.picture.proofs.Orders.{given, on-no, on-yes}
+use Rattle.picture.proofs.Orders.{given}
 use Rattle.picture.specs.Readable.{Readable}
 use Rattle.meaning.proofs.Pictures.{picture-known}
 use Rattle.meaning.specs.Covering.{Covers}
 use Rattle.meaning.specs.Meaning.{pictureTable, pictureTree}
-use Rattle.workspace.proofs.Lendings.{Lent}
 use Rattle.workspace.specs.Prepare.{workSize}
-use Rattle.lcs.proofs.Answers.{lcs-decides}
 use Rattle.lcs.proofs.Commons.{common-least}
-use Rattle.lcs.specs.Call.{lcsAnswer, lcsAsked, tooLarge}
+use Rattle.lcs.specs.Call.{tooLarge}
 use Rattle.lcs.specs.declared.common.Common.the-variants.{Length, Refused}
 use Rattle.lcs.specs.Description.{LeastCommon}
 use Rattle.lcs.specs.Product.{lcsCount, lcsFile}
@@ -54,14 +51,13 @@ use Rattle.definitions.proofs.Unfolds.{book-sound, defined-place, excludes-none
 use Rattle.definitions.specs.Covering.{CoversUnder}
 use Rattle.definitions.specs.Form.{definitionFile}
 use Rattle.definitions.specs.Tbox.{placeOf, tboxOf}
-use Rattle.definitions.specs.Unfolded.{Definable, Unfolds, excludesNone, unfoldedFile, unfoldedTable}
+use Rattle.definitions.specs.Unfolded.{Definable, Unfolds, unfoldedFile, unfoldedTable}
 use Rattle.under.specs.Description.{DescriptionCoversUnder, LeastCommonUnder}
 use Rattle.under.specs.Calls.{lcsResultUnder, lcsUnder}
 use Rattle.under.specs.Given.{AcceptableUnder}
-use Rattle.under.specs.Given as under
-use Rattle.under.proofs.Answers.{lcs-yes}
-use Rattle.under.proofs.Calls.{lcs-all, lcs-result-all, lcs-same, lcsAll}
-use Rattle.under.proofs.Givens.{acceptable-prepared, acceptable-unfolded, under-yes}
+use Rattle.under.proofs.Answers.{lcs-yes, pair-yes}
+use Rattle.under.proofs.Calls.{lcs-all, lcs-result-all, lcsAll}
+use Rattle.under.proofs.Givens.{acceptable-unfolded}
 
 -- ---- the concept of a tree
 
@@ -83,7 +79,8 @@ module _ (S : Signature) (D : Definitions S) where
     ),
   )
 
-  restriction-negates : (k : Kind) (r : ℕ) (c : Concept) → NegatesNone S D c → NegatesNone S D (restrictionConcept k r c)
+  restriction-negates : (k : Kind) (r : ℕ) (c : Concept) → NegatesNone S D c →
+      NegatesNone S D (restrictionConcept k r c)
   restriction-negates exists r c h = h
   restriction-negates forAll r c h = h
 
@@ -207,32 +204,12 @@ module _ (limits : Limits) (bounded : Bounded limits) (tbox first second : List 
   pub common-refused : (work result : ℕ) → workSize limits ≤ work → pictureSize limits ≤ result →
       (lcsUnder limits tbox first second work result ≡ Length (length (lcsFile limits p q)))
       ⊎ ((lcsUnder limits tbox first second work result ≡ Refused tooLarge) × (limits .rows < lcsCount limits p q))
-  unfolding lcsAnswer
   common-refused work result enough long =
       let count = lcsCount limits p q in
-      let value = Length (length (lcsFile limits p q)) in
+      let before = pair-yes limits bounded tbox first second (pictureSize limits) work result .1 (enough, long, pair) in
       let all = lcs-all limits tbox first second work result in
-      let base = acceptable-unfolded limits tbox first second bounded pair in
-      by-test (leb count (limits .rows))
-      (λ few. inl (all ∙ on-yes Refused value (lcsAll limits tbox first second work result)
-      (lcs-yes limits bounded tbox first second work result .1
-      (enough, long, pair, leb-true count (limits .rows) few))))
-      (λ e.
-      let many = leb-false count (limits .rows) e in
-      inr (
-        lcs-same limits tbox first second
-            (under-yes limits tbox (under.pair first second) .1 (acceptable-prepared limits tbox first second pair))
-            work result
-            ∙ base-refused work result many
-            (record { work-long = enough; result-long = long; pair = base }),
-        many,
-      ))
-    where
-      base-refused : (work result : ℕ) → limits .rows < lcsCount limits p q →
-          Lent limits p q (pictureSize limits) work result → lcsAnswer limits p q work result ≡ Refused tooLarge
-      base-refused work result many lent =
-          on-no Refused (Length (length (lcsFile limits p q))) (lcsAsked limits p q work result) tooLarge
-          (lcs-decides limits p q work result .no tooLarge .1 (inr (lent, (many, refl))))
+      by-test (leb count (limits .rows)) (λ few. inl (all ∙ rw (before, few)))
+      (λ e. inr (all ∙ rw (before, e), leb-false count (limits .rows) e))
 
 -- ---- what is given and left, whatever bytes and buffers
 

@@ -1,25 +1,25 @@
 -- Conditions 2 and 3 under a definitions book, of the verdict and of evidence: those without a book, of the unfolded
 -- pictures, with covering under the book.
---   verdict-covers-under, verdict-fails-under   the verdict on the unfolded pictures is yes exactly if the second covers
---                         the first under the book, else no
---   verdict-given         with room an acceptable pair is given that verdict,
---   yes-exactly, no-exactly                     so it is yes, and no, exactly then
---   map-shown, refutation-shown                 what is taken is a map, or a refutation, of the unfolded pictures of an
---                         acceptable pair, whatever bytes are given
---   map-covers-under, refutation-fails-under    so it shows that the second covers the first under the book, or that it
---                         does not, whatever a refutation says of defined names
---   takes-map, takes-refutation                 every map and every refutation of the unfolded pictures is taken
---   evidence-left         with room the evidence of the unfolded pictures is in the result buffer,
---   yes-taken, no-taken   and is taken
---   some-map, some-refutation                   some bytes are taken as a map exactly if the second covers the first,
---                         as a refutation exactly if it does not
---   normal-under          the normal table of an unfolded picture is fitted by what fits the picture
+--   map-shown, refutation-shown   what is taken is a map, or a refutation, of the unfolded pictures of an acceptable
+--                                 pair, whatever bytes are given
+--   verdict-covers-under, verdict-fails-under   the verdict on the unfolded pictures is yes exactly if the second
+--                                 covers the first under the book, else no
+--   map-covers-under, refutation-fails-under    a map shows that the second covers the first under the book, a
+--                                 refutation that it does not, whatever it says of defined names
+--   takes-map, takes-refutation   every map and every refutation of the unfolded pictures is taken
+--   yes-taken, no-taken           so the evidence of the unfolded pictures is
+--   some-map, some-refutation     some bytes are taken as a map exactly if the second covers the first, as a
+--                                 refutation exactly if it does not
+--   verdict-given, evidence-left  with room that verdict is given, and that evidence is in the result buffer,
+--   yes-exactly, no-exactly       so yes is answered exactly if the second covers the first, and no exactly if not
+--   defined-ignored               whatever sets defined names have, the same individuals fit an unfolded picture
+--   normal-under                  the normal table of an unfolded picture is fitted by what fits the picture
 use Prim.Native.Nat.{_<_, _≤_, ℕ}
 use lib.ListN.{length}
 use mathlib.Core.Bool.{Bool, false, true}
 use mathlib.Core.List.{List}
 use mathlib.Core.Logic.{_↔_, _⊎_, inl, inr}
-use mathlib.Core.Path.{_∙_, _≡_, ap, refl, subst, sym}
+use mathlib.Core.Path.{_∙_, _≡_, ap, subst, sym}
 use native.Mathlib.Omega.{arith}
 use Rattle.table.proofs.Bools.{by-test}
 use Rattle.table.specs.Bounds.{Bounded}
@@ -30,14 +30,16 @@ use Rattle.table.specs.declared.layout.Limits.{Limits}
 use Rattle.ale.proofs.Concepts.{extension-fits, fits-extension}
 use Rattle.ale.specs.Interpretation.{Interpretation, structureOf}
 use Rattle.ale.specs.PictureSignature.{pictureSignature}
+use Rattle.ale.specs.Structure.{Fits}
+use Rattle.tbox.proofs.Coverings.{Undefined, unfolded-plain}
+use Rattle.tbox.proofs.NamedTrees.{Agree, fits-agree, named-map, withHolds}
+use Rattle.tbox.specs.Covering.{wholeTree}
 use Rattle.picture.proofs.Keeping.{kept-yes}
 use Rattle.picture.proofs.Orders.{given, on-yes}
-use Rattle.picture.specs.Asked.{onAsked}
 use Rattle.picture.specs.Readable.{Readable}
-use Rattle.picture.specs.declared.answer.Refusal.{Refusal}
 use Rattle.meaning.proofs.Normals.{normalFile-equivalent}
 use Rattle.meaning.specs.Covering.{Covers}
-use Rattle.meaning.specs.Meaning.{pictureTree}
+use Rattle.meaning.specs.Meaning.{pictureTable, pictureTree}
 use Rattle.meaning.specs.NormalTable.{mergedCount, normalFile}
 use Rattle.workspace.specs.Prepare.{Acceptable, workSize}
 use Rattle.evidence.proofs.Soundness.{evidence-taken, map-covers, map-taken, refutation-fails, refutation-taken}
@@ -48,12 +50,12 @@ use Rattle.evidence.specs.declared.check.Verified.the-variants.{MapTaken, Refus
 use Rattle.subsumption.proofs.Writers.{evidence-bytes, no-written, verdict-covers, verdict-fails, yes-written}
 use Rattle.subsumption.specs.Call.{verdictAnswer}
 use Rattle.subsumption.specs.Verdict.{evidenceOf, evidenceSize, verdictOf}
-use Rattle.subsumption.specs.declared.verdict.Verdict.{Verdict}
 use Rattle.subsumption.specs.declared.verdict.Verdict.the-variants as verdict
 use Rattle.definitions.proofs.Coverings.{belongs-unfolded}
-use Rattle.definitions.proofs.Unfolds.{unfolded-readable}
+use Rattle.definitions.proofs.Unfolds.{book-sound, picture-unfoldable, unfolded-readable, unfolded-tree}
 use Rattle.definitions.specs.Covering.{Belongs, CoversUnder, RespectsBook}
-use Rattle.definitions.specs.Unfolded.{Definable, Unfolds, unfoldedFile}
+use Rattle.definitions.specs.Tbox.{tboxOf}
+use Rattle.definitions.specs.Unfolded.{Definable, Unfolds, unfoldedFile, unfoldedTable}
 use Rattle.under.specs.Calls.{subsumesResultUnder, subsumesUnder, verifyUnder}
 use Rattle.under.specs.Given.{AcceptableUnder}
 use Rattle.under.proofs.Answers.{pair-yes, verify-yes}
@@ -219,19 +221,50 @@ module _ (limits : Limits) (bounded : Bounded limits) (tbox : List ℕ) where
               other : verdict.Yes size ≡ verdict.No size → ⊥
               other is = let z : _≡_ {A = ℕ} 0 1 = cc in omega arith
 
-  -- ---- the normal table
+  -- ---- one picture
 
-  pub normal-under : (s : List ℕ) → Definable limits tbox → Readable limits s → Unfolds limits tbox s →
-      mergedCount limits (unfoldedFile limits tbox s) ≤ limits .rows →
-      (I : Interpretation pictureSignature) → RespectsBook limits tbox I → (x : ℕ) → x < I .count →
-      Belongs limits I (normalFile limits (unfoldedFile limits tbox s)) x ↔ Belongs limits I s x
-  normal-under s ok r u few I h x l =
-      let t = unfoldedFile limits tbox s in
-      let M = structureOf pictureSignature I in
-      let (to, from) = normalFile-equivalent limits t few bounded (unfolded-readable limits bounded tbox ok s r u) in
-      let (out, in-) = belongs-unfolded limits bounded tbox ok s r u I h x l in (
-        λ b. out (fits-extension pictureSignature M (pictureTree limits t) x
-            (from I x l (extension-fits pictureSignature M (pictureTree limits (normalFile limits t)) x b))),
-        λ b. fits-extension pictureSignature M (pictureTree limits (normalFile limits t)) x
-            (to I x l (extension-fits pictureSignature M (pictureTree limits t) x (in- b))),
-      )
+  module _ (s : List ℕ) (ok : Definable limits tbox) (r : Readable limits s) (u : Unfolds limits tbox s) where
+    abbrev spelled : List ℕ
+    spelled = unfoldedFile limits tbox s
+
+    -- 02, U3, "refutations are checked on unfolded pictures and their defined names ignored"
+    pub defined-ignored : (I : Interpretation pictureSignature) (sets : ℕ → ℕ → Bool) →
+        ((n : ℕ) → Undefined pictureSignature (tboxOf tbox) n → Agree pictureSignature I (I .holds) sets n) → (x : ℕ) →
+        Fits pictureSignature (structureOf pictureSignature I) (pictureTree limits spelled) x
+        ↔ Fits pictureSignature (structureOf pictureSignature (withHolds pictureSignature I sets))
+        (pictureTree limits spelled) x
+    defined-ignored I sets same x =
+        let D = tboxOf tbox in
+        let t = wholeTree pictureSignature (unfoldedTable limits tbox s) in
+        let N = Undefined pictureSignature D in
+        let plain = unfolded-plain pictureSignature D (book-sound limits bounded tbox ok) (limits .rows)
+        (pictureTable s) (picture-unfoldable limits bounded tbox ok s r u) in
+        let there = Agree pictureSignature I (I .holds) sets in
+        let back = Agree pictureSignature I sets (I .holds) in
+        subst (λ v. Fits pictureSignature (structureOf pictureSignature I) v x
+        ↔ Fits pictureSignature (structureOf pictureSignature (withHolds pictureSignature I sets)) v x)
+        (sym (unfolded-tree limits bounded tbox ok s r u)) (
+          fits-agree pictureSignature I (I .holds) sets t
+              (named-map pictureSignature N N there there same same t plain) x,
+          fits-agree pictureSignature I sets (I .holds) t
+              (named-map pictureSignature N N back back (turned I sets same) (turned I sets same) t plain) x,
+        )
+      where
+        turned : (I : Interpretation pictureSignature) (sets : ℕ → ℕ → Bool) →
+            ((n : ℕ) → Undefined pictureSignature (tboxOf tbox) n → Agree pictureSignature I (I .holds) sets n) →
+            (n : ℕ) → Undefined pictureSignature (tboxOf tbox) n → Agree pictureSignature I sets (I .holds) n
+        turned I sets same n d x = let (a, b) = same n d x in (b, a)
+
+    pub normal-under : mergedCount limits spelled ≤ limits .rows →
+        (I : Interpretation pictureSignature) → RespectsBook limits tbox I → (x : ℕ) → x < I .count →
+        Belongs limits I (normalFile limits spelled) x ↔ Belongs limits I s x
+    normal-under few I h x l =
+        let M = structureOf pictureSignature I in
+        let (to, from) = normalFile-equivalent limits spelled few bounded
+        (unfolded-readable limits bounded tbox ok s r u) in
+        let (out, back) = belongs-unfolded limits bounded tbox ok s r u I h x l in (
+          λ b. out (fits-extension pictureSignature M (pictureTree limits spelled) x
+              (from I x l (extension-fits pictureSignature M (pictureTree limits (normalFile limits spelled)) x b))),
+          λ b. fits-extension pictureSignature M (pictureTree limits (normalFile limits spelled)) x
+              (to I x l (extension-fits pictureSignature M (pictureTree limits spelled) x (back b))),
+        )

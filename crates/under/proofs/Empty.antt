@@ -1,6 +1,6 @@
 -- A definitions book without definitions: every call under it is the call without one, on the pictures as they are,
 -- whatever bytes they are. The end field alone is such a book (definitions, proofs/Empty: `end-count`, `end-form`).
---   in-front, absorbed       questions that are asked again
+--   in-front                 questions that are asked again
 --   under-read               of given pictures nothing but 2 to 13 is asked
 --   empty-normalize, empty-normalize-result                   the normal table
 --   empty-subsumes, empty-subsumes-work, empty-subsumes-result   the verdict
@@ -8,28 +8,26 @@
 --   empty-verify, empty-verify-work                           the check
 --   same-asked, same-cards   books of the same cards are asked and answered the same
 --   empty-most-specific, empty-most-specific-work             the nearest cards
-use Prim.Native.Nat.{_+_, _<_, _≤_, suc, zero, ℕ}
+use Prim.Native.Nat.{_<_, ℕ}
 use lib.Dec.{leb}
 use lib.ListN.{length}
 use mathlib.Core.Bool.{Bool, _&&_, not, true}
 use mathlib.Core.List.{List}
-use mathlib.Core.Path.{_∙_, _≡_, ap, refl, subst, sym}
+use mathlib.Core.Path.{_∙_, _≡_, ap, refl, sym}
 use native.Mathlib.Omega.{arith}
 use Rattle.table.proofs.Ranges.{some-same}
 use Rattle.table.proofs.SetsBelow.{setBelow-same}
 use Rattle.table.specs.Bounds.{Bounded, pictureSize}
 use Rattle.table.specs.NameSet.{setBelow}
 use Rattle.table.specs.Put.{put, zeros}
-use Rattle.table.specs.Range.{some}
 use Rattle.table.specs.declared.layout.Limits.{Limits}
 use Rattle.order.specs.Preorder.{minimal, passedOver, strict}
-use Rattle.picture.proofs.Orders.{asked-decides, from-yes, read-decides}
-use Rattle.picture.specs.Asked.{andThen, asked, askedFrom, kept, onAsked, readAsked, roomAsked}
+use Rattle.picture.proofs.Orders.{from-yes, read-decides}
+use Rattle.picture.specs.Asked.{andThen, askedFrom, kept, onAsked, readAsked, roomAsked}
 use Rattle.picture.specs.Readable.{Readable}
 use Rattle.picture.specs.declared.answer.Asked.{Asked}
 use Rattle.picture.specs.declared.answer.Asked.the-variants.{No, Yes}
 use Rattle.picture.specs.declared.answer.Input.the-variants.{Card, First, Second}
-use Rattle.picture.specs.declared.answer.Refusal.{Refusal}
 use Rattle.normal.specs.Call.{mergedAsked, normalizeAnswer, normalizeResult, oneAsked}
 use Rattle.workspace.specs.Lent.{lentAsked, roomy}
 use Rattle.workspace.specs.Prepare.{pairAsked, workSize}
@@ -48,7 +46,7 @@ use Rattle.definitions.specs.Unfolded.{unfoldedFile}
 use Rattle.under.specs.Book.{bookBefore, caseAndCards, mostSpecificUnder, mostSpecificWorkUnder, unfoldedBook}
 use Rattle.under.specs.Calls.{lcsResultUnder, lcsUnder, lcsWorkUnder, normalizeResultUnder, normalizeUnder, subsumesResultUnder, subsumesUnder, subsumesWorkUnder, verifyUnder, verifyWorkUnder}
 use Rattle.under.specs.Given.{lentUnder, one, pair, underAsked}
-use Rattle.under.proofs.Books.{before-yes, cards-all, unfolded-card, unfolded-count, unfolded-form}
+use Rattle.under.proofs.Books.{before-decides, cards-all, from-same, unfolded-card, unfolded-count, unfolded-form}
 use Rattle.under.proofs.Calls as calls
 use Rattle.under.proofs.Givens.{reads-decides}
 
@@ -58,16 +56,13 @@ pub in-front : (x y z : Asked) → (x ≡ Yes → andThen y z ≡ z) → andThen
 in-front Yes y z h = h refl
 in-front (No r) y z h = refl
 
-pub absorbed : (a b c : Asked) → andThen a b ≡ b → andThen a (andThen b c) ≡ andThen b c
-absorbed Yes b c e = refl
-absorbed (No r) b c e = ap (λ z. andThen z c) e
-
 module _ (limits : Limits) (tbox : List ℕ) (empty : definitionCount tbox ≡ 0)
     (form : definitionsForm tbox ≡ true) where
   pub under-read : (given : List Picture) → underAsked limits tbox given ≡ askedOf (readOf limits) given
   unfolding underAsked
   under-read given =
-      by (askedOf (readOf limits) given) (λ e. empty-asked tbox empty form limits given (reads-decides limits given .yes .0 e))
+      by (askedOf (readOf limits) given)
+      (λ e. empty-asked tbox empty form limits given (reads-decides limits given .yes .0 e))
     where
       by : (a : Asked) → (a ≡ Yes → definitionsAsked limits tbox given ≡ Yes) →
           andThen a (definitionsAsked limits tbox given) ≡ a
@@ -115,11 +110,10 @@ module _ (limits : Limits) (tbox : List ℕ) (empty : definitionCount tbox ≡ 0
         (λ e. in-front read (andThen next Yes) (andThen next merged) (λ f. in-front next Yes merged (λ g. refl))))
 
     then-again : (enough : Bool) (after : Asked) →
-        andThen (lentUnder limits enough tbox (pair first second)) (andThen (lentAsked limits enough first second) after)
+        andThen (andThen (lentUnder limits enough tbox (pair first second)) (lentAsked limits enough first second))
+        after
         ≡ andThen (lentAsked limits enough first second) after
-    then-again enough after =
-        absorbed (lentUnder limits enough tbox (pair first second)) (lentAsked limits enough first second) after
-        (pair-again enough)
+    then-again enough after = ap (λ (a : Asked). andThen a after) (pair-again enough)
 
     pub empty-subsumes : (work result : ℕ) →
         subsumesUnder limits tbox first second work result ≡ subsumesAnswer limits first second work result
@@ -185,13 +179,6 @@ module _ (limits : Limits) (tbox : List ℕ) (empty : definitionCount tbox ≡ 0
         ∙ rw (itself first, itself second, pair-again (leb (workSize limits) (length work)))
 
 -- ---- books of the same cards
-
-from-same : (ask other : ℕ → Asked) (more k : ℕ) → ((j : ℕ) → k ≤ j → j < k + more → ask j ≡ other j) →
-    askedFrom ask more k ≡ askedFrom other more k
-unfolding askedFrom
-from-same ask other zero k h = refl
-from-same ask other (suc more) k h =
-    rw (h k (omega arith) (omega arith), from-same ask other more (k + 1) (λ j a b. h j (omega arith) (omega arith)))
 
 module _ (limits : Limits) (case a b : List ℕ) (form : bookForm a ≡ bookForm b) (count : cardCount a ≡ cardCount b)
     (cards : (k : ℕ) → k < cardCount b → card a k ≡ card b k) where
@@ -259,7 +246,7 @@ module _ (limits : Limits) (bounded : Bounded limits) (tbox : List ℕ) (empty :
       (mostSpecificAsked limits (unfoldedFile limits tbox case) again room ≡ mostSpecificAsked limits case book room)
       × (mostSpecificCards limits (unfoldedFile limits tbox case) again ≡ mostSpecificCards limits case book)
   same-when room e =
-      let (long, ok) = before-yes limits tbox case book room .0 e in
+      let (long, ok) = before-decides limits tbox case book room .yes .0 e in
       let formed = unfolded-form limits bounded tbox case book ok ∙ sym (ok .form) in
       let count = unfolded-count limits bounded tbox case book ok in
       let each : (k : ℕ) → k < cardCount book → card again k ≡ card book k =

@@ -1,6 +1,6 @@
 -- What is asked of given pictures under a definitions book before the first 14.
 --   PreparedUnder            a book and the given pictures of which all that is answered yes
---   ReadNo, UnderNo          the first no: 2 to 13 of a given picture; else a question of the definitions book
+--   ReadNo, UnderNo, LentNo  the first no: 2 to 13 of a given picture; else a question of the definitions book; with 1
 --   reads-decides            2 to 13 of pictures in turn
 --   under-decides, under-yes     all yes exactly of such a book and pictures, and the first no is exactly that; its
 --                            first half
@@ -8,8 +8,7 @@
 --   lent-short               1 is answered no
 --   under-refuses, lent-refuses  what every refusal has
 --   acceptable-prepared      two pictures as conditions 2 and 3 suppose them under a book are such,
---   acceptable-unfolded      and unfolded they are as the conditions suppose them without one;
---   unfolded-acceptable      and back
+--   acceptable-unfolded      and unfolded they are as the conditions suppose them without one
 --   covers-same              covering of two such pictures under the book is that of the unfolded ones
 use Prim.Native.Nat.{ℕ}
 use mathlib.Core.Bool.{Bool, false, true}
@@ -51,7 +50,12 @@ module _ (limits : Limits) where
   abbrev pub UnderNo : List ℕ → List Picture → Refusal → Type 0
   UnderNo tbox given r = ReadNo given r ⊎ (AllOf Reads given × DefinitionsNo limits tbox given r)
 
-  pub reads-decides : (given : List Picture) → Decides (askedOf (readOf limits) given) (AllOf Reads given) (ReadNo given)
+  -- with 1; the argument after the book and the pictures says whether the buffers are long enough
+  abbrev pub LentNo : List ℕ → List Picture → Bool → Refusal → Type 0
+  LentNo tbox given enough r = ((enough ≡ false) × (r ≡ shortBuffer)) ⊎ ((enough ≡ true) × UnderNo tbox given r)
+
+  pub reads-decides : (given : List Picture) →
+      Decides (askedOf (readOf limits) given) (AllOf Reads given) (ReadNo given)
   reads-decides =
       of-decides (readOf limits) Reads (λ p. Unreadable limits (p .input) (p .file))
       (λ p. read-decides limits (p .input) (p .file))
@@ -72,8 +76,7 @@ module _ (limits : Limits) where
     under-yes = under-decides .yes
 
     pub lent-decides : (enough : Bool) → Decides (lentUnder limits enough tbox given)
-        ((enough ≡ true) × PreparedUnder limits tbox given)
-        (λ r. ((enough ≡ false) × (r ≡ shortBuffer)) ⊎ ((enough ≡ true) × UnderNo tbox given r))
+        ((enough ≡ true) × PreparedUnder limits tbox given) (LentNo tbox given enough)
     unfolding lentUnder
     lent-decides enough =
         and-decides (roomAsked enough) (underAsked limits tbox given) (asked-decides enough shortBuffer)
@@ -134,18 +137,6 @@ module _ (limits : Limits) where
           first-few = ok .first-few;
           second-few = ok .second-few;
         }
-
-    pub unfolded-acceptable : PreparedUnder limits tbox (pair first second) → Acceptable limits p q →
-        AcceptableUnder limits tbox first second
-    unfolded-acceptable ok base = record {
-      definable = ok .definable;
-      first-readable = ok .readable .0;
-      second-readable = ok .readable .1 .0;
-      first-unfolds = ok .unfolds .0;
-      second-unfolds = ok .unfolds .1 .0;
-      first-few = base .first-few;
-      second-few = base .second-few;
-    }
 
     pub covers-same : Bounded limits → PreparedUnder limits tbox (pair first second) →
         CoversUnder limits tbox second first ↔ Covers limits q p

@@ -1,6 +1,8 @@
--- The calls under a definitions book.
+-- The laws of the calls under a definitions book, by subject.
+pub mod AgainstShortcuts
 pub mod Givens
 pub mod Calls
+pub mod Orders
 pub mod Answers
 pub mod Conditions
 pub mod Commons

@@ -4,8 +4,7 @@
 --                                  book
 --   PreparedBook                   that is answered yes
 --   AcceptableBookUnder            and so is 14, of the unfolded case and cards
---   unfoldedCards, unfoldedBook    the book of the unfolded cards, in the same order: a list to speak of, which is never
---                                  made
+--   unfoldedCards, unfoldedBook    the book of the unfolded cards, in the same order: a list to speak of, never made
 --   MostSpecificUnder              card n is nearest, with covering under definitions
 --   mostSpecificUnder, mostSpecificWorkUnder   the answer and the work space: those of the call without a definitions
 --                                  book, for the unfolded case and the unfolded cards

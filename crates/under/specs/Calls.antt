@@ -1,6 +1,6 @@
 -- The answers of the calls under a definitions book, and what the buffers hold then: what is asked before the first 14,
--- and then the call without a book (normal, subsumption, lcs, evidence: specs/Call) on the unfolded pictures. A no before
--- the first 14 writes nothing.
+-- and then the call without a book (normal, subsumption, lcs, evidence: specs/Call) on the unfolded pictures. A no
+-- before the first 14 writes nothing.
 --   normalizeUnder, normalizeResultUnder                       the normal table
 --   subsumesUnder, subsumesWorkUnder, subsumesResultUnder      the verdict with evidence
 --   lcsUnder, lcsWorkUnder, lcsResultUnder                     the common picture
@@ -41,7 +41,8 @@ module _ (limits : Limits) (tbox : List ℕ) where
     normalizeBefore room = lentUnder limits (leb (pictureSize limits) room) tbox (one picture)
 
     unfoldable pub normalizeUnder : ℕ → Normalized
-    normalizeUnder room = onAsked normalized.Refused (normalizeBefore room) (normalizeAnswer limits (unfolded picture) room)
+    normalizeUnder room =
+        onAsked normalized.Refused (normalizeBefore room) (normalizeAnswer limits (unfolded picture) room)
 
     unfoldable pub normalizeResultUnder : List ℕ → List ℕ
     normalizeResultUnder out = kept (normalizeBefore (length out)) (normalizeResult limits (unfolded picture) out) out

@@ -1,5 +1,5 @@
--- 003, Definition 2, under a definitions book: "every picture", there and in later requests, "means one that excludes no
--- defined name"; so do the descriptions here.
+-- 003, Definition 2, under a definitions book: "every picture", there and in later requests, "means one that excludes
+-- no defined name"; so do the descriptions here.
 --   DescriptionCoversUnder    a concept covers a picture, in every interpretation that respects the book
 --   LeastCommonUnder          a picture file is the least common subsumer of two pictures under a book
 use Prim.Native.Nat.{ℕ, _<_}
@@ -28,8 +28,8 @@ pub record LeastCommonUnder (limits : Limits) (tbox first second : List ℕ) (n 
   -- "the common picture covers both inputs,"
   pub covers-first : CoversUnder limits tbox picture first
   pub covers-second : CoversUnder limits tbox picture second
-  -- "and every picture that covers both covers it;" every picture that excludes no defined name, also one that would not
-  -- pass 29 or 30
+  -- "and every picture that covers both covers it;" every picture that excludes no defined name, also one that would
+  -- not pass 29 or 30
   pub least : (other : List ℕ) → Readable limits other → excludesNone tbox other ≡ true →
       CoversUnder limits tbox other first → CoversUnder limits tbox other second → CoversUnder limits tbox other picture
   -- 003, Definition 2: so does every concept description over the 64 names and 32 roles that excludes none, of any size

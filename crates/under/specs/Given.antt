@@ -3,8 +3,8 @@
 --   one, pair         the pictures that a call is given: one, which is the first input; two
 --   underAsked        2 to 13 of the given pictures in turn, then the questions of the definitions book
 --   lentUnder         1, and those. The argument after the limits says whether the buffers are long enough
---   AcceptableUnder   "Conditions 2 and 3 suppose 25 to 30, and 2 to 13 for the definitions' pictures, answered yes", and
---                     as before 2 to 13 for both pictures; 14 is asked of the unfolded ones
+--   AcceptableUnder   "Conditions 2 and 3 suppose 25 to 30, and 2 to 13 for the definitions' pictures, answered yes",
+--                     and as before 2 to 13 for both pictures; 14 is asked of the unfolded ones
 use Prim.Native.Nat.{_≤_, ℕ}
 use mathlib.Core.Bool.{Bool}
 use mathlib.Core.List.{List, [], _∷_}

@@ -1,38 +1,34 @@
 -- Definitions hung to a row by rising name. The laws of the loop.
 --   namesFrom                          the names of a set from a name on, rising
---   Remaining                          the names that are left, of which the lowest is known
---   remaining-start, remaining-next    at the start, and with the lowest one struck out
+--   names-first, names-after           they begin with the lowest; after it with the next
 --   readable-copies, readable-source   the rows of a readable picture can be copied
 --   hung-most                          there are never more rows than one beyond the limit
 --   hung-of                            a picture that was found, by what it is
 --   hang-capped                        one definition more
 --   Onward                             once the names that are left are attached, all are
 --   onward-start, onward-next, onward-end
-use Prim.Native.Nat.{_+_, _-_, _<_, _^_, _≤_, suc, zero, ℕ}
-use borrow.Author.Tests.{eq-eqb, le-ltb, lt-ltb, ltb-false, ltb-true, ne-eqb}
-use lib.Dec.{T, eqb, ltb}
+use Prim.Native.Nat.{_+_, _-_, _<_, _≤_, suc, ℕ}
+use borrow.Author.Tests.{ltb-false, ltb-true, ne-eqb}
+use lib.Dec.{ltb}
 use lib.ListN.{getD, length, length-append}
-use lib.Pow.{pow-mono}
-use mathlib.Core.Bool.{Bool, _&&_, false, false≢true, not, true}
-use mathlib.Core.List.{List, [], _++_, _∷_}
+use mathlib.Core.Bool.{false, true}
+use mathlib.Core.List.{List, _++_, _∷_}
 use mathlib.Core.Logic.{_⊎_, inl, inr, ⊎-elim}
-use mathlib.Core.Path.{_∙_, _≡_, ap, ap₂, refl, subst, sym}
-use native.Mathlib.Nat.{eq-or-lt-of-le}
+use mathlib.Core.Path.{_∙_, _≡_, ap, subst, sym}
 use native.Mathlib.Omega.{arith}
-use Rattle.table.specs.Bounds.{Bounded, maxRows}
+use Rattle.table.specs.Bounds.{Bounded}
 use Rattle.table.specs.Fields.{kindOf}
 use Rattle.table.specs.Layout.{nameCount}
-use Rattle.table.specs.NameSet.{complement, has, intersection}
+use Rattle.table.specs.NameSet.{has}
 use Rattle.table.specs.Pick.{pick}
 use Rattle.table.specs.declared.layout.Limits.{Limits}
 use Rattle.table.proofs.Bools.{by-test, false-is}
-use Rattle.table.proofs.NameSets.{has-complement, has-intersection, has-power}
 use Rattle.ale.specs.PictureSignature.{pictureSignature}
 use Rattle.ale.specs.Rows.{filterBelow, filterFrom}
 use Rattle.ale.specs.Table.{Table}
 use Rattle.ale.proofs.RowLists.{filterFrom-none, filterFrom-split}
 use Rattle.tbox.specs.Definitions.{Definitions}
-use Rattle.tbox.specs.Unfold.{Origin, attach, copies, hung, parentIn}
+use Rattle.tbox.specs.Unfold.{Origin, attach, hung, parentIn}
 use Rattle.tbox.proofs.Origins.{copies-length}
 use Rattle.picture.specs.Readable.{Readable, rowCount}
 use Rattle.picture.proofs.Readables.{
@@ -43,11 +39,13 @@ use Rattle.picture.proofs.Readables.{
   readable-parent,
   readable-some,
 }
-use Rattle.meaning.specs.File.{codeAt, kindCode, rowsFrom}
+use Rattle.definition_parts.proofs.NameWalks.{Lowest, Struck, Walk, walk-between, walk-held, walk-later}
+use Rattle.meaning.specs.File.{kindCode, rowsFrom}
 use Rattle.meaning.specs.Meaning.{kindAt, pictureTable}
 use Rattle.definition_parts.specs.Parts.{partAt}
-use Rattle.unfold_rows.specs.Copies.{Hung, Source, prefix}
-use Rattle.unfold_rows.specs.Growing.{Capped, Pictures, Standing, mixed}
+use Rattle.table_rows.specs.Rows.{prefix}
+use Rattle.unfold_rows.specs.Copies.{Hung, Source}
+use Rattle.unfold_rows.specs.Growing.{Capped, Pictures, mixed}
 use Rattle.unfold_rows.proofs.Bridge.{Copyable, kind-back}
 use Rattle.unfold_rows.proofs.Mixed.{hung-written}
 
@@ -55,14 +53,6 @@ use Rattle.unfold_rows.proofs.Mixed.{hung-written}
 
 abbrev pub namesFrom : ℕ → ℕ → List ℕ
 namesFrom taken o = filterFrom (has taken) o (nameCount - o)
-
--- what `Names::first` says of a set
-abbrev Lowest : ℕ → ℕ → Type 0
-Lowest a r = (r ≤ nameCount) × (((k : ℕ) → k < r → has a k ≡ false) × (r < nameCount → has a r ≡ true))
-
-pub record Remaining (taken left name : ℕ) : Type 0 where
-  pub lowest : Lowest left name
-  pub same : (k : ℕ) → name ≤ k → k < nameCount → has left k ≡ has taken k
 
 names-skip : (taken a r : ℕ) → a ≤ r → r ≤ nameCount → ((k : ℕ) → a ≤ k → k < r → has taken k ≡ false) →
     namesFrom taken a ≡ namesFrom taken r
@@ -77,60 +67,17 @@ names-next taken n l h =
     ∙ ap (λ b. pick b (n ∷ filterFrom (has taken) (suc n) (nameCount - (n + 1))) (filterFrom (has taken) (suc n) (nameCount - (n + 1)))) h
     ∙ ap (λ z. n ∷ filterFrom (has taken) z (nameCount - (n + 1))) (let e : suc n ≡ n + 1 = omega arith in e)
 
-pub remaining-start : (taken r : ℕ) → Lowest taken r →
-    Remaining taken taken r × (namesFrom taken 0 ≡ namesFrom taken r)
-remaining-start taken r h = (
-  record { lowest = h; same = λ k a b. refl },
-  names-skip taken 0 r (omega arith) (h .0) (λ k a b. h .1 .0 k b),
-)
+pub names-first : (taken r : ℕ) → Lowest taken r → namesFrom taken 0 ≡ namesFrom taken r
+names-first taken r h = names-skip taken 0 r (omega arith) (h .0) (λ k a b. h .1 .0 k b)
 
--- the lowest struck out
-struck : (left name o c next k : ℕ) → name < nameCount → o ≡ 2 ^ name → c ≡ complement o → next ≡ intersection left c →
-    has next k ≡ (has left k && (ltb k nameCount && not (eqb k name)))
-struck left name o c next k l p q e =
-    let small : 2 ^ name ≤ 2 ^ 63 = pow-mono {j = 63} (omega arith) in
-    ap (λ z. has z k) e ∙ has-intersection left c k
-    ∙ ap (λ z. has left k && z)
-    (ap (λ z. has z k) (q ∙ ap complement p) ∙ has-complement (2 ^ name) k (omega arith)
-    ∙ ap (λ z. ltb k nameCount && not z) (has-power name k))
-
-struck-here : (a b c : Bool) → c ≡ true → (a && (b && not c)) ≡ false
-struck-here true true c e = ap not e
-struck-here true false c e = refl
-struck-here false b c e = refl
-
-struck-none : (a b : Bool) → a ≡ false → (a && b) ≡ false
-struck-none a b e = ap (λ z. z && b) e
-
-struck-other : (a b c : Bool) → b ≡ true → c ≡ false → (a && (b && not c)) ≡ a
-struck-other true b c p q = ap₂ (λ x y. x && not y) p q
-struck-other false b c p q = refl
-
-pub remaining-next : (taken left name o c next r : ℕ) → Remaining taken left name → name < nameCount → o ≡ 2 ^ name →
-    c ≡ complement o → next ≡ intersection left c → Lowest next r →
-    Remaining taken next r × (name < r) × (namesFrom taken name ≡ name ∷ namesFrom taken r)
-remaining-next taken left name o c next r h l p q e low =
-    let bit : (k : ℕ) → has next k ≡ (has left k && (ltb k nameCount && not (eqb k name))) =
-    λ k. struck left name o c next k l p q e in
-    let gone : (k : ℕ) → k ≤ name → has next k ≡ false =
-    λ k b. ⊎-elim
-    (λ (z : k ≡ name). bit k ∙ struck-here (has left k) (ltb k nameCount) (eqb k name) (eq-eqb k name z))
-    (λ (z : k < name). bit k ∙ struck-none (has left k) (ltb k nameCount && not (eqb k name)) (h .lowest .1 .0 k z))
-    (eq-or-lt-of-le {n = k} {m = name} b) in
-    let kept : (k : ℕ) → name < k → k < nameCount → has next k ≡ has taken k =
-    λ k a b. bit k
-    ∙ struck-other (has left k) (ltb k nameCount) (eqb k name) (lt-ltb k nameCount b) (ne-eqb k name (λ z. omega arith))
-    ∙ h .same k (omega arith) b in
-    let later : name < r =
-    by-test (ltb name r) (λ t. ltb-true name r t)
-    (λ f. let b = ltb-false name r f in absurd (false≢true (sym (gone r (omega arith)) ∙ low .1 .1 (omega arith)))) in
-    let here : has taken name ≡ true = sym (h .same name (omega arith) l) ∙ h .lowest .1 .1 l in (
-      record { lowest = low; same = λ k a b. kept k (omega arith) b },
-      later,
-      names-next taken name l here
-          ∙ ap (λ z. name ∷ z)
-          (names-skip taken (name + 1) r (omega arith) (low .0) (λ k a b. sym (kept k (omega arith) (omega (arith, low .0))) ∙ low .1 .0 k b)),
-    )
+pub names-after : (taken left name next r : ℕ) → Walk taken left name → name < nameCount → Struck left name next →
+    Lowest next r → namesFrom taken name ≡ name ∷ namesFrom taken r
+names-after taken left name next r w l s low =
+    let later = walk-later taken left name next r w l s low in
+    names-next taken name l (walk-held taken left name w l)
+    ∙ ap (λ z. name ∷ z)
+    (names-skip taken (name + 1) r (omega arith) (low .0)
+    (λ k a b. walk-between taken left name next r w l s low k (omega arith) b))
 
 -- ---- rows that can be copied
 

@@ -12,17 +12,11 @@ use Rattle.table.proofs.Rows.{length-rowOf}
 use Rattle.table.specs.Fields.{excludedOf, impossibleOf, kindOf, parentOf, roleOf, rowOf, wantedOf}
 use Rattle.table.specs.Layout.{«place», nameCount, rowSize}
 use Rattle.table.specs.Put.{put}
+use Rattle.table_rows.proofs.Prefixes.{prefix-put}
 use Rattle.ale.specs.PictureSignature.{pictureSignature}
 use Rattle.tbox.specs.Unfold.{parentIn}
-use Rattle.unfold_rows.specs.Copies.{Added, copyBytes, copyOf, prefix}
-
--- as in normal_writer, proofs/Prefixes
-pub take-put : (d : List ℕ) (at : ℕ) (s : List ℕ) (n : ℕ) → at ≤ length d → n ≡ at + length s → take n (put d at s) ≡ take at d ++ s
-unfolding put
-take-put d at s n h e = take-at (take at d ++ s) _ n (length-append (take at d) s ∙ ap (λ (k : ℕ). k + length s) (length-take-le at d h) ∙ sym e)
-
-pub prefix-put : (d : List ℕ) (n : ℕ) (row : List ℕ) → place n 0 ≤ length d → length row ≡ rowSize → prefix (n + 1) (put d (place n 0) row) ≡ prefix n d ++ row
-prefix-put d n row h l = take-put d (place n 0) row (place (n + 1) 0) h (omega arith)
+use Rattle.table_rows.specs.Rows.{prefix}
+use Rattle.unfold_rows.specs.Copies.{Added, copyBytes, copyOf}
 
 pub copy-length : (s : List ℕ) (k p : ℕ) → length (copyOf s k p) ≡ rowSize
 copy-length s k p = length-rowOf p (kindOf s k) (roleOf s k) (impossibleOf s k) (wantedOf s k % 2 ^ nameCount) (excludedOf s k % 2 ^ nameCount)

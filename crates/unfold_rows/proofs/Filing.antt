@@ -11,8 +11,8 @@ use Rattle.table.specs.Layout.{endSize, «place»}
 use Rattle.table.specs.Put.{put}
 use Rattle.table.proofs.Puts.{length-put}
 use Rattle.table.proofs.Rows.{length-endBytes}
+use Rattle.table_rows.proofs.Prefixes.{take-put}
 use Rattle.unfold_rows.specs.Growing.{Filed, Unfolded}
-use Rattle.unfold_rows.proofs.Copying.{take-put}
 
 module _ (picture tbox starts : List ℕ) (defined limit r : ℕ) (d e : List ℕ)
     (unfolded : Unfolded picture tbox starts defined limit r d e) where

@@ -24,7 +24,8 @@ use Rattle.tbox.specs.Unfold.{Origin, copies, hung, parentIn, rowsFor, unfolded
 use Rattle.meaning.specs.File.{rowAt, rowsFrom}
 use Rattle.meaning.specs.Meaning.{pictureTable}
 use Rattle.meaning.proofs.Files.{length-rowAt, length-rowsFrom, rowsFrom-append}
-use Rattle.unfold_rows.specs.Copies.{Added, copyBytes, prefix}
+use Rattle.table_rows.specs.Rows.{prefix}
+use Rattle.unfold_rows.specs.Copies.{Added, copyBytes}
 use Rattle.unfold_rows.proofs.Bridge.{Copyable, copies-bytes, raw-length, rawRows}
 use Rattle.unfold_rows.specs.Growing.{mixed, rawRow}
 

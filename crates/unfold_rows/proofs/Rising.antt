@@ -46,7 +46,7 @@ use Rattle.tbox.specs.Unfold.{Origin, attach, originAt, takenBy, taking, unfold
 use Rattle.tbox.proofs.UnfoldedTables.{WantsNone, taken-idle, taking-idle}
 use Rattle.meaning.specs.File.{codeAt, markCode, rowAt, rowsFrom}
 use Rattle.definition_parts.specs.Parts.{Agrees, Opened}
-use Rattle.unfold_rows.specs.Copies.{prefix}
+use Rattle.table_rows.specs.Rows.{prefix}
 use Rattle.unfold_rows.specs.Growing.{Attached, Capped, Pictures, Rising, Standing, mixed, rawRow}
 use Rattle.unfold_rows.specs.Labels.{LabelRead, relabelled}
 use Rattle.unfold_rows.specs.Takings.{Shows, TakenIn}

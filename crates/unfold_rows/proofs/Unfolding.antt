@@ -24,7 +24,8 @@ use Rattle.picture.proofs.Readables.{readable-impossible, readable-root, readab
 use Rattle.meaning.specs.File.{rowsFrom}
 use Rattle.meaning.specs.Meaning.{pictureTable}
 use Rattle.definition_parts.specs.Parts.{Agrees}
-use Rattle.unfold_rows.specs.Copies.{Added, copyBytes, prefix}
+use Rattle.table_rows.specs.Rows.{prefix}
+use Rattle.unfold_rows.specs.Copies.{Added, copyBytes}
 use Rattle.unfold_rows.specs.Growing.{Capped, Risen, Standing, Unfolded, mixed}
 use Rattle.unfold_rows.proofs.Attaching.{readable-copies}
 use Rattle.unfold_rows.proofs.Bridge.{Copyable}

@@ -1,18 +1,18 @@
 -- Rows of a picture, copied into a table under construction.
 --   copyOf      row k of s as bytes, hung from row p
 --   copyBytes   n rows of s from row k on, each hung from what `up` makes of its parent
---   prefix      the bytes of the rows that a table under construction has
 --   Source      rows that are there, with parents that come first
 --   Added       rows that were written after those that are there
 --   Hangable    what is asked before a definition's rows are hung: there may be one row more than the limit already
 --   Hung        its rows but the root were added, or they are more than the limit
 use Prim.Native.Nat.{_%_, _+_, _-_, _<_, _^_, _≤_, suc, zero, ℕ}
-use lib.ListN.{length, take}
+use lib.ListN.{length}
 use mathlib.Core.List.{List, [], _++_}
 use mathlib.Core.Path.{_≡_}
 use Rattle.table.specs.Bounds.{maxRows}
 use Rattle.table.specs.Fields.{excludedOf, impossibleOf, kindOf, parentOf, roleOf, rowOf, wantedOf}
 use Rattle.table.specs.Layout.{nameCount, «place»}
+use Rattle.table_rows.specs.Rows.{prefix}
 use Rattle.ale.specs.PictureSignature.{pictureSignature}
 use Rattle.tbox.specs.Unfold.{parentIn}
 use Rattle.picture.specs.Readable.{rowCount}
@@ -24,9 +24,6 @@ copyOf s k p =
 unfoldable pub copyBytes : List ℕ → (ℕ → ℕ) → ℕ → ℕ → List ℕ
 copyBytes s up k zero = []
 copyBytes s up k (suc n) = copyBytes s up k n ++ copyOf s (k + n) (up (parentOf s (k + n)))
-
-abbrev pub prefix : ℕ → List ℕ → List ℕ
-prefix rows out = take (place rows 0) out
 
 pub record Source (s : List ℕ) (rows : ℕ) : Type 0 where
   pub some : 0 < rows

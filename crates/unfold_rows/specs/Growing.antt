@@ -27,7 +27,7 @@ use Rattle.picture.specs.Readable.{Readable, rowCount}
 use Rattle.meaning.specs.File.{fileOf, rowsFrom}
 use Rattle.meaning.specs.Meaning.{pictureTable}
 use Rattle.definition_parts.specs.Parts.{Agrees, Opened, partAt}
-use Rattle.unfold_rows.specs.Copies.{prefix}
+use Rattle.table_rows.specs.Rows.{prefix}
 
 abbrev pub rawRow : Origin pictureSignature → Row pictureSignature
 rawRow o =

@@ -4,6 +4,7 @@ use crate::copy::hang;
 use crate::relabel::label_of;
 use crate::relabel::relabel;
 use crate::take::take_in;
+use definition_parts::names::without;
 use definition_parts::part::definition;
 use table::layout::NAMES;
 use table::names::Names;
@@ -31,7 +32,7 @@ fn hang_all(
     let mut name = left.first();
     while name < NAMES {
         grown = hang(definition(tbox, starts, name), i, limit, out, grown);
-        left = left.intersection(Names::only(name).complement());
+        left = without(left, name);
         name = left.first();
     }
     grown

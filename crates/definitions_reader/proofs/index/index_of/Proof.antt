@@ -5,7 +5,7 @@ use borrow.Author.Needs.{needs}
 use denote.Ref.{now}
 use lib.ListN.{getD, length}
 use mathlib.Core.List.{List}
-use mathlib.Core.Path.{_∙_, _≡_, ap, refl, subst, sym}
+use mathlib.Core.Path.{_≡_, ap, refl, subst, sym}
 use Rattle.table.specs.Layout.{headSize, nameCount}
 use Rattle.table.specs.NameValues.{setOf}
 use Rattle.fields.specs.Form.{fieldPlace, mostFields}
@@ -110,9 +110,10 @@ returns : tie.Need-returns Inv-loop μ-loop
 returns c =
     let a = c .before .before .before .before in
     let loop = c .before .loop in
-    let all : loop .k ≡ definitionCount (now (a .args .tbox)) = omega (arith, loop .inv .most, a .pre .placed .counted) in
-    index-all (now (a .args .tbox)) (a .pre .form) _
-    (subst (IndexedTo (now (a .args .tbox)) (loop .starts) (setOf (loop .defined)) (loop .once)) all (loop .inv))
+    let t = now (a .args .tbox) in
+    let all : loop .k ≡ definitionCount t = omega (arith, loop .inv .most, a .pre .placed .counted) in
+    index-all t (a .pre .form) _
+    (subst (IndexedTo t (loop .starts) (setOf (loop .defined)) (loop .once)) all (loop .inv))
 
 pub index-of-spec : {M : Type 1} → statement M
 index-of-spec =

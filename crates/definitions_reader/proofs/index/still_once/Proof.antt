@@ -1,4 +1,4 @@
-use mathlib.Core.Path.{ap, sym}
+use mathlib.Core.Path.{ap}
 use mathlib.Core.Bool.{not}
 use borrow.Author.Needs.{needs}
 use Rattle.definitions_reader.proofs.index.still_once.Statement.{statement}

@@ -3,30 +3,33 @@ use Prim.Native.Nat.{_-_, _<_}
 use native.Mathlib.Omega.{arith}
 use borrow.Author.Needs.{needs}
 use denote.Ref.{now}
-use mathlib.Core.Path.{_∙_, _≡_, ap}
+use mathlib.Core.Path.{_∙_, _≡_, ap, sym}
+use Rattle.picture.proofs.ReadInTurn.{ReadTo, read-all, read-next, read-refused, read-start}
 use Rattle.picture.specs.Read.{answerOf}
 use Rattle.picture.specs.declared.answer.Input.the-variants.{Definition}
+use Rattle.definitions.specs.Asked.{readOf}
 use Rattle.definitions.specs.Form.{definitionCount, definitionFile}
-use Rattle.definitions_reader.proofs.ReadInTurn.{ReadTo, read-all, read-next, read-refused, read-start}
+use Rattle.definitions_reader.proofs.DefinitionsInTurn.{definitions-from}
 use Rattle.definitions_reader.proofs.readings.read_definitions.Statement.{statement}
 use Rattle.definitions_reader.proofs.readings.read_definitions.Tie as tie
 
 abbrev Inv-loop : tie.InvT-loop
-Inv-loop tbox fields limits k₀ k = ReadTo limits tbox k
+Inv-loop tbox fields limits k₀ k =
+    ReadTo limits Definition (definitionFile tbox) (definitionCount tbox) k
 
 abbrev μ-loop : tie.MeasureT-loop
 μ-loop tbox fields limits k₀ k = fields .count - k
 
 loop-holds : tie.Need-loop-holds Inv-loop μ-loop
-loop-holds c = read-start (c .before .args .limits) (now (c .before .args .tbox))
+loop-holds c =
+    let t = now (c .before .args .tbox) in
+    read-start (c .before .args .limits) Definition (definitionFile t) (definitionCount t)
 
 picture-of-requires : tie.Need-picture-of-requires Inv-loop μ-loop
 picture-of-requires c κs = (c .before .before .before .before .pre .1, c .if1 .taken)
 
 cast-t9 : tie.Need-cast-t9 Inv-loop μ-loop
-cast-t9 c =
-    let pre = c .before .before .before .before .before .pre in
-    omega (arith, c .before .if1 .taken, pre .1 .placed .located .most)
+cast-t9 c = search needs
 
 read-requires : tie.Need-read-requires Inv-loop μ-loop
 read-requires c κs = search needs
@@ -62,8 +65,10 @@ loop-again c =
     let args = c .before .before .before .before .before .before .before .before .args in
     let loop = c .before .before .before .before .before .before .loop in
     let told = c .enum-told .given in
-    read-next (args .limits) (now (args .tbox)) (loop .k) (loop .inv) (counted (c .before .before .before .before))
-    (c .before .before .read .result) (says (c .before .before)) (told .0 .0) (told .1)
+    let t = now (args .tbox) in
+    read-next (args .limits) Definition (definitionFile t) (definitionCount t) (loop .k) (loop .inv)
+    (counted (c .before .before .before .before)) (c .before .before .read .result) (says (c .before .before))
+    (told .0 .0) (told .1)
 
 enum-known-refusal : tie.Need-enum-known-refusal Inv-loop μ-loop
 enum-known-refusal c = search needs
@@ -73,16 +78,20 @@ returns c =
     let args = c .before .before .before .before .before .before .before .before .before .args in
     let loop = c .before .before .before .before .before .before .before .loop in
     let refusal = c .before .refusal .given in
-    read-refused (args .limits) (now (args .tbox)) (loop .k) (loop .inv)
+    let t = now (args .tbox) in
+    read-refused (args .limits) Definition (definitionFile t) (definitionCount t) (loop .k) (loop .inv)
     (counted (c .before .before .before .before .before)) (c .before .before .before .read .result)
     (says (c .before .before .before)) (refusal .0 .0) (refusal .1)
+    ∙ sym (definitions-from t (readOf (args .limits)) (definitionCount t) 0)
 
 returns-2 : tie.Need-returns-2 Inv-loop μ-loop
 returns-2 c =
     let start = c .before .before .before .before in
     let loop = c .before .before .loop in
-    read-all (start .args .limits) (now (start .args .tbox)) (loop .k) (loop .inv)
+    let t = now (start .args .tbox) in
+    read-all (start .args .limits) Definition (definitionFile t) (definitionCount t) (loop .k) (loop .inv)
     (omega (arith, c .if1 .left, start .pre .1 .placed .counted))
+    ∙ sym (definitions-from t (readOf (start .args .limits)) (definitionCount t) 0)
 
 pub read-definitions-spec : {M : Type 1} → statement M
 read-definitions-spec =

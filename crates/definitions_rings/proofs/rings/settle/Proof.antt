@@ -1,8 +1,11 @@
 -- Each defined name is asked once, and found where its uses are all in the set.
 -- `t1` is `uses`, which is indexed.
+use Prim.Native.Nat.{_-_}
 use native.Mathlib.Omega.{arith}
 use borrow.Author.Needs.{needs}
+use Rattle.table.specs.Layout.{nameCount}
 use Rattle.table.specs.NameValues.{setOf}
+use Rattle.definition_parts.proofs.NameWalks.{walk-later}
 use Rattle.definitions_rings.specs.Rings.{usesAt}
 use Rattle.definitions_rings.proofs.Settlings.{Settling, settling-done, settling-next, settling-start}
 use Rattle.definitions_rings.proofs.rings.settle.Statement.{statement}
@@ -13,7 +16,7 @@ Inv-loop done uses found₀ left₀ name₀ found left name =
     Settling (usesAt uses) (setOf left₀) (setOf done) (setOf found) (setOf left) name
 
 abbrev μ-loop : tie.MeasureT-loop
-μ-loop done uses found₀ left₀ name₀ found left name = setOf left
+μ-loop done uses found₀ left₀ name₀ found left name = nameCount - name
 
 none-requires : tie.Need-none-requires Inv-loop μ-loop
 none-requires c κs = search needs
@@ -37,15 +40,17 @@ settle-name-requires : tie.Need-settle-name-requires Inv-loop μ-loop
 settle-name-requires c κs = c .before .loop-test .taken
 
 without-requires : tie.Need-without-requires Inv-loop μ-loop
-without-requires c κs =
-    let low = c .before .before .loop-test .taken in
-    (low, c .before .before .before .loop .inv .walk .lowest .1 .1 low)
+without-requires c κs = c .before .before .loop-test .taken
 
 first-requires-2 : tie.Need-first-requires-2 Inv-loop μ-loop
 first-requires-2 c κs = search needs
 
 loop-less : tie.Need-loop-less Inv-loop μ-loop
-loop-less c = c .before .without .ensures .0
+loop-less c =
+    let turn = c .before .before .before .before in
+    let l = turn .before .loop in
+    let low = turn .loop-test .taken in
+    omega (arith, low, walk-later _ _ _ _ _ (l .inv .walk) low (c .before .without .ensures) (c .first2 .ensures))
 
 loop-again : tie.Need-loop-again Inv-loop μ-loop
 loop-again c =

@@ -1,12 +1,15 @@
 -- Each defined name comes once, and its set is kept.
+use Prim.Native.Nat.{_-_}
 use native.Mathlib.Omega.{arith}
 use borrow.Author.Needs.{needs}
 use denote.Ref.{now}
 use mathlib.Core.Bool.{true}
 use mathlib.Core.Path.{_≡_, refl}
 use Rattle.table.specs.NameSet.{has}
+use Rattle.table.specs.Layout.{nameCount}
 use Rattle.table.specs.NameValues.{setOf}
 use Rattle.definition_parts.proofs.Parts.{opened-has}
+use Rattle.definition_parts.proofs.NameWalks.{walk-held, walk-later}
 use Rattle.definitions_rings.proofs.UsesFound.{Finding, finding-done, finding-next, finding-start}
 use Rattle.definitions_rings.proofs.uses.find_uses.Statement.{statement}
 use Rattle.definitions_rings.proofs.uses.find_uses.Tie as tie
@@ -16,15 +19,12 @@ Inv-loop tbox starts defined uses₀ left₀ name₀ uses left name =
     Finding tbox starts (setOf defined) uses (setOf left) name
 
 abbrev μ-loop : tie.MeasureT-loop
-μ-loop tbox starts defined uses₀ left₀ name₀ uses left name = setOf left
+μ-loop tbox starts defined uses₀ left₀ name₀ uses left name = nameCount - name
 
 -- the name that is next is defined
-held : (c : tie.In-loop Inv-loop μ-loop) → has (setOf (c .before .loop .left)) (c .before .loop .name) ≡ true
-held c = c .before .loop .inv .walk .lowest .1 .1 (c .loop-test .taken)
-
 in-book : (c : tie.In-loop Inv-loop μ-loop) →
     has (setOf (c .before .before .before .before .before .args .defined)) (c .before .loop .name) ≡ true
-in-book c = c .before .loop .inv .walk .within (c .before .loop .name) (c .loop-test .taken) (held c)
+in-book c = walk-held _ _ _ (c .before .loop .inv .walk) (c .loop-test .taken)
 
 none-requires : tie.Need-none-requires Inv-loop μ-loop
 none-requires c κs = search needs
@@ -56,13 +56,17 @@ array-set-from-uses : tie.Need-array-set-from-uses Inv-loop μ-loop
 array-set-from-uses c = c .before .before .loop-test .taken
 
 without-requires : tie.Need-without-requires Inv-loop μ-loop
-without-requires c κs = (c .before .before .loop-test .taken, held (c .before .before))
+without-requires c κs = c .before .before .loop-test .taken
 
 first-requires-2 : tie.Need-first-requires-2 Inv-loop μ-loop
 first-requires-2 c κs = search needs
 
 loop-less : tie.Need-loop-less Inv-loop μ-loop
-loop-less c = c .before .without .ensures .0
+loop-less c =
+    let turn = c .before .before .before .before in
+    let l = turn .before .loop in
+    let low = turn .loop-test .taken in
+    omega (arith, low, walk-later _ _ _ _ _ (l .inv .walk) low (c .before .without .ensures) (c .first2 .ensures))
 
 loop-again : tie.Need-loop-again Inv-loop μ-loop
 loop-again c =

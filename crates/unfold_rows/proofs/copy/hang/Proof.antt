@@ -41,7 +41,7 @@ loop-holds : tie.Need-loop-holds Inv-loop μ-loop
 unfolding rowCount
 loop-holds c =
     let start = c .before .before .before in
-    (refl, omega arith, start .pre .source .some, added-none (now (start .args .out)) (now (start .args .s)) (parentIn pictureSignature (start .args .i) (start .args .table .rows)) 1 (start .args .table .rows))
+    (omega arith, omega arith, start .pre .source .some, added-none (now (start .args .out)) (now (start .args .s)) (parentIn pictureSignature (start .args .i) (start .args .table .rows)) 1 (start .args .table .rows))
 
 parent-requires : tie.Need-parent-requires Inv-loop μ-loop
 unfolding rowCount

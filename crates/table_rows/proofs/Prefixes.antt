@@ -1,4 +1,5 @@
 -- The rows that a table under construction has: its first bytes.
+--   take-put        bytes put at a place, and what stands before them
 --   prefix-put      a row put after them is one more
 --   prefix-before   fewer rows of a longer prefix
 use Prim.Native.Nat.{_*_, _+_, _≤_, ℕ}
@@ -9,7 +10,7 @@ use mathlib.Core.Path.{_≡_, ap, sym, _∙_}
 use native.Mathlib.Omega.{arith}
 use Rattle.table.specs.Layout.{«place», rowSize}
 use Rattle.table.specs.Put.{put}
-use Rattle.normal_writer.specs.Grown.{prefix}
+use Rattle.table_rows.specs.Rows.{prefix}
 
 pub take-put : (d : List ℕ) (at : ℕ) (s : List ℕ) (n : ℕ) → at ≤ length d → n ≡ at + length s → take n (put d at s) ≡ take at d ++ s
 unfolding put
