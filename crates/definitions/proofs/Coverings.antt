@@ -35,7 +35,7 @@ use Rattle.ale.specs.Structure.{Fits}
 use Rattle.ale.specs.Tree.{Tree}
 use Rattle.tbox.proofs.Counts.{first-found}
 use Rattle.tbox.proofs.Coverings.{fits-unfolded, subsumed-unfolded, unfolded-subsumed}
-use Rattle.tbox.specs.Covering.{Respects, SubsumedUnder, wholeTree}
+use Rattle.tbox.specs.Theory.{Respects, SubsumedUnder, wholeTree}
 use Rattle.tbox.specs.Definitions.{Definitions}
 use Rattle.fields.specs.Form.{fieldValue, fieldsForm}
 use Rattle.picture.specs.Readable.{Readable}

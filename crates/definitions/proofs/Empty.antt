@@ -24,7 +24,8 @@ use Rattle.table.specs.declared.layout.Limits.{Limits}
 use Rattle.ale.proofs.Tests.{clash}
 use Rattle.ale.specs.PictureSignature.{NameSet, pictureSignature}
 use Rattle.tbox.proofs.Acyclicity.{acyclic-exactly}
-use Rattle.tbox.specs.Acyclic.{Chain, acyclic, more, one}
+use Rattle.tbox.specs.Acyclic.{acyclic}
+use Rattle.tbox.specs.Theory.{Chain, more, one}
 use Rattle.fields.specs.Form.{fieldCount, fieldPlace, fieldWith, fieldsForm, fieldsFrom}
 use Rattle.picture.specs.Readable.{Readable}
 use Rattle.picture.specs.declared.answer.Asked.the-variants.{Yes}

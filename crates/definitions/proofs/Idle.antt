@@ -28,7 +28,7 @@ use Rattle.ale.specs.PictureSignature.{NameSet, pictureSignature}
 use Rattle.ale.specs.Table.{Table, treeOf}
 use Rattle.tbox.proofs.Origins.{copies-length}
 use Rattle.tbox.proofs.UnfoldedTables.{WantsNone, grown-idle, rowsOfFrom, unfolded-idle}
-use Rattle.tbox.specs.Covering.{wholeTree}
+use Rattle.tbox.specs.Theory.{wholeTree}
 use Rattle.tbox.specs.Unfold.{grown, unfoldRows}
 use Rattle.picture.proofs.Depths.{depth-same}
 use Rattle.picture.proofs.Readables.{readable-depth, readable-most, readable-some}

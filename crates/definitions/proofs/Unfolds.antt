@@ -36,8 +36,8 @@ use Rattle.tbox.proofs.Coverings.{Unfoldable, unfolded-some}
 use Rattle.tbox.proofs.Origins.{Sound}
 use Rattle.tbox.proofs.UnfoldedTables.{unfolded-known, unfolded-own, unfolded-parents}
 use Rattle.tbox.proofs.Unfoldings.{rowsFor-length}
-use Rattle.tbox.specs.Covering.{wholeTree}
-use Rattle.tbox.specs.Definitions.{Definitions, ExcludesNone}
+use Rattle.tbox.specs.Theory.{ExcludesNone, wholeTree}
+use Rattle.tbox.specs.Definitions.{Definitions}
 use Rattle.tbox.specs.Unfold.{grown, unfoldRows}
 use Rattle.picture.proofs.Depths.{depth-under}
 use Rattle.picture.proofs.Readables.{readable-root-parent, readable-root-role, readable-some}

@@ -16,8 +16,8 @@ use Rattle.ale.specs.Interpretation.{Interpretation, structureOf}
 use Rattle.ale.specs.Tree.{exists}
 use Rattle.ale.proofs.CasesTree.{Sig, excludes, none, three}
 use Rattle.ale.proofs.Structures.{satisfies-emptyLabel}
-use Rattle.tbox.specs.Covering.{Respects}
-use Rattle.tbox.specs.Definitions.{Definitions, ExcludesNone, NegatesNone}
+use Rattle.tbox.specs.Theory.{ExcludesNone, Respects}
+use Rattle.tbox.specs.Definitions.{Definitions, NegatesNone}
 use Rattle.tbox.proofs.CasesBooks.{define, labelled, picture, plain, root, seven}
 
 -- one individual, of which some names hold, and no pairs

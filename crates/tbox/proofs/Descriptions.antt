@@ -17,7 +17,7 @@ use Rattle.ale.proofs.CountermodelNames.{Whatever}
 use Rattle.ale.proofs.NameLaws.{none-has}
 use Rattle.ale.proofs.Tests.{clash}
 use Rattle.tbox.specs.Acyclic.{acyclic}
-use Rattle.tbox.specs.Covering.{Respects, SubsumedUnder, wholeTree}
+use Rattle.tbox.specs.Theory.{Respects, SubsumedUnder, wholeTree}
 use Rattle.tbox.specs.Definitions.{Definitions, NegatesNone}
 use Rattle.tbox.specs.Unfold.{unfolded}
 use Rattle.tbox.proofs.Coverings.{Undefined, Unfoldable}

@@ -32,7 +32,7 @@ use Rattle.ale.specs.Tree.{Forest, Kind, Label, RolesKnown, Tree, cons, exists,
 use Rattle.tbox.proofs.Coverings.{Undefined}
 use Rattle.tbox.proofs.Descriptions.{ConceptSubsumedUnder, least-under-concepts}
 use Rattle.tbox.proofs.Expansions.{ExcludesNoneAll, ExcludesNoneTree, tree-excludes}
-use Rattle.tbox.specs.Covering.{wholeTree}
+use Rattle.tbox.specs.Theory.{wholeTree}
 use Rattle.tbox.specs.Definitions.{Definitions, NegatesNone}
 use Rattle.picture.proofs.Keeping.{kept-yes}
 use Rattle.picture.proofs.Orders.{given}
