@@ -7,8 +7,9 @@
 --   book-unfolded                it and the unfolded case are acceptable without a definitions book
 --   case-covered, card-covered   covering under the definitions book is covering of the unfolded ones
 --   most-specific-under          so a card is nearest under it exactly if it is nearest there
---   most-specific-all, most-specific-work-all      what is asked in all, then the word; the work space
---   book-order                   after what is asked before the first 14 comes 14 alone, of the unfolded case and cards
+--   bookAll, most-specific-all, most-specific-work-all   what is asked in all; then the word; the work space
+--   cardFew, book-order          14 of an unfolded card; after what is asked before the first 14 comes 14 alone, of the
+--                                unfolded case and cards
 --   BookNo, book-decides, book-refuses   so all is yes exactly with room and of an acceptable book; the first no; what
 --                                every refusal has
 --   most-specific-same, most-specific-work-same    where a book is prepared, the call is that without a definitions

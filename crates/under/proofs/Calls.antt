@@ -4,12 +4,15 @@
 --                                  it was
 --   on-and, kept-and, and-assoc    an answer, and a buffer, after two lots of questions; three lots
 --   same-answer, same-buffer       both, where what is asked before the first 14 is answered yes, and 1 is asked again
---   normalize-all, normalize-result-all                    what is asked in all, then the length; the normal table
+--   normalizeAll, pairAll, verifyLentAll, lcsAll, verifyAll    what is asked in all: of one picture; of two to 14, with
+--                                  a result buffer and for a check; with 15; with 16 to 23
+--   normalize-all, normalize-result-all                    all that, then the length; the normal table
 --   subsumes-all, subsumes-work-all, subsumes-result-all   .. the verdict; both tables; the evidence
 --   lcs-all, lcs-work-all, lcs-result-all                  .. the length; both tables, before 15; the common picture
 --   verify-all, verify-work-all                            .. the kind; both tables, before 16 to 23
 --   normalize-same, normalize-result-same                  the call without a book, on the unfolded picture
---   subsumes-same .. verify-work-same                      of the two
+--   subsumes-same, subsumes-work-same, subsumes-result-same, lcs-same, lcs-work-same, lcs-result-same, verify-same,
+--   verify-work-same                                       of the two
 use Prim.Native.Nat.{ℕ}
 use lib.Dec.{leb}
 use lib.ListN.{length}

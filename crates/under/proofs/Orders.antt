@@ -1,6 +1,7 @@
 -- "Checks, after all reading and before the first 14" (02, U3): what a call under a definitions book asks in all, up to
 -- 14. The unfolded pictures are readable, so reading them refuses nothing: after what is asked before the first 14
 -- comes 14 alone, of each of them.
+--   same-after                  what comes after a yes
 --   one-order, pair-order       so of one picture; of two, with any buffers
 --   OneNo, PairNo               the first no
 --   one-decides, pair-decides   all yes exactly with room and of an acceptable picture or pair; the first no exactly

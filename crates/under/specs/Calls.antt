@@ -1,6 +1,7 @@
 -- The answers of the calls under a definitions book, and what the buffers hold then: what is asked before the first 14,
 -- and then the call without a book (normal, subsumption, lcs, evidence: specs/Call) on the unfolded pictures. A no
 -- before the first 14 writes nothing.
+--   normalizeBefore, pairBefore, verifyBefore                  1, and what is asked before the first 14
 --   normalizeUnder, normalizeResultUnder                       the normal table
 --   subsumesUnder, subsumesWorkUnder, subsumesResultUnder      the verdict with evidence
 --   lcsUnder, lcsWorkUnder, lcsResultUnder                     the common picture
