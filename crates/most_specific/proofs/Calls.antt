@@ -141,7 +141,8 @@ module _ (limits : Limits) (case book : List ℕ) where
   pub form-refused : bookForm book ≡ false → afterCase limits case book ≡ No noBook
   form-refused bad = rw bad
 
-  module _ (good : bookForm book ≡ true) (cards : Fields) (placed : Placed cardTag book cards) (a : Asked) (is : a ≡ askedFrom (cardRead limits book) (cards .count) 0) where
+  module _ (good : bookForm book ≡ true) (cards : Fields) (placed : Placed cardTag book cards)
+      (a : Asked) (is : a ≡ askedFrom (cardRead limits book) (cards .count) 0) where
     cards-are : askedFrom (cardRead limits book) (cardCount book) 0 ≡ a
     cards-are = ap (λ (n : ℕ). askedFrom (cardRead limits book) n 0) (sym (placed .counted)) ∙ sym is
 

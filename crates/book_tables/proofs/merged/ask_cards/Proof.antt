@@ -54,7 +54,8 @@ says c =
 
 cast-t9 : tie.Need-cast-t9 Inv-loop μ-loop
 cast-t9 c =
-    let most = entry (c .before) .pre .1 .places-are .located .most in omega (arith, c .before .before .before .if1 .taken, most)
+    let most = entry (c .before) .pre .1 .places-are .located .most in
+    omega (arith, c .before .before .before .if1 .taken, most)
 
 too-many-requires : tie.Need-too-many-requires Inv-loop μ-loop
 too-many-requires c κs = search needs
@@ -72,7 +73,8 @@ returns c =
 
 add-k : tie.Need-add-k Inv-loop μ-loop
 add-k c =
-    let most = entry (c .before) .pre .1 .places-are .located .most in omega (arith, c .before .before .before .if1 .taken, most)
+    let most = entry (c .before) .pre .1 .places-are .located .most in
+    omega (arith, c .before .before .before .if1 .taken, most)
 
 loop-less : tie.Need-loop-less Inv-loop μ-loop
 loop-less c = omega (arith, c .before .before .before .if1 .taken)

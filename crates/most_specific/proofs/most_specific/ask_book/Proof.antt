@@ -19,7 +19,8 @@ has-book-form-requires c κs = search needs
 returns : tie.Need-returns
 returns c =
     let args = c .before .before .before .before .before .before .before .args in
-    let no-is = form-refused (args .limits) (now (args .case)) (now (args .book)) (sym (c .before .before .has-book-form .ensures) ∙ not-true _ (c .before .if1 .taken)) in
+    let no-is = form-refused (args .limits) (now (args .case)) (now (args .book))
+    (sym (c .before .before .has-book-form .ensures) ∙ not-true _ (c .before .if1 .taken)) in
     rw (c .refuse .ensures) (stopped (args .limits) (mostSpecificCards (args .limits) (now (args .case)) (now (args .book))) (now (args .work)) (afterCase (args .limits) (now (args .case)) (now (args .book))) noBook no-is)
 
 read-cards-requires : tie.Need-read-cards-requires
@@ -61,8 +62,8 @@ returns-2 c =
     let chosen = c .before .before .select in
     let asked = c .before .before .before .before .before .before .before in
     let passed = cards-passed (args .limits) (now (args .case)) (now (args .book))
-    (sym (asked .before .has-book-form .ensures) ∙ not-false _ (asked .if1 .left)) (find-cards .result) (find-cards .ensures)
-    (read-cards .result) (read-cards .ensures) (c .before .before .before .before .enum-told .given .1) in
+    (sym (asked .before .has-book-form .ensures) ∙ not-false _ (asked .if1 .left))
+    (find-cards .result) (find-cards .ensures) (read-cards .result) (read-cards .ensures) (c .before .before .before .before .enum-told .given .1) in
     left-as (args .limits) (mostSpecificCards (args .limits) (now (args .case)) (now (args .book))) (now (args .work)) (afterCase (args .limits) (now (args .case)) (now (args .book))) (afterCards (args .limits) (now (args .case)) (now (args .book))) passed
     (chosen .result) _ (chosen .ensures)
 
@@ -71,7 +72,11 @@ returns-3 c =
     let args = c .before .before .before .before .before .before .before .before .before .before .args in
     let find-cards = c .before .before .before .before .before .before .find-cards in
     let read-cards = c .before .before .before .read-cards in
-    let no-is = cards-refused (args .limits) (now (args .case)) (now (args .book)) (sym (c .before .before .before .before .before .has-book-form .ensures) ∙ not-false _ (c .before .before .before .before .if1 .left)) (find-cards .result) (find-cards .ensures) (read-cards .result) (read-cards .ensures) (c .before .refusal .given .0 .0) (c .before .refusal .given .1) in
+    let asked = c .before .before .before .before in
+    let no-is = cards-refused (args .limits) (now (args .case)) (now (args .book))
+    (sym (asked .before .has-book-form .ensures) ∙ not-false _ (asked .if1 .left))
+    (find-cards .result) (find-cards .ensures) (read-cards .result) (read-cards .ensures)
+    (c .before .refusal .given .0 .0) (c .before .refusal .given .1) in
     stopped (args .limits) (mostSpecificCards (args .limits) (now (args .case)) (now (args .book))) (now (args .work)) (afterCase (args .limits) (now (args .case)) (now (args .book))) (c .before .refusal .given .0 .0) no-is
 
 refuse-requires : tie.Need-refuse-requires
