@@ -19,10 +19,11 @@ use Rattle.table.proofs.Rows.{ends-parts, parts-ends}
 use Rattle.table.specs.Fields.{endBytes, endsAt}
 use Rattle.table.specs.Layout.{endTag, headSize, lengthOffset, numberSize}
 use Rattle.table.specs.Number.{Bytes, be, beBytes}
-use Rattle.fields.specs.Form.{fieldPlace, fieldValue, fieldWith, lengthSaid, nextPlace}
+use Rattle.fields.specs.Form.{fieldPlace, fieldValue, fieldWith, lengthSaid, listed, nextPlace}
+use Rattle.fields.proofs.Listings.{length-listed}
 use Rattle.fields.proofs.Forms.{FieldsOf, after-field, count-form, count-most, field-tag, field-whole, fields-before}
 use Rattle.fields.proofs.Forms.{form-count, length-value}
-use Rattle.book.specs.Form.{Short, bookBytes, bookForm, card, cardCount, cardTag, cardsAfter, cardsOf, mostCards}
+use Rattle.book.specs.Form.{Short, bookBytes, bookForm, card, cardCount, cardTag, cardsOf, mostCards}
 use Rattle.book.specs.Form.{mostLength}
 
 card-other : cardTag ≡ endTag → ⊥
@@ -223,7 +224,7 @@ module _ (book : List ℕ) where
         head-bytes at (omega arith) ∙ rw (field-tag cardTag book at h, after-head k, number)
 
     after-bytes : (more k : ℕ) → k + more ≡ cardCount book → bookForm book ≡ true →
-        drop (fieldPlace book k) book ≡ bookBytes (cardsAfter book more k)
+        drop (fieldPlace book k) book ≡ bookBytes (listed (card book) more k)
     after-bytes zero k e h =
         let last : k ≡ cardCount book = omega arith in
         end-bytes (fieldPlace book k)
@@ -237,11 +238,7 @@ module _ (book : List ℕ) where
     unfolding fieldPlace
     written-book h = after-bytes (cardCount book) 0 (omega arith) h
 
-    length-after : (more k : ℕ) → length (cardsAfter book more k) ≡ more
-    length-after zero k = refl
-    length-after (suc more) k = ap suc (length-after more (k + 1))
-
-    short-after : (more k : ℕ) → k + more ≡ cardCount book → Short (cardsAfter book more k)
+    short-after : (more k : ℕ) → k + more ≡ cardCount book → Short (listed (card book) more k)
     short-after zero k e j l = absurd (omega arith)
     short-after (suc more) k e zero l =
         omega (arith, length-value cardTag book k (omega arith), said-short (fieldPlace book k))
@@ -252,7 +249,7 @@ module _ (book : List ℕ) where
     form-exactly = (
       λ h. (
         cardsOf book,
-        omega (arith, length-after (cardCount book) 0, count-most cardTag book),
+        omega (arith, length-listed (card book) (cardCount book) 0, count-most cardTag book),
         short-after (cardCount book) 0 (omega arith),
         written-book h,
       ),

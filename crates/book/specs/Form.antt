@@ -5,16 +5,16 @@
 --   bookBytes              the book that is written from given cards
 --   card, cardCount        the value of field k; how many whole fields with the tag of a card stand at the start of the
 --                          book, up to the most that it may have
---   cardsAfter, cardsOf    the values of `more` fields from field k on; the cards of a book
+--   cardsOf                the cards of a book
 --   bookForm               24: the end field stands after them, and the file stops there
-use Prim.Native.Nat.{ℕ, zero, suc, _+_, _<_, _≤_}
+use Prim.Native.Nat.{ℕ, _<_, _≤_}
 use lib.ListN.{getD, length}
 use mathlib.Core.Bool.{Bool}
 use mathlib.Core.List.{List, [], _++_, _∷_}
 use Rattle.table.specs.Fields.{endBytes}
 use Rattle.table.specs.Layout.{numberSize}
 use Rattle.table.specs.Number.{beBytes}
-use Rattle.fields.specs.Form.{fieldCount, fieldValue, fieldsForm, mostFields}
+use Rattle.fields.specs.Form.{fieldCount, fieldValue, fieldsForm, listed, mostFields}
 
 abbrev pub cardTag : ℕ
 cardTag = 0x51
@@ -42,12 +42,8 @@ card book k = fieldValue book k
 abbrev pub cardCount : List ℕ → ℕ
 cardCount book = fieldCount cardTag book
 
-abbrev pub cardsAfter : List ℕ → ℕ → ℕ → List (List ℕ)
-cardsAfter book zero k = []
-cardsAfter book (suc more) k = card book k ∷ cardsAfter book more (k + 1)
-
 abbrev pub cardsOf : List ℕ → List (List ℕ)
-cardsOf book = cardsAfter book (cardCount book) 0
+cardsOf book = listed (card book) (cardCount book) 0
 
 abbrev pub bookForm : List ℕ → Bool
 bookForm book = fieldsForm cardTag book

@@ -25,9 +25,8 @@ use Rattle.picture.specs.declared.answer.Asked.{Asked}
 use Rattle.picture.specs.declared.answer.Asked.the-variants.{No, Yes}
 use Rattle.picture.specs.declared.answer.Input.the-variants.{Definition, Definitions}
 use Rattle.picture.specs.declared.answer.Refusal.{Refusal}
-use Rattle.definitions.specs.Asked.{Picture, acyclicAsked, askedOf, definitionsAfter, definitionsAsked}
-use Rattle.definitions.specs.Asked.{definitionsOf, excludesAsked, fewAsked, formAsked, onceAsked, question}
-use Rattle.definitions.specs.Asked.{readOf, shallowAsked}
+use Rattle.fields.specs.Form.{listed}
+use Rattle.definitions.specs.Asked.{Picture, askedOf, definitionsAsked, definitionsOf, question, questionOf, readOf}
 use Rattle.definitions.specs.Form.{definitionCount, definitionFile, definitionsForm}
 use Rattle.definitions.specs.Refusals.{AllOf, DefinitionsNo, FirstFails, FirstOf, PassesAll, YesBefore, excluding}
 use Rattle.definitions.specs.Refusals.{named-twice, no-form, of-definition, of-given, ring, too-deep, too-large}
@@ -54,7 +53,7 @@ module _ (ask : Picture → Asked) where
   of-refuses P [] h = tt
   of-refuses P (p ∷ ps) h = and-refuses P (ask p) (askedOf ask ps) (h .0) (of-refuses P ps (h .1))
 
-  -- of pictures and then of others; of the definitions, by their places
+  -- of pictures and then of others; of what is listed, by its numbers; of the definitions, by their places
   of-append : (ps qs : List Picture) → askedOf ask (ps ++ qs) ≡ andThen (askedOf ask ps) (askedOf ask qs)
   unfolding askedOf
   of-append [] qs = refl
@@ -65,28 +64,33 @@ module _ (ask : Picture → Asked) where
       in-turn Yes b c = refl
       in-turn (No r) b c = refl
 
+  pub of-listed : (f : ℕ → Picture) (more k : ℕ) →
+      askedOf ask (listed f more k) ≡ askedFrom (λ j. ask (f j)) more k
+  unfolding askedOf askedFrom
+  of-listed f zero k = refl
+  of-listed f (suc more) k = ap (andThen (ask (f k))) (of-listed f more (k + 1))
+
   abbrev definitionAsked : List ℕ → ℕ → Asked
   definitionAsked book k = ask (record { input = Definition k; file = definitionFile book k })
 
-  of-definitions : (book : List ℕ) (more k : ℕ) →
-      askedOf ask (definitionsAfter book more k) ≡ askedFrom (definitionAsked book) more k
-  unfolding askedOf askedFrom
-  of-definitions book zero k = refl
-  of-definitions book (suc more) k = ap (andThen (definitionAsked book k)) (of-definitions book more (k + 1))
+  of-definitions : (book : List ℕ) →
+      askedOf ask (definitionsOf book) ≡ askedFrom (definitionAsked book) (definitionCount book) 0
+  of-definitions book =
+      of-listed (λ k. record { input = Definition k; file = definitionFile book k }) (definitionCount book) 0
 
   of-all : (book : List ℕ) (given : List Picture) →
       askedOf ask (given ++ definitionsOf book)
       ≡ andThen (askedOf ask given) (askedFrom (definitionAsked book) (definitionCount book) 0)
   of-all book given =
       of-append given (definitionsOf book)
-      ∙ ap (andThen (askedOf ask given)) (of-definitions book (definitionCount book) 0)
+      ∙ ap (andThen (askedOf ask given)) (of-definitions book)
 
 module _ (book : List ℕ) (given : List Picture) where
   -- ---- a question by its number and its test, of all pictures
 
   module _ (number : ℕ) (test : List ℕ → Bool) where
     abbrev testAsked : Picture → Asked
-    testAsked p = question number (p .input) (test (p .file))
+    testAsked p = questionOf number test p
 
     abbrev Passes : Picture → Type 0
     Passes p = test (p .file) ≡ true
@@ -150,19 +154,19 @@ module _ (limits : Limits) (book : List ℕ) (given : List Picture) where
   all = given ++ definitionsOf book
 
   abbrev deep : Asked
-  deep = askedOf (shallowAsked limits book) all
+  deep = askedOf (questionOf 30 (unfoldedShallow limits book)) all
 
   abbrev few : Asked
-  few = andThen (askedOf (fewAsked limits book) all) deep
+  few = andThen (askedOf (questionOf 29 (unfoldedFew limits book)) all) deep
 
   abbrev free : Asked
-  free = andThen (acyclicAsked book) few
+  free = andThen (question 28 Definitions isAcyclic) few
 
   abbrev excludes : Asked
-  excludes = andThen (askedOf (excludesAsked book) all) free
+  excludes = andThen (askedOf (questionOf 27 (excludesNone book)) all) free
 
   abbrev once : Asked
-  once = andThen (onceAsked book) excludes
+  once = andThen (question 26 Definitions (namedOnce book)) excludes
 
   abbrev reads : Asked
   reads = askedOf (readOf limits) (definitionsOf book)
@@ -330,14 +334,14 @@ module _ (limits : Limits) (book : List ℕ) (given : List Picture) where
       (DefinitionsNo limits book given)
   unfolding definitionsAsked
   definitions-decides =
-      said-so (andThen (formAsked book) (andThen reads once))
-      (and-decides (formAsked book) (andThen reads once)
+      said-so (andThen (question 25 Definitions (definitionsForm book)) (andThen reads once))
+      (and-decides (question 25 Definitions (definitionsForm book)) (andThen reads once)
       (asked-decides (definitionsForm book) (refusal 25 Definitions))
       (λ f. and-decides reads once reads-decided
-      (λ r. and-decides (onceAsked book) excludes (asked-decides (namedOnce book) (refusal 26 Definitions))
-      (λ o. and-decides (askedOf (excludesAsked book) all) free (all-decided book given 27 (excludesNone book))
-      (λ x. and-decides (acyclicAsked book) few (asked-decides isAcyclic (refusal 28 Definitions))
-      (λ c. and-decides (askedOf (fewAsked limits book) all) deep (all-decided book given 29 (unfoldedFew limits book))
+      (λ r. and-decides (question 26 Definitions (namedOnce book)) excludes (asked-decides (namedOnce book) (refusal 26 Definitions))
+      (λ o. and-decides (askedOf (questionOf 27 (excludesNone book)) all) free (all-decided book given 27 (excludesNone book))
+      (λ x. and-decides (question 28 Definitions isAcyclic) few (asked-decides isAcyclic (refusal 28 Definitions))
+      (λ c. and-decides (askedOf (questionOf 29 (unfoldedFew limits book)) all) deep (all-decided book given 29 (unfoldedFew limits book))
       (λ w. all-decided book given 30 (unfoldedShallow limits book)))))))) (
         λ (f, (r, (o, (x, (c, (w, h)))))). (
           record {
@@ -377,7 +381,7 @@ module _ (limits : Limits) (book : List ℕ) (given : List Picture) where
       reads-decided =
           subst (λ a. Decides a (AllFrom Reads (definitionCount book) 0)
           (FirstFrom Reads (λ k. Unreadable limits (Definition k) (definitionFile book k)) (definitionCount book) 0))
-          (sym (of-definitions (readOf limits) book (definitionCount book) 0))
+          (sym (of-definitions (readOf limits) book))
           (from-decides (definitionAsked (readOf limits) book) Reads
           (λ k. Unreadable limits (Definition k) (definitionFile book k)) (definitionCount book) 0
           (λ k a b. read-decides limits (Definition k) (definitionFile book k)))
@@ -426,15 +430,15 @@ module _ (limits : Limits) (book : List ℕ) (given : List Picture) where
     pub definitions-refuses : OfDefinitions → EveryRefusal P (definitionsAsked limits book given)
     unfolding definitionsAsked
     definitions-refuses h =
-        and-refuses P (formAsked book) (andThen reads once)
+        and-refuses P (question 25 Definitions (definitionsForm book)) (andThen reads once)
         (asked-refuses P (definitionsForm book) (refusal 25 Definitions) (h .form))
         (and-refuses P reads once
-        (subst (EveryRefusal P) (sym (of-definitions (readOf limits) book (definitionCount book) 0))
+        (subst (EveryRefusal P) (sym (of-definitions (readOf limits) book))
         (from-refuses P (definitionAsked (readOf limits) book) (definitionCount book) 0
         (λ k a b. read-refuses P limits (Definition k) (definitionFile book k) (h .reads k (omega arith)))))
-        (and-refuses P (onceAsked book) excludes
+        (and-refuses P (question 26 Definitions (namedOnce book)) excludes
         (asked-refuses P (namedOnce book) (refusal 26 Definitions) (h .once))
-        (and-refuses P (askedOf (excludesAsked book) all) free (all-refuse 27 (excludesNone book) (h .excluding))
-        (and-refuses P (acyclicAsked book) few (asked-refuses P isAcyclic (refusal 28 Definitions) (h .ring))
-        (and-refuses P (askedOf (fewAsked limits book) all) deep (all-refuse 29 (unfoldedFew limits book) (h .few))
+        (and-refuses P (askedOf (questionOf 27 (excludesNone book)) all) free (all-refuse 27 (excludesNone book) (h .excluding))
+        (and-refuses P (question 28 Definitions isAcyclic) few (asked-refuses P isAcyclic (refusal 28 Definitions) (h .ring))
+        (and-refuses P (askedOf (questionOf 29 (unfoldedFew limits book)) all) deep (all-refuse 29 (unfoldedFew limits book) (h .few))
         (all-refuse 30 (unfoldedShallow limits book) (h .shallow)))))))

@@ -14,14 +14,6 @@ use Rattle.definitions.specs.Asked.{Picture, askedOf, definitionsAfter, definit
 use Rattle.definitions.specs.Form.{definitionCount, definitionFile}
 use Rattle.definitions_reader.specs.Index.{AllReadable}
 
-module _ (tbox : List ℕ) (ask : Picture → Asked) where
-  pub definitions-from : (more k : ℕ) → askedOf ask (definitionsAfter tbox more k) ≡
-      askedFrom (λ j. ask (record { input = Definition j; file = definitionFile tbox j })) more k
-  unfolding askedOf askedFrom
-  definitions-from zero k = refl
-  definitions-from (suc more) k =
-      ap (andThen (ask (record { input = Definition k; file = definitionFile tbox k }))) (definitions-from more (k + 1))
-
 pub all-readable : (limits : Limits) (tbox : List ℕ) → askedOf (readOf limits) (definitionsOf tbox) ≡ Yes →
     AllReadable limits tbox
 all-readable limits tbox e =

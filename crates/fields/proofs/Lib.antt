@@ -3,3 +3,5 @@
 pub mod Cases
 -- the form of a file of fields
 pub mod Forms
+-- what is listed of fields
+pub mod Listings

@@ -8,11 +8,12 @@
 --   fieldWith              a whole field with a tag stands at a place
 --   fieldsFrom, fieldCount how many such fields stand at the start of the file, up to the most that it may have
 --   fieldsForm             the end field stands after them, and the file stops there
+--   listed                 what is given of `more` fields from field k on, as a list
 use Prim.Native.Nat.{ℕ, zero, suc, _+_}
 use lib.Dec.{eqb, leb}
 use lib.ListN.{drop, getD, length, take}
 use mathlib.Core.Bool.{Bool, _&&_}
-use mathlib.Core.List.{List}
+use mathlib.Core.List.{List, [], _∷_}
 use Rattle.table.specs.Fields.{endsAt}
 use Rattle.table.specs.Layout.{headSize, lengthOffset, numberSize}
 use Rattle.table.specs.Number.{be}
@@ -47,3 +48,7 @@ fieldCount tag file = fieldsFrom tag file mostFields 0
 
 unfoldable pub fieldsForm : ℕ → List ℕ → Bool
 fieldsForm tag file = endsAt file (fieldPlace file (fieldCount tag file))
+
+abbrev pub listed : {A : Type 0} → (ℕ → A) → ℕ → ℕ → List A
+listed f zero k = []
+listed f (suc more) k = f k ∷ listed f more (k + 1)
