@@ -1,6 +1,7 @@
 -- The questions of a definitions book, in their order: all are answered yes exactly if it is definable and every given
 -- picture unfolds, and else the first no is the refusal.
 --   of-decides, of-refuses   one question of several pictures in turn
+--   of-listed, of-definitions   of pictures that are listed, by their numbers; of the definitions
 --   definitions-decides      all yes exactly if ..; the first no is r exactly if `DefinitionsNo` says so
 --   asked-definable, definable-asked   its first half, both ways
 --   OfDefinitions            a property of every refusal that can come
@@ -73,7 +74,7 @@ module _ (ask : Picture → Asked) where
   abbrev definitionAsked : List ℕ → ℕ → Asked
   definitionAsked book k = ask (record { input = Definition k; file = definitionFile book k })
 
-  of-definitions : (book : List ℕ) →
+  pub of-definitions : (book : List ℕ) →
       askedOf ask (definitionsOf book) ≡ askedFrom (definitionAsked book) (definitionCount book) 0
   of-definitions book =
       of-listed (λ k. record { input = Definition k; file = definitionFile book k }) (definitionCount book) 0

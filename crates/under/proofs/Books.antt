@@ -47,7 +47,9 @@ use Rattle.meaning.specs.NormalTable.{mergedCount}
 use Rattle.normal.proofs.Answers.{TooMany, merged-decides, merged-refuses}
 use Rattle.normal.specs.Call.{mergedAsked}
 use Rattle.workspace.specs.Prepare.{workSize}
+use Rattle.fields.specs.Form.{listed}
 use Rattle.fields.proofs.Forms.{count-most}
+use Rattle.fields.proofs.Listings.{length-listed, listed-at}
 use Rattle.book.proofs.Selections.{below-each, most-specific-exactly, some-exactly, together}
 use Rattle.book.proofs.WrittenBooks.{book-written}
 use Rattle.book.specs.Call.{AcceptableBook, bookAsked, cardMerged, cardRead, formAsked, mostSpecificAnswer, mostSpecificAsked, mostSpecificWork, noBook}
@@ -61,7 +63,8 @@ use Rattle.definitions.specs.Covering.{CoversUnder}
 use Rattle.definitions.specs.Unfolded.{Unfolds, unfoldedFile}
 use Rattle.definitions.proofs.Questions.{OfDefinitions, definitions-decides, definitions-refuses}
 use Rattle.definitions.specs.Refusals.{AllOf, DefinitionsNo}
-use Rattle.under.specs.Book.{AcceptableBookUnder, MostSpecificUnder, PreparedBook, bookBefore, cardsGiven, caseAndCards, mostSpecificUnder, mostSpecificWorkUnder, unfoldedBook, unfoldedCards}
+use Rattle.under.specs.Book.{AcceptableBookUnder, MostSpecificUnder, PreparedBook, bookBefore, caseAndCards}
+use Rattle.under.specs.Book.{mostSpecificUnder, mostSpecificWorkUnder, unfoldedBook}
 use Rattle.under.proofs.Calls.{kept-and, on-and}
 use Rattle.under.proofs.Orders.{same-after}
 
@@ -71,7 +74,7 @@ abbrev pictureOf : List ℕ → ℕ → Picture
 pictureOf book k = record { input = Card k; file = card book k }
 
 pub cards-all : (P : Picture → Type 0) (book : List ℕ) (more k : ℕ) →
-    AllOf P (cardsGiven book more k) ↔ ((j : ℕ) → k ≤ j → j < k + more → P (pictureOf book j))
+    AllOf P (listed (pictureOf book) more k) ↔ ((j : ℕ) → k ≤ j → j < k + more → P (pictureOf book j))
 cards-all P book zero k = (λ all j a b. absurd (omega arith), λ each. tt)
 cards-all P book (suc more) k =
     let (to, from) = cards-all P book more (k + 1) in (
@@ -191,20 +194,10 @@ module _ (limits : Limits) (bounded : Bounded limits) (tbox case book : List ℕ
   again = unfoldedBook limits tbox book
 
   abbrev cards : List (List ℕ)
-  cards = unfoldedCards limits tbox book (cardCount book) 0
-
-  cards-length : (more k : ℕ) → length (unfoldedCards limits tbox book more k) ≡ more
-  cards-length zero k = refl
-  cards-length (suc more) k = ap suc (cards-length more (k + 1))
-
-  cards-at : (more k j : ℕ) → j < more → getD (unfoldedCards limits tbox book more k) j [] ≡ unfolded (k + j)
-  cards-at zero k j l = absurd (omega arith)
-  cards-at (suc more) k zero l = ap unfolded (let e : k ≡ k + 0 = omega arith in e)
-  cards-at (suc more) k (suc j) l =
-      cards-at more (k + 1) j (omega arith) ∙ ap unfolded (let e : k + 1 + j ≡ k + suc j = omega arith in e)
+  cards = listed unfolded (cardCount book) 0
 
   card-is : (k : ℕ) → k < cardCount book → getD cards k [] ≡ unfolded k
-  card-is k l = cards-at (cardCount book) 0 k l ∙ ap unfolded (zero-add k)
+  card-is k l = listed-at unfolded [] (cardCount book) 0 k l ∙ ap unfolded (zero-add k)
 
   card-readable : (k : ℕ) → k < cardCount book → Readable limits (unfolded k)
   card-readable k l =
@@ -215,7 +208,7 @@ module _ (limits : Limits) (bounded : Bounded limits) (tbox case book : List ℕ
       × ((k : ℕ) → k < length cards → card again k ≡ getD cards k [])
   unfolding unfoldedBook
   written =
-      let n = cards-length (cardCount book) 0 in
+      let n = length-listed unfolded (cardCount book) 0 in
       book-written cards (omega (arith, n, count-most cardTag book))
       (λ k l.
       let b : k < cardCount book = omega (arith, n) in
@@ -226,10 +219,10 @@ module _ (limits : Limits) (bounded : Bounded limits) (tbox case book : List ℕ
   unfolded-form = written .0
 
   pub unfolded-count : cardCount again ≡ cardCount book
-  unfolded-count = written .1 ∙ cards-length (cardCount book) 0
+  unfolded-count = written .1 ∙ length-listed unfolded (cardCount book) 0
 
   pub unfolded-card : (k : ℕ) → k < cardCount book → card again k ≡ unfolded k
-  unfolded-card k l = written .2 k (omega (arith, cards-length (cardCount book) 0)) ∙ card-is k l
+  unfolded-card k l = written .2 k (omega (arith, length-listed unfolded (cardCount book) 0)) ∙ card-is k l
 
   below : (k : ℕ) → k < cardCount again → k < cardCount book
   below k l = omega (arith, unfolded-count)

@@ -1,18 +1,18 @@
 -- 02, U3, the nearest cards under a definitions book.
---   cardsGiven, caseAndCards       the case and the cards as they are asked
+--   caseAndCards                   the case and the cards as they are asked
 --   bookBefore                     2 to 13 of the case, 24, 2 to 13 of the cards, then the questions of the definitions
 --                                  book
 --   PreparedBook                   that is answered yes
 --   AcceptableBookUnder            and so is 14, of the unfolded case and cards
---   unfoldedCards, unfoldedBook    the book of the unfolded cards, in the same order: a list to speak of, never made
+--   unfoldedBook                   the book of the unfolded cards, in the same order: a list to speak of, never made
 --   MostSpecificUnder              card n is nearest, with covering under definitions
 --   mostSpecificUnder, mostSpecificWorkUnder   the answer and the work space: those of the call without a definitions
 --                                  book, for the unfolded case and the unfolded cards
-use Prim.Native.Nat.{ℕ, zero, suc, _+_, _<_, _≤_}
+use Prim.Native.Nat.{ℕ, _<_, _≤_}
 use lib.Dec.{leb}
 use lib.ListN.{length}
 use mathlib.Core.Bool.{true}
-use mathlib.Core.List.{List, [], _∷_}
+use mathlib.Core.List.{List, _∷_}
 use mathlib.Core.Path.{_≡_}
 use Rattle.table.specs.declared.layout.Limits.{Limits}
 use Rattle.picture.specs.Asked.{andThen, askedFrom, kept, onAsked, readAsked, roomAsked}
@@ -21,6 +21,7 @@ use Rattle.picture.specs.declared.answer.Asked.{Asked}
 use Rattle.picture.specs.declared.answer.Input.the-variants.{Card, First}
 use Rattle.meaning.specs.NormalTable.{mergedCount}
 use Rattle.workspace.specs.Prepare.{workSize}
+use Rattle.fields.specs.Form.{listed}
 use Rattle.book.specs.Call.{cardRead, formAsked, mostSpecificAnswer, mostSpecificWork}
 use Rattle.book.specs.Form.{bookBytes, bookForm, card, cardCount}
 use Rattle.book.specs.Selection.{MostSpecificBy}
@@ -30,13 +31,10 @@ use Rattle.definitions.specs.Asked.{Picture, definitionsAsked}
 use Rattle.definitions.specs.Covering.{CoversUnder}
 use Rattle.definitions.specs.Unfolded.{Definable, Unfolds, unfoldedFile}
 
--- of `more` cards from card k on
-abbrev pub cardsGiven : List ℕ → ℕ → ℕ → List Picture
-cardsGiven book zero k = []
-cardsGiven book (suc more) k = record { input = Card k; file = card book k } ∷ cardsGiven book more (k + 1)
-
 abbrev pub caseAndCards : List ℕ → List ℕ → List Picture
-caseAndCards case book = record { input = First; file = case } ∷ cardsGiven book (cardCount book) 0
+caseAndCards case book =
+    record { input = First; file = case }
+    ∷ listed (λ k. record { input = Card k; file = card book k }) (cardCount book) 0
 
 unfoldable pub bookBefore : Limits → List ℕ → List ℕ → List ℕ → ℕ → Asked
 bookBefore limits tbox case book room =
@@ -60,13 +58,8 @@ pub record AcceptableBookUnder (limits : Limits) (tbox case book : List ℕ) : T
   pub cards-few : (k : ℕ) → k < cardCount book →
       mergedCount limits (unfoldedFile limits tbox (card book k)) ≤ limits .rows
 
-abbrev pub unfoldedCards : Limits → List ℕ → List ℕ → ℕ → ℕ → List (List ℕ)
-unfoldedCards limits tbox book zero k = []
-unfoldedCards limits tbox book (suc more) k =
-    unfoldedFile limits tbox (card book k) ∷ unfoldedCards limits tbox book more (k + 1)
-
 unfoldable pub unfoldedBook : Limits → List ℕ → List ℕ → List ℕ
-unfoldedBook limits tbox book = bookBytes (unfoldedCards limits tbox book (cardCount book) 0)
+unfoldedBook limits tbox book = bookBytes (listed (λ k. unfoldedFile limits tbox (card book k)) (cardCount book) 0)
 
 abbrev pub MostSpecificUnder : Limits → List ℕ → List ℕ → List ℕ → ℕ → Type 0
 MostSpecificUnder limits tbox case book =

@@ -9,7 +9,7 @@ use Rattle.picture.specs.Read.{answerOf}
 use Rattle.picture.specs.declared.answer.Input.the-variants.{Definition}
 use Rattle.definitions.specs.Asked.{readOf}
 use Rattle.definitions.specs.Form.{definitionCount, definitionFile}
-use Rattle.definitions_reader.proofs.DefinitionsInTurn.{definitions-from}
+use Rattle.definitions.proofs.Questions.{of-definitions}
 use Rattle.definitions_reader.proofs.readings.read_definitions.Statement.{statement}
 use Rattle.definitions_reader.proofs.readings.read_definitions.Tie as tie
 
@@ -82,7 +82,7 @@ returns c =
     read-refused (args .limits) Definition (definitionFile t) (definitionCount t) (loop .k) (loop .inv)
     (counted (c .before .before .before .before .before)) (c .before .before .before .read .result)
     (says (c .before .before .before)) (refusal .0 .0) (refusal .1)
-    ∙ sym (definitions-from t (readOf (args .limits)) (definitionCount t) 0)
+    ∙ sym (of-definitions (readOf (args .limits)) t)
 
 returns-2 : tie.Need-returns-2 Inv-loop μ-loop
 returns-2 c =
@@ -91,7 +91,7 @@ returns-2 c =
     let t = now (start .args .tbox) in
     read-all (start .args .limits) Definition (definitionFile t) (definitionCount t) (loop .k) (loop .inv)
     (omega (arith, c .if1 .left, start .pre .1 .placed .counted))
-    ∙ sym (definitions-from t (readOf (start .args .limits)) (definitionCount t) 0)
+    ∙ sym (of-definitions (readOf (start .args .limits)) t)
 
 pub read-definitions-spec : {M : Type 1} → statement M
 read-definitions-spec =
