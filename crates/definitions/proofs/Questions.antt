@@ -18,7 +18,7 @@ use Rattle.ale.specs.PictureSignature.{pictureSignature}
 use Rattle.tbox.specs.Acyclic.{acyclic}
 use Rattle.picture.proofs.Orders.{AllFrom, Decides, EveryRefusal, FirstFrom, Unreadable, and-decides, and-refuses}
 use Rattle.picture.proofs.Orders.{asked-decides, asked-refuses, from-decides, from-refuses, read-decides, read-refuses}
-use Rattle.picture.proofs.Orders.{said-so}
+use Rattle.picture.proofs.Orders.{said-so, then-assoc}
 use Rattle.picture.specs.Asked.{andThen, askedFrom}
 use Rattle.picture.specs.Readable.{FailsAt, Readable}
 use Rattle.picture.specs.Refusal.{refusal, refusalAt}
@@ -59,11 +59,7 @@ module _ (ask : Picture → Asked) where
   unfolding askedOf
   of-append [] qs = refl
   of-append (p ∷ ps) qs =
-      ap (andThen (ask p)) (of-append ps qs) ∙ in-turn (ask p) (askedOf ask ps) (askedOf ask qs)
-    where
-      in-turn : (a b c : Asked) → andThen a (andThen b c) ≡ andThen (andThen a b) c
-      in-turn Yes b c = refl
-      in-turn (No r) b c = refl
+      ap (andThen (ask p)) (of-append ps qs) ∙ then-assoc (ask p) (askedOf ask ps) (askedOf ask qs)
 
   pub of-listed : (f : ℕ → Picture) (more k : ℕ) →
       askedOf ask (listed f more k) ≡ askedFrom (λ j. ask (f j)) more k

@@ -100,6 +100,9 @@ words =
     ∷ refusedAt 2 (Card 31) 0
     ∷ refusedAt 11 (Card 4) 3
     ∷ refusedAt 5 Second 256
+    ∷ refused 25 Definitions
+    ∷ refusedAt 2 (Definition 31) 0
+    ∷ refused 29 (Definition 4)
     ∷ readWord (answer.Rows 256)
     ∷ normalizedWord (normalized.Length 6147)
     ∷ verdictWord (verdict.Yes 12)
@@ -122,6 +125,9 @@ pub codes-agree : words ≡
     ∷ 0x0002051F00000000
     ∷ 0x000B050400030048
     ∷ 0x0005020001001800
+    ∷ 0x0019060000000000
+    ∷ 0x0002071F00000000
+    ∷ 0x001D070400000000
     ∷ 0x0100000000000100
     ∷ 0x0100000000001803
     ∷ 0x010000000000000C

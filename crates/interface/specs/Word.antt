@@ -1,11 +1,11 @@
 -- The 64-bit answer word of a call: how it is put together, and how include/zuvaropy.h takes it apart.
 --   bits 63..56  outcome: 0 a refusal; 1 a value, verdict yes or map taken; 2 verdict no or refutation taken
---   a refusal:   bits 55..48 the question's number, 47..40 the input's code, 39..32 the card's number or 0, 31..16 the
---                row, 15..0 the byte, as the refusal carries them (02, U1)
+--   a refusal:   bits 55..48 the question's number, 47..40 the input's code, 39..32 the number of the card or the
+--                definition, or 0, 31..16 the row, 15..0 the byte, as the refusal carries them (02, U1)
 --   an answer:   bits 31..0 the value, the rest 0
 --
 --   outcomeYes, outcomeNo                   the outcomes of an answer
---   inputCode, cardOf                       the code of an input, and its card's number
+--   inputCode, cardOf                       the code of an input, and the number of its card or definition
 --   outcomeWeight .. rowWeight              the weights of the parts; the value is below `valueRange`, row and byte are
 --                                           below `placeRange`, the other parts below `partRange`
 --   valueWord, refusalWord                  the word of an answer; of a refusal

@@ -11,6 +11,9 @@
 --   rows-yes, refused-no          by the answer of reading it
 --   on-yes, on-no                 the answer where all is yes; where r is the first no
 --   on-by                         a property of the value, where all is yes, and of every first no is one of the answer
+--   on-then                       the answer after two lots of questions
+--   then-assoc, then-same         three lots; what comes after a yes
+--   from-same                     the same question of each thing
 --   given                         an answer that is no refusal is the value, and all is yes
 --   refused-by                    a refusal that is answered is the first no
 --   EveryRefusal                  every refusal has a property;
@@ -292,3 +295,25 @@ module _ (P : Refusal → Type 0) where
 
   pub refuses-no : (a : Asked) → EveryRefusal a → (r : Refusal) → a ≡ No r → P r
   refuses-no a h r e = subst EveryRefusal e h
+
+-- ---- two lots of questions
+
+pub on-then : {A : Type 0} (no : Refusal → A) (a b : Asked) (value : A) →
+    onAsked no a (onAsked no b value) ≡ onAsked no (andThen a b) value
+on-then none Yes b value = refl
+on-then none (No r) b value = refl
+
+pub then-assoc : (a b c : Asked) → andThen a (andThen b c) ≡ andThen (andThen a b) c
+then-assoc Yes b c = refl
+then-assoc (No r) b c = refl
+
+pub then-same : (a b c : Asked) → (a ≡ Yes → b ≡ c) → andThen a b ≡ andThen a c
+then-same Yes b c h = h refl
+then-same (No r) b c h = refl
+
+pub from-same : (ask other : ℕ → Asked) (more k : ℕ) → ((j : ℕ) → k ≤ j → j < k + more → ask j ≡ other j) →
+    askedFrom ask more k ≡ askedFrom other more k
+unfolding askedFrom
+from-same ask other zero k h = refl
+from-same ask other (suc more) k h =
+    rw (h k (omega arith) (omega arith), from-same ask other more (k + 1) (λ j a b. h j (omega arith) (omega arith)))

@@ -1,10 +1,10 @@
--- Laws of the word of the cards below n that pass a test, over any test.
---   setBelow-zero, setBelow-suc   no card; one card more
---   setBelow-below                the word has n bits
---   has-setBelow                  its bits are the cards below n that pass the test
---   word-is                       and a word with these bits is that word
---   setBelow-some                 a word that is not 0 has a card
---   setBelow-same                 tests that agree on the cards below n give the same word
+-- Laws of the set of the numbers below n that pass a test, over any test.
+--   setBelow-zero, setBelow-suc   no number; one number more
+--   setBelow-below                the set as a number has n bits
+--   has-setBelow                  its bits are the numbers below n that pass the test
+--   word-is                       and a set with these bits is that set
+--   setBelow-some                 a set that is not empty has a number
+--   setBelow-same                 tests that agree on the numbers below n give the same set
 use Prim.Native.Nat.{_*_, _+_, _<_, _^_, suc, zero, ℕ}
 use borrow.Author.Tests.{eq-eqb, le-ltb, lt-ltb, ne-eqb}
 use lib.Bits.{or-shifted-r}
@@ -40,7 +40,7 @@ module _ (f : ℕ → Bool) where
       let below = setBelow-below n in
       by-test (f n) (λ e. rw e (omega arith)) (λ e. rw e (omega arith))
 
-  -- the bit that one card more adds
+  -- the bit that one number more adds
   has-more : (w n : ℕ) (b : Bool) → w < 2 ^ n → (k : ℕ) → has (w + pick b (2 ^ n) 0) k ≡ (has w k || (b && eqb k n))
   has-more w n true below k =
       let e : w + 2 ^ n ≡ union w (1 * 2 ^ n) = omega (arith, or-shifted-r 1 n w below) in
@@ -48,8 +48,8 @@ module _ (f : ℕ → Bool) where
       ap (λ (v : ℕ). has v k) e ∙ has-union w (1 * 2 ^ n) k ∙ ap (λ (v : ℕ). has w k || has v k) one ∙ ap (λ (b : Bool). has w k || b) (has-power n k)
   has-more w n false below k = let e : w + 0 ≡ w = omega arith in ap (λ (v : ℕ). has v k) e ∙ sym (or-none (has w k))
 
-  card-more : (n k : ℕ) → ((ltb k n && f k) || (f n && eqb k n)) ≡ (ltb k (suc n) && f k)
-  card-more n k =
+  one-more : (n k : ℕ) → ((ltb k n && f k) || (f n && eqb k n)) ≡ (ltb k (suc n) && f k)
+  one-more n k =
       elim (ℕ-discrete k n) [
         | yes e ↦ rw (le-ltb k n (omega arith), lt-ltb k (suc n) (omega arith), eq-eqb k n e, e) (and-all (f n))
         | no u ↦ elim (decLt k n) [
@@ -69,7 +69,7 @@ module _ (f : ℕ → Bool) where
   has-setBelow (suc n) k =
       has-more (setBelow f n) n (f n) (setBelow-below n) k
       ∙ ap (λ (b : Bool). b || (f n && eqb k n)) (has-setBelow n k)
-      ∙ card-more n k
+      ∙ one-more n k
 
   pub word-is : (w n : ℕ) → ((k : ℕ) → has w k ≡ (ltb k n && f k)) → w ≡ setBelow f n
   word-is w n h = set-ext w (setBelow f n) (λ k. h k ∙ sym (has-setBelow n k))

@@ -1,6 +1,6 @@
 -- The nearest cards under a definitions book: the book of the unfolded cards has as many cards, each unfolded, so its
 -- nearest cards for the unfolded case are the nearest under the definitions book.
---   cards-all, from-same         what is true of every card given, by its number; questions that are the same
+--   cards-all                    what is true of every card given, by its number
 --   CaseNo, BeforeNo             the first no before 14: of the case, 24, of a card, of the definitions book; with 1
 --   before-decides, before-refuses   all that is yes exactly with room and of a prepared book; what every refusal has
 --   unfolded-form, unfolded-count, unfolded-card   the book of the unfolded cards
@@ -33,7 +33,10 @@ use Rattle.table.specs.Bounds.{Bounded}
 use Rattle.table.specs.NameSet.{has}
 use Rattle.table.specs.Put.{put, zeros}
 use Rattle.table.specs.declared.layout.Limits.{Limits}
-use Rattle.picture.proofs.Orders.{AllFrom, Decides, EveryRefusal, FirstFrom, Unreadable, and-decides, and-refuses, asked-decides, asked-refuses, from-decides, from-refuses, from-yes, read-decides, read-refuses, said-so, test-decides}
+use Rattle.picture.proofs.Keeping.{kept-then}
+use Rattle.picture.proofs.Orders.{AllFrom, Decides, EveryRefusal, FirstFrom, Unreadable, and-decides, and-refuses}
+use Rattle.picture.proofs.Orders.{asked-decides, asked-refuses, from-decides, from-refuses, from-same, from-yes}
+use Rattle.picture.proofs.Orders.{on-then, read-decides, read-refuses, said-so, test-decides, then-same}
 use Rattle.picture.proofs.Readables.{readable-size}
 use Rattle.picture.specs.Asked.{andThen, askedFrom, kept, onAsked, readAsked, roomAsked}
 use Rattle.picture.specs.Readable.{FailsAt, Readable}
@@ -65,8 +68,6 @@ use Rattle.definitions.proofs.Questions.{OfDefinitions, definitions-decides, de
 use Rattle.definitions.specs.Refusals.{AllOf, DefinitionsNo}
 use Rattle.under.specs.Book.{AcceptableBookUnder, MostSpecificUnder, PreparedBook, bookBefore, caseAndCards}
 use Rattle.under.specs.Book.{mostSpecificUnder, mostSpecificWorkUnder, unfoldedBook}
-use Rattle.under.proofs.Calls.{kept-and, on-and}
-use Rattle.under.proofs.Orders.{same-after}
 
 -- ---- what is asked
 
@@ -82,13 +83,6 @@ cards-all P book (suc more) k =
           (λ (l : k < j). to rest j (omega arith) (omega arith)) (eq-or-lt-of-le a),
       λ each. (each k (omega arith) (omega arith), from (λ j a b. each j (omega arith) (omega arith))),
     )
-
-pub from-same : (ask other : ℕ → Asked) (more k : ℕ) → ((j : ℕ) → k ≤ j → j < k + more → ask j ≡ other j) →
-    askedFrom ask more k ≡ askedFrom other more k
-unfolding askedFrom
-from-same ask other zero k h = refl
-from-same ask other (suc more) k h =
-    rw (h k (omega arith) (omega arith), from-same ask other more (k + 1) (λ j a b. h j (omega arith) (omega arith)))
 
 module _ (limits : Limits) (tbox case book : List ℕ) where
   abbrev Reads : ℕ → Type 0
@@ -317,14 +311,14 @@ module _ (limits : Limits) (bounded : Bounded limits) (tbox case book : List ℕ
       ≡ onAsked Refused (bookAll room) (Cards (mostSpecificCards limits c b))
   unfolding mostSpecificUnder mostSpecificAnswer
   most-specific-all room =
-      on-and Refused (bookBefore limits tbox case book room) (mostSpecificAsked limits c b room)
+      on-then Refused (bookBefore limits tbox case book room) (mostSpecificAsked limits c b room)
       (Cards (mostSpecificCards limits c b))
 
   pub most-specific-work-all : (work : List ℕ) → mostSpecificWorkUnder limits tbox case book work
       ≡ kept (bookAll (length work)) (put work 0 (zeros (workSize limits))) work
   unfolding mostSpecificWorkUnder
   most-specific-work-all work =
-      kept-and (bookBefore limits tbox case book (length work)) (mostSpecificAsked limits c b (length work))
+      kept-then (bookBefore limits tbox case book (length work)) (mostSpecificAsked limits c b (length work))
       (put work 0 (zeros (workSize limits))) work
 
   -- 14 of the unfolded cards
@@ -352,7 +346,7 @@ module _ (limits : Limits) (bounded : Bounded limits) (tbox case book : List ℕ
 
   pub book-order : (room : ℕ) → bookAll room ≡ andThen (bookBefore limits tbox case book room) merged
   book-order room =
-      same-after (bookBefore limits tbox case book room) (mostSpecificAsked limits c b room) merged
+      then-same (bookBefore limits tbox case book room) (mostSpecificAsked limits c b room) merged
       (λ e. let (long, ok) = before-decides limits tbox case book room .yes .0 e in opened room long ok)
 
   abbrev Few : ℕ → Type 0

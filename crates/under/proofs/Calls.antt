@@ -2,7 +2,6 @@
 -- is the call without a book, on the unfolded pictures.
 --   no-before                      a no before the first 14 is the answer, whatever call it is, and every buffer is as
 --                                  it was
---   on-and, kept-and, and-assoc    an answer, and a buffer, after two lots of questions; three lots
 --   same-answer, same-buffer       both, where what is asked before the first 14 is answered yes, and 1 is asked again
 --   normalizeAll, pairAll, verifyLentAll, lcsAll, verifyAll    what is asked in all: of one picture; of two to 14, with
 --                                  a result buffer and for a check; with 15; with 16 to 23
@@ -23,8 +22,8 @@ use Rattle.table.proofs.Bools.{by-test}
 use Rattle.table.specs.Bounds.{pictureSize}
 use Rattle.table.specs.Put.{put}
 use Rattle.table.specs.declared.layout.Limits.{Limits}
-use Rattle.picture.proofs.Keeping.{kept-no}
-use Rattle.picture.proofs.Orders.{on-no}
+use Rattle.picture.proofs.Keeping.{kept-no, kept-then}
+use Rattle.picture.proofs.Orders.{on-no, on-then, then-assoc}
 use Rattle.picture.specs.Asked.{andThen, kept, onAsked}
 use Rattle.picture.specs.Refusal.{shortBuffer}
 use Rattle.picture.specs.declared.answer.Asked.{Asked}
@@ -56,19 +55,6 @@ pub no-before : {A : Type 0} (no : Refusal → A) (value : A) (new old : List �
     before ≡ No r → (onAsked no before value ≡ no r) × (kept before new old ≡ old)
 no-before none value new old before r e = (on-no none value before r e, kept-no new old before r e)
 
-pub on-and : {A : Type 0} (no : Refusal → A) (a b : Asked) (value : A) →
-    onAsked no a (onAsked no b value) ≡ onAsked no (andThen a b) value
-on-and none Yes b value = refl
-on-and none (No r) b value = refl
-
-pub and-assoc : (a b c : Asked) → andThen a (andThen b c) ≡ andThen (andThen a b) c
-and-assoc Yes b c = refl
-and-assoc (No r) b c = refl
-
-pub kept-and : (a b : Asked) (new old : List ℕ) → kept a (kept b new old) old ≡ kept (andThen a b) new old
-kept-and Yes b new old = refl
-kept-and (No r) b new old = refl
-
 -- b is what the call without a book asks, so 1 is its first question
 module _ (limits : Limits) (enough : Bool) (tbox : List ℕ) (given : List Picture)
     (ok : underAsked limits tbox given ≡ Yes) (b : Asked) (short : enough ≡ false → b ≡ No shortBuffer) where
@@ -98,13 +84,13 @@ module _ (limits : Limits) (tbox : List ℕ) where
     pub normalize-all : (room : ℕ) → normalizeUnder limits tbox picture room
         ≡ onAsked normalized.Refused (normalizeAll room) (normalized.Length (length (normalFile limits s)))
     unfolding normalizeUnder normalizeAnswer
-    normalize-all room = on-and normalized.Refused (normalizeBefore limits tbox picture room) (oneAsked limits s room) _
+    normalize-all room = on-then normalized.Refused (normalizeBefore limits tbox picture room) (oneAsked limits s room) _
 
     pub normalize-result-all : (out : List ℕ) → normalizeResultUnder limits tbox picture out
         ≡ kept (normalizeAll (length out)) (put out 0 (normalFile limits s)) out
     unfolding normalizeResultUnder normalizeResult
     normalize-result-all out =
-        kept-and (normalizeBefore limits tbox picture (length out)) (oneAsked limits s (length out))
+        kept-then (normalizeBefore limits tbox picture (length out)) (oneAsked limits s (length out))
         (put out 0 (normalFile limits s)) out
 
     module _ (ok : underAsked limits tbox (one picture) ≡ Yes) where
@@ -154,21 +140,21 @@ module _ (limits : Limits) (tbox : List ℕ) where
         ≡ onAsked verdict.Refused (pairAll (evidenceSize limits) work result) (verdictAnswer limits p q)
     unfolding subsumesUnder subsumesAnswer
     subsumes-all work result =
-        on-and verdict.Refused (pairBefore limits tbox first second (evidenceSize limits) work result)
+        on-then verdict.Refused (pairBefore limits tbox first second (evidenceSize limits) work result)
         (subsumesAsked limits p q work result) (verdictAnswer limits p q)
 
     pub subsumes-work-all : (work : List ℕ) (result : ℕ) → subsumesWorkUnder limits tbox first second work result
         ≡ kept (pairAll (evidenceSize limits) (length work) result) (halvesPut limits p q work) work
     unfolding subsumesWorkUnder
     subsumes-work-all work result =
-        kept-and (pairBefore limits tbox first second (evidenceSize limits) (length work) result)
+        kept-then (pairBefore limits tbox first second (evidenceSize limits) (length work) result)
         (subsumesAsked limits p q (length work) result) (halvesPut limits p q work) work
 
     pub subsumes-result-all : (work : ℕ) (result : List ℕ) → subsumesResultUnder limits tbox first second work result
         ≡ kept (pairAll (evidenceSize limits) work (length result)) (put result 0 (evidenceOf limits p q)) result
     unfolding subsumesResultUnder
     subsumes-result-all work result =
-        kept-and (pairBefore limits tbox first second (evidenceSize limits) work (length result))
+        kept-then (pairBefore limits tbox first second (evidenceSize limits) work (length result))
         (subsumesAsked limits p q work (length result)) (put result 0 (evidenceOf limits p q)) result
 
     pub lcs-all : (work result : ℕ) → lcsUnder limits tbox first second work result
@@ -177,15 +163,15 @@ module _ (limits : Limits) (tbox : List ℕ) where
     lcs-all work result =
         let before = pairBefore limits tbox first second (pictureSize limits) work result in
         let file = lcsFile limits p q in
-        on-and common.Refused before (lcsAsked limits p q work result) (common.Length (length file))
+        on-then common.Refused before (lcsAsked limits p q work result) (common.Length (length file))
         ∙ ap (λ (a : Asked). onAsked common.Refused a (common.Length (length file)))
-        (and-assoc before (lcsLent limits p q work result) (largeAsked limits p q))
+        (then-assoc before (lcsLent limits p q work result) (largeAsked limits p q))
 
     pub lcs-work-all : (work : List ℕ) (result : ℕ) → lcsWorkUnder limits tbox first second work result
         ≡ kept (pairAll (pictureSize limits) (length work) result) (halvesPut limits p q work) work
     unfolding lcsWorkUnder
     lcs-work-all work result =
-        kept-and (pairBefore limits tbox first second (pictureSize limits) (length work) result)
+        kept-then (pairBefore limits tbox first second (pictureSize limits) (length work) result)
         (lcsLent limits p q (length work) result) (halvesPut limits p q work) work
 
     pub lcs-result-all : (work : ℕ) (result : List ℕ) → lcsResultUnder limits tbox first second work result
@@ -194,9 +180,9 @@ module _ (limits : Limits) (tbox : List ℕ) where
     lcs-result-all work result =
         let before = pairBefore limits tbox first second (pictureSize limits) work (length result) in
         let written = put result 0 (lcsFile limits p q) in
-        kept-and before (lcsAsked limits p q work (length result)) written result
+        kept-then before (lcsAsked limits p q work (length result)) written result
         ∙ ap (λ (a : Asked). kept a written result)
-        (and-assoc before (lcsLent limits p q work (length result)) (largeAsked limits p q))
+        (then-assoc before (lcsLent limits p q work (length result)) (largeAsked limits p q))
 
     pub verify-all : (evidence : List ℕ) (room : ℕ) → verifyUnder limits tbox first second evidence room
         ≡ onAsked verified.Refused (verifyAll evidence room) (evidenceKind limits q evidence)
@@ -204,15 +190,15 @@ module _ (limits : Limits) (tbox : List ℕ) where
     verify-all evidence room =
         let before = verifyBefore limits tbox first second room in
         let kind = evidenceKind limits q evidence in
-        on-and verified.Refused before (verifyAsked limits p q evidence room) kind
+        on-then verified.Refused before (verifyAsked limits p q evidence room) kind
         ∙ ap (λ (a : Asked). onAsked verified.Refused a kind)
-        (and-assoc before (verifyLent limits p q room) (evidenceAsked limits p q evidence))
+        (then-assoc before (verifyLent limits p q room) (evidenceAsked limits p q evidence))
 
     pub verify-work-all : (work : List ℕ) → verifyWorkUnder limits tbox first second work
         ≡ kept (verifyLentAll (length work)) (halvesPut limits p q work) work
     unfolding verifyWorkUnder
     verify-work-all work =
-        kept-and (verifyBefore limits tbox first second (length work)) (verifyLent limits p q (length work))
+        kept-then (verifyBefore limits tbox first second (length work)) (verifyLent limits p q (length work))
         (halvesPut limits p q work) work
 
     -- ---- where all before the first 14 is answered yes

@@ -22,7 +22,7 @@ use Rattle.table.specs.NameSet.{setBelow}
 use Rattle.table.specs.Put.{put, zeros}
 use Rattle.table.specs.declared.layout.Limits.{Limits}
 use Rattle.order.specs.Preorder.{minimal, passedOver, strict}
-use Rattle.picture.proofs.Orders.{from-yes, read-decides}
+use Rattle.picture.proofs.Orders.{from-same, from-yes, read-decides}
 use Rattle.picture.specs.Asked.{andThen, askedFrom, kept, onAsked, readAsked, roomAsked}
 use Rattle.picture.specs.Readable.{Readable}
 use Rattle.picture.specs.declared.answer.Asked.{Asked}
@@ -46,7 +46,7 @@ use Rattle.definitions.specs.Unfolded.{unfoldedFile}
 use Rattle.under.specs.Book.{bookBefore, caseAndCards, mostSpecificUnder, mostSpecificWorkUnder, unfoldedBook}
 use Rattle.under.specs.Calls.{lcsResultUnder, lcsUnder, lcsWorkUnder, normalizeResultUnder, normalizeUnder, subsumesResultUnder, subsumesUnder, subsumesWorkUnder, verifyUnder, verifyWorkUnder}
 use Rattle.under.specs.Given.{lentUnder, one, pair, underAsked}
-use Rattle.under.proofs.Books.{before-decides, cards-all, from-same, unfolded-card, unfolded-count, unfolded-form}
+use Rattle.under.proofs.Books.{before-decides, cards-all, unfolded-card, unfolded-count, unfolded-form}
 use Rattle.under.proofs.Calls as calls
 use Rattle.under.proofs.Givens.{reads-decides}
 

@@ -1,7 +1,6 @@
 -- "Checks, after all reading and before the first 14" (02, U3): what a call under a definitions book asks in all, up to
 -- 14. The unfolded pictures are readable, so reading them refuses nothing: after what is asked before the first 14
 -- comes 14 alone, of each of them.
---   same-after                  what comes after a yes
 --   one-order, pair-order       so of one picture; of two, with any buffers
 --   OneNo, PairNo               the first no
 --   one-decides, pair-decides   all yes exactly with room and of an acceptable picture or pair; the first no exactly
@@ -16,7 +15,7 @@ use mathlib.Core.Logic.{_⊎_}
 use mathlib.Core.Path.{_∙_, _≡_, refl, subst, sym}
 use Rattle.table.specs.Bounds.{Bounded, pictureSize}
 use Rattle.table.specs.declared.layout.Limits.{Limits}
-use Rattle.picture.proofs.Orders.{Decides, EveryRefusal, and-decides, and-refuses, read-decides, said-so}
+use Rattle.picture.proofs.Orders.{Decides, EveryRefusal, and-decides, and-refuses, read-decides, said-so, then-same}
 use Rattle.picture.specs.Asked.{andThen}
 use Rattle.picture.specs.Readable.{Readable}
 use Rattle.picture.specs.Refusal.{tooMany}
@@ -38,10 +37,6 @@ use Rattle.under.proofs.Calls.{normalizeAll}
 use Rattle.under.proofs.Givens.{LentNo, PreparedUnder, acceptable-prepared, lent-decides, lent-yes}
 
 -- what comes after a yes
-pub same-after : (a b c : Asked) → (a ≡ Yes → b ≡ c) → andThen a b ≡ andThen a c
-same-after Yes b c h = h refl
-same-after (No r) b c h = refl
-
 module _ (limits : Limits) (bounded : Bounded limits) (tbox : List ℕ) where
   -- ---- one picture
 
@@ -58,7 +53,7 @@ module _ (limits : Limits) (bounded : Bounded limits) (tbox : List ℕ) where
     pub one-order : normalizeAll limits tbox picture room
         ≡ andThen (normalizeBefore limits tbox picture room) (mergedAsked limits First s)
     one-order =
-        same-after (normalizeBefore limits tbox picture room) (oneAsked limits s room) (mergedAsked limits First s)
+        then-same (normalizeBefore limits tbox picture room) (oneAsked limits s room) (mergedAsked limits First s)
         (λ e.
         let (long, ok) = lent-yes limits tbox (one picture) enough .0 e in
         one-read limits s room (leb-true (pictureSize limits) room long) Yes
@@ -100,7 +95,7 @@ module _ (limits : Limits) (bounded : Bounded limits) (tbox : List ℕ) where
     pub pair-order : andThen before (lentAsked limits roomy p q) ≡ andThen before merged
     unfolding pairAsked
     pair-order =
-        same-after before (lentAsked limits roomy p q) merged
+        then-same before (lentAsked limits roomy p q) merged
         (λ e.
         let (long, ok) = lent-yes limits tbox (pair first second) roomy .0 e in
         let readable = unfolded-readable limits bounded tbox (ok .definable) in
