@@ -1,5 +1,6 @@
 -- 2 to 13 of the definitions in turn.
 --   all-readable       where 2 to 13 are answered yes, the definitions are readable
+use Prim.Native.Nat.{ℕ}
 use mathlib.Core.List.{List}
 use mathlib.Core.Path.{_∙_, _≡_, sym}
 use Rattle.table.specs.declared.layout.Limits.{Limits}
