@@ -103,11 +103,13 @@ module _ (S : Signature) (p : Table S) (M : Structure S) where
   abbrev FitsRow : (ℕ → Tree S) → M .Element → ℕ → Type 0
   FitsRow h x j = FitsEdge S M x (p .kind j) (p .role j) (h j)
 
-  pub successors-fit : (h : ℕ → Tree S) (s : List ℕ) (x : M .Element) → FitsAll S M (successors S p h s) x → (j : ℕ) → T (member j s) → FitsRow h x j
+  pub successors-fit : (h : ℕ → Tree S) (s : List ℕ) (x : M .Element) → FitsAll S M (successors S p h s) x →
+      (j : ℕ) → T (member j s) → FitsRow h x j
   successors-fit h [] x f = λ j m. absurd m
   successors-fit h (i ∷ s) x f = member-cons (FitsRow h x) i s (f .0) (successors-fit h s x (f .1))
 
-  pub fit-successors : (h : ℕ → Tree S) (s : List ℕ) (x : M .Element) → ((j : ℕ) → T (member j s) → FitsRow h x j) → FitsAll S M (successors S p h s) x
+  pub fit-successors : (h : ℕ → Tree S) (s : List ℕ) (x : M .Element) →
+      ((j : ℕ) → T (member j s) → FitsRow h x j) → FitsAll S M (successors S p h s) x
   fit-successors h [] x f = tt
   fit-successors h (i ∷ s) x f = (f i (member-head i s), fit-successors h s x (λ j m. f j (member-tail j i s m)))
 

@@ -335,10 +335,13 @@ module _ (limits : Limits) (book : List ℕ) (given : List Picture) where
       (and-decides (question 25 Definitions (definitionsForm book)) (andThen reads once)
       (asked-decides (definitionsForm book) (refusal 25 Definitions))
       (λ f. and-decides reads once reads-decided
-      (λ r. and-decides (question 26 Definitions (namedOnce book)) excludes (asked-decides (namedOnce book) (refusal 26 Definitions))
-      (λ o. and-decides (askedOf (questionOf 27 (excludesNone book)) all) free (all-decided book given 27 (excludesNone book))
+      (λ r. and-decides (question 26 Definitions (namedOnce book)) excludes
+      (asked-decides (namedOnce book) (refusal 26 Definitions))
+      (λ o. and-decides (askedOf (questionOf 27 (excludesNone book)) all) free
+      (all-decided book given 27 (excludesNone book))
       (λ x. and-decides (question 28 Definitions isAcyclic) few (asked-decides isAcyclic (refusal 28 Definitions))
-      (λ c. and-decides (askedOf (questionOf 29 (unfoldedFew limits book)) all) deep (all-decided book given 29 (unfoldedFew limits book))
+      (λ c. and-decides (askedOf (questionOf 29 (unfoldedFew limits book)) all) deep
+      (all-decided book given 29 (unfoldedFew limits book))
       (λ w. all-decided book given 30 (unfoldedShallow limits book)))))))) (
         λ (f, (r, (o, (x, (c, (w, h)))))). (
           record {
@@ -435,7 +438,10 @@ module _ (limits : Limits) (book : List ℕ) (given : List Picture) where
         (λ k a b. read-refuses P limits (Definition k) (definitionFile book k) (h .reads k (omega arith)))))
         (and-refuses P (question 26 Definitions (namedOnce book)) excludes
         (asked-refuses P (namedOnce book) (refusal 26 Definitions) (h .once))
-        (and-refuses P (askedOf (questionOf 27 (excludesNone book)) all) free (all-refuse 27 (excludesNone book) (h .excluding))
-        (and-refuses P (question 28 Definitions isAcyclic) few (asked-refuses P isAcyclic (refusal 28 Definitions) (h .ring))
-        (and-refuses P (askedOf (questionOf 29 (unfoldedFew limits book)) all) deep (all-refuse 29 (unfoldedFew limits book) (h .few))
+        (and-refuses P (askedOf (questionOf 27 (excludesNone book)) all) free
+        (all-refuse 27 (excludesNone book) (h .excluding))
+        (and-refuses P (question 28 Definitions isAcyclic) few
+        (asked-refuses P isAcyclic (refusal 28 Definitions) (h .ring))
+        (and-refuses P (askedOf (questionOf 29 (unfoldedFew limits book)) all) deep
+        (all-refuse 29 (unfoldedFew limits book) (h .few))
         (all-refuse 30 (unfoldedShallow limits book) (h .shallow)))))))

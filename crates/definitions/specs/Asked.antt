@@ -4,7 +4,8 @@
 --   askedOf               one question of several pictures in turn, to the first no
 --   definitionsOf         the definitions of a book, in their order
 --   readOf                2 to 13 of a picture
---   question, questionOf  a question by its number and its test: of the input that it names; of a picture, which it names
+--   question, questionOf  a question by its number and its test, of the input that it names; of a picture, and it names
+--                         that
 --   definitionsAsked      all of them, in their order, where `given` are the pictures that the call was given, already
 --                         read
 use Prim.Native.Nat.{ℕ}
@@ -33,7 +34,8 @@ askedOf ask [] = Yes
 askedOf ask (p ∷ ps) = andThen (ask p) (askedOf ask ps)
 
 abbrev pub definitionsOf : List ℕ → List Picture
-definitionsOf book = listed (λ k. record { input = Definition k; file = definitionFile book k }) (definitionCount book) 0
+definitionsOf book =
+    listed (λ k. record { input = Definition k; file = definitionFile book k }) (definitionCount book) 0
 
 abbrev pub readOf : Limits → Picture → Asked
 readOf limits p = readAsked limits (p .input) (p .file)

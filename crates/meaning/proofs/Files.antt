@@ -64,7 +64,8 @@ pub rows-held : (ws : List (Row pictureSignature)) (rest : List ℕ) (j : ℕ) �
     (w .label .wanted .set) (w .label .excluded .set)
 rows-held ws rest j l = record {
   same =
-      subst (λ y. Same rowSize (rowsFrom 0 ws ++ rest) j (rowAt y (rowIn ws j)) 0) (zero-add j) (rows-same 0 ws rest j l);
+      subst (λ y. Same rowSize (rowsFrom 0 ws ++ rest) j (rowAt y (rowIn ws j)) 0) (zero-add j)
+      (rows-same 0 ws rest j l);
 }
 
 module _ (ws : List (Row pictureSignature)) where

@@ -53,7 +53,8 @@ use Rattle.table.proofs.SetsBelow.{has-setBelow, word-is}
 pub cleared-part : (d : List ℕ) (size n : ℕ) → n ≡ size → zeros size ++ drop n d ≡ put d 0 (zeros size)
 cleared-part d size n e = ap (λ (k : ℕ). zeros size ++ drop k d) (e ∙ sym (length-zeros size)) ∙ sym (put-start d (zeros size))
 
-module _ (limits : Limits) (case book : List ℕ) (count covering : ℕ) (counted : count ≡ cardCount book) (is : covering ≡ setBelow (caseCovered limits case book) count) where
+module _ (limits : Limits) (case book : List ℕ) (count covering : ℕ) (counted : count ≡ cardCount book)
+    (is : covering ≡ setBelow (caseCovered limits case book) count) where
   covering-has : (k : ℕ) → has covering k ≡ (ltb k count && caseCovered limits case book k)
   covering-has k = ap (λ (w : ℕ). has w k) is ∙ has-setBelow (caseCovered limits case book) count k
 

@@ -45,7 +45,8 @@ module _ (f : ℕ → Bool) where
   has-more w n true below k =
       let e : w + 2 ^ n ≡ union w (1 * 2 ^ n) = omega (arith, or-shifted-r 1 n w below) in
       let one : 1 * 2 ^ n ≡ 2 ^ n = omega arith in
-      ap (λ (v : ℕ). has v k) e ∙ has-union w (1 * 2 ^ n) k ∙ ap (λ (v : ℕ). has w k || has v k) one ∙ ap (λ (b : Bool). has w k || b) (has-power n k)
+      ap (λ (v : ℕ). has v k) e ∙ has-union w (1 * 2 ^ n) k ∙ ap (λ (v : ℕ). has w k || has v k) one
+      ∙ ap (λ (b : Bool). has w k || b) (has-power n k)
   has-more w n false below k = let e : w + 0 ≡ w = omega arith in ap (λ (v : ℕ). has v k) e ∙ sym (or-none (has w k))
 
   one-more : (n k : ℕ) → ((ltb k n && f k) || (f n && eqb k n)) ≡ (ltb k (suc n) && f k)

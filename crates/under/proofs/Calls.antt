@@ -84,7 +84,8 @@ module _ (limits : Limits) (tbox : List ℕ) where
     pub normalize-all : (room : ℕ) → normalizeUnder limits tbox picture room
         ≡ onAsked normalized.Refused (normalizeAll room) (normalized.Length (length (normalFile limits s)))
     unfolding normalizeUnder normalizeAnswer
-    normalize-all room = on-then normalized.Refused (normalizeBefore limits tbox picture room) (oneAsked limits s room) _
+    normalize-all room =
+        on-then normalized.Refused (normalizeBefore limits tbox picture room) (oneAsked limits s room) _
 
     pub normalize-result-all : (out : List ℕ) → normalizeResultUnder limits tbox picture out
         ≡ kept (normalizeAll (length out)) (put out 0 (normalFile limits s)) out
