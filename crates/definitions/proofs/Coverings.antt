@@ -134,7 +134,7 @@ module _ (limits : Limits) (bounded : Bounded limits) (book : List ℕ) (ok : De
   book-respects I r n d x b =
       let k = placeOf book n in
       let s = definitionFile book k in
-      let l = defined-place limits bounded book n d in
+      let l = defined-place book n d in
       let (f, g) = r k l x b in
       let e = place-name book n l in (
         λ h. belongs-fits I s (ok .readable k l) x (f (subst (λ m. T (I .holds m x)) (sym e) h)),

@@ -36,7 +36,7 @@ use Rattle.definitions.specs.Refusals.{AllOf}
 use Rattle.definitions.specs.Tbox.{definedWord, tboxOf}
 use Rattle.definitions.specs.Unfolded.{Definable, Unfolds, anyDefined, excludesNone, namedOnce, unfoldedFile}
 use Rattle.definitions.specs.Unfolded.{wantsDefined}
-use Rattle.definitions.proofs.Idle.{few-own, shallow-own}
+use Rattle.definitions.proofs.Idle.{few-own, file-own, shallow-own}
 use Rattle.definitions.proofs.Questions.{definable-asked}
 
 -- the set of no definitions
@@ -69,8 +69,7 @@ module _ (book : List ℕ) (empty : definitionCount book ≡ 0) where
       nowhere (suc n) j = nowhere n (j + 1)
 
   pub empty-unfolded : (limits : Limits) (s : List ℕ) → unfoldedFile limits book s ≡ s
-  unfolding unfoldedFile
-  empty-unfolded limits s = rw (empty-idle s)
+  empty-unfolded limits s = file-own limits book s (empty-idle s)
 
   pub empty-unfolds : (limits : Limits) (s : List ℕ) → Readable limits s → Unfolds limits book s
   unfolding excludesNone

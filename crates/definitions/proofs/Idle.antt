@@ -5,6 +5,7 @@
 --   rows-own               the unfolded rows are the picture's own
 --   tree-own               the table of a table's rows has its trees
 --   few-own, shallow-own   29 and 30
+--   file-own               the unfolded picture is the picture itself, whatever its bytes
 use Prim.Native.Nat.{_%_, _+_, _<_, _^_, _≤_, suc, zero, ℕ}
 use borrow.Author.Tests.{eqb-true, le-leb, not-false}
 use lib.Dec.{T, eqb, leb}
@@ -38,7 +39,7 @@ use Rattle.meaning.proofs.FileTables.{nameSet-same}
 use Rattle.meaning.proofs.Pictures.{picture-parents}
 use Rattle.meaning.specs.Meaning.{pictureTable}
 use Rattle.definitions.specs.Tbox.{definedWord, defines, tboxOf}
-use Rattle.definitions.specs.Unfolded.{anyDefined, unfoldedCount, unfoldedFew, unfoldedShallow, wantsDefined}
+use Rattle.definitions.specs.Unfolded.{anyDefined, unfoldedCount, unfoldedFew, unfoldedFile, unfoldedShallow, wantsDefined}
 
 -- ---- sets
 
@@ -156,3 +157,7 @@ module _ (limits : Limits) (s : List ℕ) (readable : Readable limits s)
       (at-each (λ j. leb (depth (again p .parent) j) (limits .depth)) (again p .rows) 0
       (λ j a b. le-leb (depth (again p .parent) j) (limits .depth)
       (own-depth j (omega (arith, rows-length p 0 (p .rows))))))
+
+pub file-own : (limits : Limits) (book s : List ℕ) → wantsDefined book s ≡ false → unfoldedFile limits book s ≡ s
+unfolding unfoldedFile
+file-own limits book s idle = rw idle

@@ -1,7 +1,8 @@
 -- The questions of a definitions book, in their order: all are answered yes exactly if it is definable and every given
 -- picture unfolds, and else the first no is the refusal.
 --   of-decides, of-refuses   one question of several pictures in turn
---   of-listed, of-definitions   of pictures that are listed, by their numbers; of the definitions
+--   of-append, of-listed     of pictures and then of others; of pictures that are listed, by their numbers
+--   of-definitions, of-all   of the definitions; of given pictures and then of the definitions
 --   definitions-decides      all yes exactly if ..; the first no is r exactly if `DefinitionsNo` says so
 --   asked-definable, definable-asked   its first half, both ways
 --   OfDefinitions            a property of every refusal that can come
@@ -55,7 +56,7 @@ module _ (ask : Picture → Asked) where
   of-refuses P (p ∷ ps) h = and-refuses P (ask p) (askedOf ask ps) (h .0) (of-refuses P ps (h .1))
 
   -- of pictures and then of others; of what is listed, by its numbers; of the definitions, by their places
-  of-append : (ps qs : List Picture) → askedOf ask (ps ++ qs) ≡ andThen (askedOf ask ps) (askedOf ask qs)
+  pub of-append : (ps qs : List Picture) → askedOf ask (ps ++ qs) ≡ andThen (askedOf ask ps) (askedOf ask qs)
   unfolding askedOf
   of-append [] qs = refl
   of-append (p ∷ ps) qs =
@@ -75,7 +76,7 @@ module _ (ask : Picture → Asked) where
   of-definitions book =
       of-listed (λ k. record { input = Definition k; file = definitionFile book k }) (definitionCount book) 0
 
-  of-all : (book : List ℕ) (given : List Picture) →
+  pub of-all : (book : List ℕ) (given : List Picture) →
       askedOf ask (given ++ definitionsOf book)
       ≡ andThen (askedOf ask given) (askedFrom (definitionAsked book) (definitionCount book) 0)
   of-all book given =

@@ -56,22 +56,21 @@ use Rattle.definitions.specs.Unfolded.{Definable, Unfolds, anyDefined, e
 use Rattle.definitions.specs.Unfolded.{unfoldedFile, unfoldedShallow, unfoldedTable, wantsDefined}
 use Rattle.definitions.proofs.Idle.{apart, rows-own, tree-own, word-set}
 
-module _ (limits : Limits) (bounded : Bounded limits) (book : List ℕ) where
-  abbrev D : Definitions pictureSignature
-  D = tboxOf book
-
-  pub defined-place : (n : ℕ) → T (pictureSignature .has (D .defined) n) → placeOf book n < definitionCount book
+module _ (book : List ℕ) where
+  pub defined-place : (n : ℕ) → T (pictureSignature .has (tboxOf book .defined) n) →
+      placeOf book n < definitionCount book
   unfolding definedWord
   defined-place n t =
       let h : Set.has (definedWord book) n ≡ true =
-      ap (λ w. Set.has w n) (sym (word-set book)) ∙ is-true (pictureSignature .has (D .defined) n) t in
+      ap (λ w. Set.has w n) (sym (word-set book)) ∙ is-true (pictureSignature .has (tboxOf book .defined) n) t in
       let (a, b) = both (ltb n nameCount) (defines book n) (sym (has-setBelow (defines book) nameCount n) ∙ h) in
       let (k, l, u, e) = some-at (λ k. eqb (nameOf book k) n) (definitionCount book) 0 b in
       let (f, g) = firstFrom-passes (λ k. eqb (nameOf book k) n) 0 (definitionCount book) k
       (true-is (eqb (nameOf book k) n) e) l u in
       omega arith
 
-  pub excludes-none : (s : List ℕ) → excludesNone book s ≡ true → ExcludesNone pictureSignature D (pictureTable s)
+  pub excludes-none : (s : List ℕ) → excludesNone book s ≡ true →
+      ExcludesNone pictureSignature (tboxOf book) (pictureTable s)
   unfolding excludesNone
   excludes-none s e k l =
       apart book (pictureTable s .label k .excluded)
@@ -79,23 +78,28 @@ module _ (limits : Limits) (bounded : Bounded limits) (book : List ℕ) where
       (each-at (λ j. not (anyDefined book (pictureTable s .label j .excluded))) (pictureTable s .rows) 0 e k
       (omega arith) (omega arith)))
 
-  pub table-some : (s : List ℕ) → Readable limits s → 0 < pictureTable s .rows
-  table-some s readable = readable-some limits s readable
+pub table-some : (limits : Limits) (s : List ℕ) → Readable limits s → 0 < pictureTable s .rows
+table-some limits s readable = readable-some limits s readable
+
+module _ (limits : Limits) (bounded : Bounded limits) (book : List ℕ) where
+  abbrev D : Definitions pictureSignature
+  D = tboxOf book
 
   pub asked-sound : ((k : ℕ) → k < definitionCount book → Readable limits (definitionFile book k)) →
       ((k : ℕ) → k < definitionCount book → excludesNone book (definitionFile book k) ≡ true) → Sound pictureSignature D
   asked-sound readable excluding = record {
-    rooted = λ n d. table-some (definitionFile book (placeOf book n)) (readable (placeOf book n) (defined-place n d));
+    rooted = λ n d. table-some limits (definitionFile book (placeOf book n))
+        (readable (placeOf book n) (defined-place book n d));
     ordered = λ n d. picture-parents limits (definitionFile book (placeOf book n))
-        (readable (placeOf book n) (defined-place n d));
-    excluding = λ n d. excludes-none (definitionFile book (placeOf book n))
-        (excluding (placeOf book n) (defined-place n d));
+        (readable (placeOf book n) (defined-place book n d));
+    excluding = λ n d. excludes-none book (definitionFile book (placeOf book n))
+        (excluding (placeOf book n) (defined-place book n d));
   }
 
   module _ (ok : Definable limits book) where
     readable-of : (n : ℕ) → T (pictureSignature .has (D .defined) n) →
         Readable limits (definitionFile book (placeOf book n))
-    readable-of n d = ok .readable (placeOf book n) (defined-place n d)
+    readable-of n d = ok .readable (placeOf book n) (defined-place book n d)
 
     pub book-sound : Sound pictureSignature D
     book-sound = asked-sound (ok .readable) (λ k l. ok .unfolds k l .excluding)
@@ -122,27 +126,29 @@ module _ (limits : Limits) (bounded : Bounded limits) (book : List ℕ) where
 
       pub picture-unfoldable : Unfoldable pictureSignature D (limits .rows) p
       picture-unfoldable = record {
-        some = table-some s readable;
+        some = table-some limits s readable;
         ordered = picture-parents limits s readable;
-        excluding = excludes-none s (unfolds .excluding);
+        excluding = excludes-none book s (unfolds .excluding);
         few = few;
       }
 
       parents : ParentsFirst pictureSignature u
       parents =
-          unfolded-parents pictureSignature D book-sound p (table-some s readable) (picture-parents limits s readable)
+          unfolded-parents pictureSignature D book-sound p (table-some limits s readable)
+          (picture-parents limits s readable)
           (limits .rows)
 
       known : KnownRoles pictureSignature u
       known =
-          unfolded-known pictureSignature D book-sound p (table-some s readable) (picture-parents limits s readable)
+          unfolded-known pictureSignature D book-sound p (table-some limits s readable)
+          (picture-parents limits s readable)
           (limits .rows) (picture-known limits s readable)
           (λ n d. picture-known limits (definitionFile book (placeOf book n)) (readable-of n d))
 
       root : (u .parent 0 ≡ p .parent 0) × (u .role 0 ≡ p .role 0)
       root =
-          let own = unfolded-own pictureSignature D book-sound p (table-some s readable)
-          (picture-parents limits s readable) (limits .rows) 0 (table-some s readable) in
+          let own = unfolded-own pictureSignature D book-sound p (table-some limits s readable)
+          (picture-parents limits s readable) (limits .rows) 0 (table-some limits s readable) in
           (own .1, own .3)
 
       shallow : (j : ℕ) → j < u .rows → depth (u .parent) j ≤ limits .depth
@@ -186,7 +192,7 @@ module _ (limits : Limits) (bounded : Bounded limits) (book : List ℕ) where
       own-tree e =
           picture-tree s readable
           ∙ sym (ap (λ ws. wholeTree pictureSignature (tableOf pictureSignature ws))
-          (rows-own limits s readable book e) ∙ tree-own p (table-some s readable))
+          (rows-own limits s readable book e) ∙ tree-own p (table-some limits s readable))
 
       pub unfolded-readable : Readable limits (unfoldedFile limits book s)
       unfolding unfoldedFile

@@ -21,7 +21,7 @@ use Rattle.table.proofs.NameSets.{has-none, has-power, has-union, subset-power}
 use Rattle.table.proofs.Ranges.{at-each, at-some, some-at}
 use Rattle.table.proofs.SetsBelow.{word-is}
 use Rattle.table.proofs.Tests.{refuted}
-use Rattle.table.specs.Bounds.{Bounded, benchLimits}
+use Rattle.table.specs.Bounds.{Bounded}
 use Rattle.table.specs.Layout.{headSize, lengthOffset, nameCount, numberSize}
 use Rattle.table.specs.NameSet.{has, none, subset, union}
 use Rattle.table.specs.NameValues.{setOf}
@@ -204,7 +204,7 @@ module _ (tbox : List ℕ) (form : definitionsForm tbox ≡ true) (index : Index
     names = word-set tbox ∙ sym is-defined;
     pictures = λ n d.
         let k = placeOf tbox n in
-        let l : k < definitionCount tbox = defined-place benchLimits (omega arith, omega arith) tbox n d in
+        let l : k < definitionCount tbox = defined-place tbox n d in
         ap pictureTable (sym (ap (partAt tbox) (starts-at e n k l (place-name tbox n l)) ∙ part-file tbox k));
   }
 

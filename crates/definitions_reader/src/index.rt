@@ -13,7 +13,7 @@ ghost use Rattle.definitions_form.specs.Formed.{Formed};
 ghost use Rattle.definitions_reader.specs.Index.{Indexed};
 
 pub struct Index {
-    // By name; 0 where it is not defined.
+    // By name.
     pub starts: [usize; NAMES],
     pub defined: Names,
     // 26.

@@ -29,7 +29,7 @@ fn used_names(picture: &[u8], defined: Names) -> Names
     wants.intersection(defined)
 }
 
-// Those of each defined name; of any other it has none. The names come by rising number, each struck out.
+// Those of each defined name. The names come by rising number, each struck out.
 pub fn find_uses(tbox: &[u8], starts: &[usize; NAMES], defined: Names) -> [Names; NAMES]
     requires { ⌜ Opened (now tbox) (now starts) (setOf defined) ⌝ }
     ensures { λ r. ⌜ Uses (now (tbox .entry)) (now (starts .entry)) (setOf defined) r ⌝ }

@@ -1,7 +1,7 @@
 -- 01, "A refusal carries the number and which input it concerns"; 02, U1, "Refusals 2 to 13 shall also carry the row
 -- being read (rows completed so far) and the byte where its field begins, from the picture's first", "other refusals
 -- carry .. 0 for both": every refusal is one of these.
---   refusal       a question is answered no for an input, but of no field: 1, and 14 to 24
+--   refusal       a question is answered no for an input, but of no field: 1, and 14 to 30
 --   refusalAt     a question is answered no for the field after so many rows of a picture: 2 to 13
 --   shortBuffer   1, which names the buffer, whichever is short
 --   tooMany       14 of an input

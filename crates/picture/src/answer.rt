@@ -39,7 +39,7 @@ pub enum Answer {
     Refused(Refusal),
 }
 
-// Of no field: 1, and 14 to 24.
+// Of no field: 1, and 14 to 30.
 pub fn refuse(number: u8, input: Input) -> Refusal
     ensures { λ r. ⌜ r ≡ refusal number input ⌝ }
 {

@@ -44,7 +44,8 @@ pub known-next : (s depths : List ℕ) (n d : ℕ) → n < length depths → Kno
     parentOk n (parentOf s n) ≡ true → d ≡ depth (parentOf s) n → Known s (n + 1) (set depths n d)
 known-next s depths n d room known r e =
     record {
-      ordered = λ k i j. below-next (λ (m : ℕ). 0 < m → parentOf s m < m) n (λ m l p. known .ordered m p l) (λ p. parent-below n (parentOf s n) (λ z. omega arith) r) k j i;
+      ordered = λ k i j. below-next (λ (m : ℕ). 0 < m → parentOf s m < m) n (λ m l p. known .ordered m p l)
+          (λ p. parent-below n (parentOf s n) (λ z. omega arith) r) k j i;
       depths-hold = λ k j. below-next (λ (m : ℕ). getD (set depths n d) m 0 ≡ depth (parentOf s) m) n (λ m l. getD-set-other depths n m d 0 (λ z. omega arith) ∙ known .depths-hold m l) (getD-set-same depths n d 0 room ∙ e) k j;
     }
 

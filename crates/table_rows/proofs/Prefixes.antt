@@ -1,5 +1,6 @@
 -- The rows that a table under construction has: its first bytes.
 --   take-put        bytes put at a place, and what stands before them
+--   take-before     what stands before them is as it was
 --   prefix-put      a row put after them is one more
 --   prefix-before   fewer rows of a longer prefix
 use Prim.Native.Nat.{_*_, _+_, _≤_, ℕ}
@@ -15,6 +16,10 @@ use Rattle.table_rows.specs.Rows.{prefix}
 pub take-put : (d : List ℕ) (at : ℕ) (s : List ℕ) (n : ℕ) → at ≤ length d → n ≡ at + length s → take n (put d at s) ≡ take at d ++ s
 unfolding put
 take-put d at s n h e = take-at (take at d ++ s) _ n (length-append (take at d) s ∙ ap (λ (k : ℕ). k + length s) (length-take-le at d h) ∙ sym e)
+
+pub take-before : (d : List ℕ) (at : ℕ) (s : List ℕ) → at ≤ length d → take at (put d at s) ≡ take at d
+unfolding put
+take-before d at s h = take-at (take at d) _ at (length-take-le at d h)
 
 pub prefix-put : (d : List ℕ) (n : ℕ) (row : List ℕ) → place n 0 ≤ length d → length row ≡ rowSize → prefix (n + 1) (put d (place n 0) row) ≡ prefix n d ++ row
 prefix-put d n row h l = take-put d (place n 0) row (place (n + 1) 0) h (omega arith)

@@ -161,6 +161,8 @@ cases =
     ∷ nearest noName empty [] (selected.Refused (refusal 24 Book))
     ∷ nearest noName empty (bookBytes (empty ∷ badTag ∷ [])) (selected.Refused (refusalAt 3 (Card 1) 0))
     ∷ nearest noName empty (bookBytes (empty ∷ grows ∷ [])) (selected.Refused (refusal 25 Definitions))
+    -- 27 of the case before the cards
+    ∷ nearest threeSome notThree (bookBytes (notThree ∷ [])) (selected.Refused (refusal 27 First))
     ∷ nearest threeSome empty (bookBytes (empty ∷ notThree ∷ [])) (selected.Refused (refusal 27 (Card 1)))
     ∷ nearest threeAll empty (bookBytes (empty ∷ grows ∷ [])) (selected.Refused (tooMany (Card 1)))
     ∷ []

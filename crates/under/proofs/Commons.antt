@@ -138,10 +138,10 @@ module _ (limits : Limits) (bounded : Bounded limits) (tbox : List ℕ) (ok : De
         least-under-concepts pictureSignature D pictureSingletons (book-sound limits bounded tbox ok) (ok .free)
         (limits .rows)
         (λ m t. let k = placeOf tbox m in
-        let l = defined-place limits bounded tbox m t in
+        let l = defined-place tbox m t in
         picture-unfoldable limits bounded tbox ok (definitionFile tbox k) (ok .readable k l) (ok .unfolds k l))
         (λ m t. let k = placeOf tbox m in
-        let l = defined-place limits bounded tbox m t in
+        let l = defined-place tbox m t in
         unfolded-roles (definitionFile tbox k) (ok .readable k l) (ok .unfolds k l))
         (pictureTable first) (pictureTable second) (picture-unfoldable limits bounded tbox ok first r u)
         (picture-unfoldable limits bounded tbox ok second s v) (pictureTree limits picture)
@@ -190,7 +190,7 @@ module _ (limits : Limits) (bounded : Bounded limits) (tbox first second : List 
             (treeOf-rolesKnown pictureSignature (pictureTable other) (picture-known limits other r) (limits .depth) 0))
             (conceptOf-negates pictureSignature (tboxOf tbox) t
             (tree-excludes pictureSignature (tboxOf tbox) (pictureTable other)
-            (excludes-none limits bounded tbox other e) (limits .depth) 0 (table-some limits bounded tbox other r)));
+            (excludes-none tbox other e) (limits .depth) 0 (table-some limits other r)));
         least-any = least;
       }
 

@@ -11,7 +11,8 @@ use Rattle.table.specs.Layout.{endSize, «place»}
 use Rattle.table.specs.Put.{put}
 use Rattle.table.proofs.Puts.{length-put}
 use Rattle.table.proofs.Rows.{length-endBytes}
-use Rattle.table_rows.proofs.Prefixes.{take-put}
+use Rattle.table_rows.proofs.Prefixes.{take-before, take-put}
+use Rattle.table_rows.specs.Rows.{prefix}
 use Rattle.unfold_rows.specs.Growing.{Filed, Unfolded}
 
 module _ (picture tbox starts : List ℕ) (defined limit r : ℕ) (d e : List ℕ)
@@ -24,6 +25,7 @@ module _ (picture tbox starts : List ℕ) (defined limit r : ℕ) (d e : List �
     few = λ D agrees few.
         let (count, rows) = unfolded .few D agrees few in (
           count,
+          ap (prefix r) at ∙ take-before e (place r 0) endBytes (omega arith) ∙ rows,
           ap (take (place r endSize)) at
               ∙ take-put e (place r 0) endBytes (place r endSize) (omega arith) (omega (arith, length-endBytes))
               ∙ ap (λ z. z ++ endBytes) rows,

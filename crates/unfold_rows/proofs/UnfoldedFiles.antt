@@ -3,6 +3,7 @@
 --   wants-same       whether a row wants a defined name
 --   unfolded-few     29
 --   unfolded-count   the rows that 29 counts, if they are not too many
+--   unfolded-rows    the rows that are written, of which 30 is asked (unfold_depth/proofs/UnfoldedDepths)
 --   unfolded-file    the unfolded picture as a file, where a row wants a defined name
 use Prim.Native.Nat.{_≤_, ℕ}
 use borrow.Author.Tests.{leb-false, leb-true, lt-leb}
@@ -17,7 +18,7 @@ use Rattle.table.specs.declared.layout.Limits.{Limits}
 use Rattle.table.proofs.Bools.{by-test}
 use Rattle.ale.specs.PictureSignature.{pictureSignature}
 use Rattle.tbox.specs.Unfold.{unfoldRows}
-use Rattle.meaning.specs.File.{fileOf}
+use Rattle.meaning.specs.File.{fileOf, rowsFrom}
 use Rattle.meaning.specs.Meaning.{pictureTable}
 use Rattle.definitions.specs.Tbox.{tboxOf}
 use Rattle.definitions.specs.Unfolded.{unfoldedCount, unfoldedFew, unfoldedFile, wantsDefined}
@@ -48,10 +49,16 @@ module _ (tbox s starts : List ℕ) (defined : ℕ) (agrees : Agrees (tboxOf tbo
         (filed .many (tboxOf tbox) agrees (leb-false (unfoldedCount limits tbox s) (limits .rows) f))
         ∙ sym f)
 
+    pub unfolded-rows : unfoldedFew limits tbox s ≡ true → take (place (unfoldedCount limits tbox s) 0) e ≡
+        rowsFrom 0 (unfoldRows pictureSignature (tboxOf tbox) (limits .rows) (pictureTable s))
+    unfolding unfoldedCount
+    unfolded-rows t =
+        ap (λ n. take (place n 0) e) (sym (unfolded-count t)) ∙ filed .few (tboxOf tbox) agrees (few t) .1
+
     pub unfolded-file : unfoldedFew limits tbox s ≡ true → wantsDefined tbox s ≡ true →
         take (place r endSize) e ≡ unfoldedFile limits tbox s
     unfolding unfoldedFile unfoldedCount
     unfolded-file t w =
-        filed .few (tboxOf tbox) agrees (few t) .1
+        filed .few (tboxOf tbox) agrees (few t) .2
         ∙ ap (λ b. pick b (fileOf (unfoldRows pictureSignature (tboxOf tbox) (limits .rows) (pictureTable s))) s)
         (sym w)

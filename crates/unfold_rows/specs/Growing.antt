@@ -106,6 +106,7 @@ pub record Filed (picture tbox starts : List ℕ) (defined limit r : ℕ) (d e :
   pub few : (D : Definitions pictureSignature) → Agrees D tbox starts defined →
       length (grown pictureSignature D (pictureTable picture) limit) ≤ limit →
       (r ≡ length (grown pictureSignature D (pictureTable picture) limit))
+      × (prefix r e ≡ rowsFrom 0 (unfoldRows pictureSignature D limit (pictureTable picture)))
       × (take (place r endSize) e ≡ fileOf (unfoldRows pictureSignature D limit (pictureTable picture)))
   pub many : (D : Definitions pictureSignature) → Agrees D tbox starts defined →
       limit < length (grown pictureSignature D (pictureTable picture) limit) → limit < r

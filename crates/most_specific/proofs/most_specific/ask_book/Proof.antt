@@ -63,7 +63,8 @@ returns-2 c =
     let asked = c .before .before .before .before .before .before .before in
     let passed = cards-passed (args .limits) (now (args .case)) (now (args .book))
     (sym (asked .before .has-book-form .ensures) ∙ not-false _ (asked .if1 .left))
-    (find-cards .result) (find-cards .ensures) (read-cards .result) (read-cards .ensures) (c .before .before .before .before .enum-told .given .1) in
+    (find-cards .result) (find-cards .ensures) (read-cards .result) (read-cards .ensures)
+    (c .before .before .before .before .enum-told .given .1) in
     left-as (args .limits) (mostSpecificCards (args .limits) (now (args .case)) (now (args .book))) (now (args .work)) (afterCase (args .limits) (now (args .case)) (now (args .book))) (afterCards (args .limits) (now (args .case)) (now (args .book))) passed
     (chosen .result) _ (chosen .ensures)
 
