@@ -2,7 +2,7 @@
 --   part-length                    the part at a place is as long as its field says
 --   opened-some, opened-most       the picture of a defined name has from 1 to 256 rows
 --   opened-has                     each of them stands in it: table_rows' HasRow
---   opened-length, opened-size     how long it is
+--   opened-length                  how long it is
 use Prim.Native.Nat.{_<_, _≤_, ℕ}
 use native.Mathlib.Omega.{arith}
 use lib.ListN.{drop, getD, length, length-drop}
@@ -10,7 +10,7 @@ use lib.Seq.{length-take-le}
 use mathlib.Core.Bool.{true}
 use mathlib.Core.List.{List}
 use mathlib.Core.Path.{_≡_}
-use Rattle.table.specs.Bounds.{benchLimits, maxRows, pictureSize}
+use Rattle.table.specs.Bounds.{maxRows}
 use Rattle.table.specs.Layout.{endSize, rowSize, «place»}
 use Rattle.table.specs.NameSet.{has}
 use Rattle.picture.specs.Readable.{rowCount}
@@ -37,6 +37,3 @@ module _ (tbox starts : List ℕ) (defined n : ℕ) (opened : Opened tbox starts
 
   pub opened-length : length picture ≡ place (rowCount picture) endSize
   opened-length = readable-length (opened .limits) picture (opened .readable n member)
-
-  pub opened-size : length picture ≤ pictureSize benchLimits
-  opened-size = omega (arith, opened-length, opened-most)
