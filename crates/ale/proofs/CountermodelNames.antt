@@ -4,6 +4,7 @@
 --   Within               P holds of every name of a set
 --   WithinLabel          P holds of the wanted names of a label, and Q of the excluded ones
 --   Named, NamedAll      so of every label of a tree, of a forest
+--   edges-named          a forest of which each successor is such
 --   normal-named         the normal tree of a table whose labels are such
 --   encoded-named        the rows of such a tree, once encoded
 --   countermodel-named   the countermodel, where R holds of what d excludes and of what v wants
@@ -69,10 +70,10 @@ module _ (S : Signature) where
           let b = tidyAll-named f (w .1) in
           chosen NamedAll (dropped S k u) g (cons k r u g) (λ _. b) (λ _. (tidy-named t (w .0), b))
 
-    abbrev NamedEdge : Kind → ℕ → Tree S → Type 0
+    abbrev pub NamedEdge : Kind → ℕ → Tree S → Type 0
     NamedEdge k r t = Named t
 
-    edges-named : (f : Forest S) → All S NamedEdge f → NamedAll f
+    pub edges-named : (f : Forest S) → All S NamedEdge f → NamedAll f
     edges-named nil h = tt
     edges-named (cons k r t f) h = (h .0, edges-named f (h .1))
 
@@ -108,12 +109,12 @@ module _ (S : Signature) where
     -- ---- encoded
 
     abbrev NamedRow : Row S → Type 0
-    NamedRow w = Within P (w .label .wanted)
+    NamedRow w = WithinLabel (w .label)
 
     mutual
       encodeTree-named : (t : Tree S) (p : ℕ) (k : Kind) (r o : ℕ) → Named t →
           EachRow S NamedRow (encodeTree S t p k r o)
-      encodeTree-named (node l f) p k r o w = (w .0 .0, encodeForest-named f o (suc o) (w .1))
+      encodeTree-named (node l f) p k r o w = (w .0, encodeForest-named f o (suc o) (w .1))
 
       encodeForest-named : (f : Forest S) (p o : ℕ) → NamedAll f → EachRow S NamedRow (encodeForest S f p o)
       encodeForest-named nil p o w = tt
@@ -123,7 +124,7 @@ module _ (S : Signature) where
           (encodeTree-named t p k r o (w .0)) (encodeForest-named f p e (w .1))
 
     pub encoded-named : (t : Tree S) → Named t → (i : ℕ) → i < (encoded S t) .rows →
-        Within P ((encoded S t) .label i .wanted)
+        WithinLabel ((encoded S t) .label i)
     encoded-named t w = row-at S NamedRow (encode S t) (encodeTree-named t 0 exists 0 0 w)
 
   -- ---- the countermodel

@@ -55,6 +55,7 @@ pub mod RowMaps
 -- the product
 pub mod Pairs
 pub mod Products
+pub mod ProductNames
 pub mod ProductOrderings
 pub mod ProductReductions
 pub mod PairWalks

@@ -6,7 +6,7 @@
 --   Checkable   it has all that a search needs
 --   Facing      two tables, of which the first has its links
 --   BookCached  the cards of a book have passed 2 to 14, and the tables are kept where the spans say
---   Makeable    what making the table of card k needs
+--   Makeable    what making the table of card k, unfolded, needs
 --   Placeable   what finding it needs
 --   Found       it is found; what stands before it in the work space stays
 --   Keepable    what caching a table at the start of the work space needs
@@ -25,7 +25,7 @@ use Rattle.homomorphism_search.specs.Search.{LinkedTable}
 use Rattle.workspace.specs.Prepare.{workSize}
 use Rattle.book.specs.Form.{card, cardCount, mostCards}
 use Rattle.book_tables.specs.Cache.{Cached, TableAt}
-use Rattle.book_tables.specs.Tables.{BookTaken}
+use Rattle.book_tables.specs.Tables.{BookTaken, TakenUnder}
 use Rattle.normal_writer.specs.Tables.{tableIn}
 use Rattle.book_selection.specs.declared.spot.Spot.{Spot}
 
@@ -57,9 +57,9 @@ pub record BookCached (limits : Limits) (book tables spans : List ℕ) : Type 0 
   pub at : ℕ
   pub cache-is : Cached limits book tables spans at
 
-pub record Makeable (limits : Limits) (book : List ℕ) (k : ℕ) (out : List ℕ) : Type 0 where
+pub record Makeable (limits : Limits) (tbox book : List ℕ) (k : ℕ) (out : List ℕ) : Type 0 where
   pub bounded : Bounded limits
-  pub taken : BookTaken limits book
+  pub taken : TakenUnder limits tbox book
   pub below : k < cardCount book
   pub space : pictureSize limits ≤ length out
 

@@ -1,7 +1,8 @@
 // Which of the covering cards are passed over: they cover another of them that does not cover them in return. Each card
 // is compared with the earlier ones, a pair both ways at once. A pair of which one is passed over already is left out:
 // what covers that one strictly covers strictly a card that is not passed over. Once a card covers an earlier one, the
-// other earlier ones say nothing new of it. Tables are compared where they stand.
+// other earlier ones say nothing new of it. Tables are compared where they stand. They are those of the unfolded cards:
+// contracts speak of the book of these, which is never made.
 use crate::spot::Spot;
 use crate::spot::cache_table;
 use crate::spot::find_table;
@@ -31,7 +32,9 @@ ghost use Rattle.order.specs.Preorder.{passedOver};
 ghost use Rattle.book.specs.Form.{cardCount, mostCards};
 ghost use Rattle.book.specs.Selection.{cardCovers};
 ghost use Rattle.book_form.specs.Words.{WithEach};
+ghost use Rattle.under.specs.Book.{unfoldedBook};
 ghost use Rattle.book_tables.specs.Cache.{Cached};
+ghost use Rattle.book_tables.specs.Tables.{TakenUnder};
 ghost use Rattle.book_selection.specs.Standing.{Checkable, Facing, OwnTable, tableAt};
 ghost use Rattle.book_selection.specs.Comparing.{CardRoom, Compared, NextCard, Ordered, PairRoom, EarlierRoom, SelectRoom};
 
@@ -90,6 +93,7 @@ fn compare_spots<'a>(
 
 // The card whose own table is given, and card n, whose table may have to be made, in the second half of the work space.
 fn compare_pair(
+    tbox: &[u8],
     book: &[u8],
     limits: Limits,
     tables: &[u8],
@@ -99,12 +103,15 @@ fn compare_pair(
     n: usize,
     work: &mut [u8],
 ) -> Order
-    requires { ⌜ PairRoom limits (now book) (now tables) (now spans) own (now links) n (now work) ⌝ }
-    ensures { λ r. ⌜ (Ordered limits (now (book .entry)) (own .card) n r)
-        × (OwnTable limits (now (book .entry)) (now (tables .entry)) (now (work .exit)) own (now (links .entry))) ⌝ }
+    requires { ⌜ (TakenUnder limits (now tbox) (now book))
+        × (PairRoom limits (unfoldedBook limits (now tbox) (now book)) (now tables) (now spans) own (now links) n
+        (now work)) ⌝ }
+    ensures { λ r. ⌜ (Ordered limits (unfoldedBook limits (now (tbox .entry)) (now (book .entry))) (own .card) n r)
+        × (OwnTable limits (unfoldedBook limits (now (tbox .entry)) (now (book .entry))) (now (tables .entry))
+        (now (work .exit)) own (now (links .entry))) ⌝ }
 {
     let half = half_size(limits);
-    let other = find_table(book, n, limits, tables, spans, work, half);
+    let other = find_table(tbox, book, n, limits, tables, spans, work, half);
     compare_spots(tables, work, own, links, other, limits.depth)
 }
 
@@ -127,6 +134,7 @@ fn mark_passed(redundant: u32, m: usize, n: usize, order: Order) -> u32
 
 // The card whose own table is given, with the earlier ones, until it covers one of them.
 fn compare_earlier(
+    tbox: &[u8],
     book: &[u8],
     limits: Limits,
     tables: &[u8],
@@ -136,8 +144,11 @@ fn compare_earlier(
     redundant: u32,
     work: &mut [u8],
 ) -> u32
-    requires { ⌜ EarlierRoom limits (now book) (now tables) (now spans) covering own redundant (now work) ⌝ }
-    ensures { λ r. ⌜ (Compared limits (now (book .entry)) covering (own .card + 1) r)
+    requires { ⌜ (TakenUnder limits (now tbox) (now book))
+        × (EarlierRoom limits (unfoldedBook limits (now tbox) (now book)) (now tables) (now spans) covering own
+        redundant (now work)) ⌝ }
+    ensures { λ r. ⌜ (Compared limits (unfoldedBook limits (now (tbox .entry)) (now (book .entry))) covering
+        (own .card + 1) r)
         × (length (now (work .exit)) ≡ length (now (work .entry))) ⌝ }
 {
     let m = own.card;
@@ -146,7 +157,7 @@ fn compare_earlier(
     let mut word = redundant;
     let mut n = next_card(without(covering, word), 0);
     while n < m {
-        let order = compare_pair(book, limits, tables, spans, own, &links, n, work);
+        let order = compare_pair(tbox, book, limits, tables, spans, own, &links, n, work);
         word = mark_passed(word, m, n, order);
         if order.over {
             return word;
@@ -158,6 +169,7 @@ fn compare_earlier(
 
 // Card m, which covers the case, with the earlier ones. Its table is cached for the later ones, if there is room.
 fn compare_card(
+    tbox: &[u8],
     book: &[u8],
     limits: Limits,
     tables: &mut [u8],
@@ -167,14 +179,20 @@ fn compare_card(
     progress: Progress,
     work: &mut [u8],
 ) -> Progress
-    requires { ⌜ CardRoom limits (now book) (now tables) (now spans) covering m progress (now work) ⌝ }
-    ensures { λ r. ⌜ ((Compared limits (now (book .entry)) covering (m + 1) (r .redundant))
-        × (Cached limits (now (book .entry)) (now (tables .exit)) (now (spans .exit)) (r .at)))
-        × ((length (now (tables .exit)) ≡ length (now (tables .entry))) × (length (now (work .exit)) ≡ length (now (work .entry)))) ⌝ }
+    requires { ⌜ (TakenUnder limits (now tbox) (now book))
+        × (CardRoom limits (unfoldedBook limits (now tbox) (now book)) (now tables) (now spans) covering m progress
+        (now work)) ⌝ }
+    ensures { λ r. ⌜ ((Compared limits (unfoldedBook limits (now (tbox .entry)) (now (book .entry))) covering (m + 1)
+        (r .redundant))
+        × (Cached limits (unfoldedBook limits (now (tbox .entry)) (now (book .entry))) (now (tables .exit))
+        (now (spans .exit)) (r .at)))
+        × ((length (now (tables .exit)) ≡ length (now (tables .entry)))
+        × (length (now (work .exit)) ≡ length (now (work .entry)))) ⌝ }
 {
-    let own = find_table(book, m, limits, tables, spans, work, 0);
+    let own = find_table(tbox, book, m, limits, tables, spans, work, 0);
     let at = cache_table(work, own, progress.at, tables, spans);
     let redundant = compare_earlier(
+        tbox,
         book,
         limits,
         tables,
@@ -189,6 +207,7 @@ fn compare_card(
 
 // Those of the covering cards that are passed over; the cached tables end at a place.
 fn compare_cards(
+    tbox: &[u8],
     book: &[u8],
     limits: Limits,
     tables: &mut [u8],
@@ -197,13 +216,27 @@ fn compare_cards(
     at: usize,
     work: &mut [u8],
 ) -> u32
-    requires { ⌜ SelectRoom limits (now book) (now tables) (now spans) covering at (now work) ⌝ }
-    ensures { λ r. ⌜ (Compared limits (now (book .entry)) covering mostCards r) × (length (now (work .exit)) ≡ length (now (work .entry))) ⌝ }
+    requires { ⌜ (TakenUnder limits (now tbox) (now book))
+        × (SelectRoom limits (unfoldedBook limits (now tbox) (now book)) (now tables) (now spans) covering at
+        (now work)) ⌝ }
+    ensures { λ r. ⌜ (Compared limits (unfoldedBook limits (now (tbox .entry)) (now (book .entry))) covering mostCards
+        r)
+        × (length (now (work .exit)) ≡ length (now (work .entry))) ⌝ }
 {
     let mut progress = Progress { redundant: 0, at };
     let mut m = next_card(covering, 0);
     while m < MAX_CARDS {
-        progress = compare_card(book, limits, tables, spans, covering, m, progress, work);
+        progress = compare_card(
+            tbox,
+            book,
+            limits,
+            tables,
+            spans,
+            covering,
+            m,
+            progress,
+            work,
+        );
         m = next_card(covering, m + 1);
     }
     progress.redundant
@@ -211,6 +244,7 @@ fn compare_cards(
 
 // The covering cards that are not passed over; the work space is cleared.
 pub fn select_cards(
+    tbox: &[u8],
     book: &[u8],
     limits: Limits,
     tables: &mut [u8],
@@ -219,11 +253,15 @@ pub fn select_cards(
     at: usize,
     work: &mut [u8],
 ) -> u32
-    requires { ⌜ SelectRoom limits (now book) (now tables) (now spans) covering at (now work) ⌝ }
-    ensures { λ r. ⌜ ((k : ℕ) → has r k ≡ (has covering k && not (passedOver (cardCovers limits (now (book .entry))) (cardCount (now (book .entry))) (has covering) k)))
+    requires { ⌜ (TakenUnder limits (now tbox) (now book))
+        × (SelectRoom limits (unfoldedBook limits (now tbox) (now book)) (now tables) (now spans) covering at
+        (now work)) ⌝ }
+    ensures { λ r. ⌜ ((k : ℕ) → has r k ≡ (has covering k
+        && not (passedOver (cardCovers limits (unfoldedBook limits (now (tbox .entry)) (now (book .entry))))
+        (cardCount (unfoldedBook limits (now (tbox .entry)) (now (book .entry)))) (has covering) k)))
         × (now (work .exit) ≡ zeros (workSize limits)) ⌝ }
 {
-    let redundant = compare_cards(book, limits, tables, spans, covering, at, work);
+    let redundant = compare_cards(tbox, book, limits, tables, spans, covering, at, work);
     clear(work, 0, work.len());
     without(covering, redundant)
 }

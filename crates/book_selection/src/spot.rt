@@ -1,13 +1,16 @@
-// The tables of cards while these are compared: each stands in the cache or, where that has had no room for it, in the
-// work space.
+// The tables of the unfolded cards while these are compared: each stands in the cache or, where that has had no room
+// for it, in the work space.
 use book_form::form::MAX_CARDS;
 use book_form::form::card;
 use book_form::form::find_cards;
 use book_tables::cache::SPANS;
 use book_tables::cache::store;
-use normal_writer::write::normal_table;
+use definitions_reader::index::index_of;
+use field_places::places::BookKind;
+use field_places::places::find_fields;
 use normal_writer::write::table_at;
 use table::layout::Limits;
+use unfold_tables::tables::unfolded_table;
 ghost use mathlib.Core.List.{List};
 ghost use mathlib.Core.Path.{_≡_};
 ghost use mathlib.Core.Bool.{false};
@@ -15,7 +18,9 @@ ghost use Prim.Native.Nat.{ℕ};
 ghost use lib.ListN.{length};
 ghost use Rattle.book.specs.Form.{«card»};
 ghost use Rattle.normal_writer.specs.Tables.{Tabled};
+ghost use Rattle.under.specs.Book.{unfoldedBook};
 ghost use Rattle.book_tables.specs.Cache.{Cached};
+ghost use Rattle.book_tables.specs.Tables.{TakenUnder};
 ghost use Rattle.book_selection.specs.Standing.{Found, Inside, Keepable, Makeable, Placeable, Stands, tableAt};
 
 // Where a card's table stands: from a byte of the tables on if it is cached, else of the work space; and its rows.
@@ -37,18 +42,24 @@ pub fn spot_table<'a>(tables: &'a [u8], work: &'a [u8], spot: Spot) -> &'a [u8]
     table_at(work, spot.start, spot.rows)
 }
 
-// Makes the table of card k at the start of a lent part, and gives its rows. The card is looked for in the book anew,
-// which costs little beside making its table.
-fn make_table(book: &[u8], k: usize, limits: Limits, out: &mut [u8]) -> usize
-    requires { ⌜ Makeable limits (now book) k (now out) ⌝ }
-    ensures { λ r. ⌜ Tabled limits («card» (now (book .entry)) k) (now (out .entry)) r (now (out .exit)) ⌝ }
+// Makes the table of card k, unfolded, at the start of a lent part, and gives its rows. The card and the definitions
+// are looked for in the books anew, which costs little beside making the table.
+fn make_table(tbox: &[u8], book: &[u8], k: usize, limits: Limits, out: &mut [u8]) -> usize
+    requires { ⌜ Makeable limits (now tbox) (now book) k (now out) ⌝ }
+    ensures { λ r. ⌜ Tabled limits («card» (unfoldedBook limits (now (tbox .entry)) (now (book .entry))) k)
+        (now (out .entry)) r (now (out .exit)) ⌝ }
 {
     let cards = find_cards(book);
-    normal_table(card(book, cards, k), limits, out)
+    let fields = find_fields(tbox, BookKind::Definitions);
+    let index = index_of(tbox, fields);
+    let starts = index.starts;
+    let defined = index.defined;
+    unfolded_table(card(book, cards, k), tbox, &starts, defined, limits, out)
 }
 
 // Where card k's table stands; if it is not cached it is made in the work space, from a byte on.
 pub fn find_table(
+    tbox: &[u8],
     book: &[u8],
     k: usize,
     limits: Limits,
@@ -57,12 +68,14 @@ pub fn find_table(
     work: &mut [u8],
     from: usize,
 ) -> Spot
-    requires { ⌜ Placeable limits (now book) k (now tables) (now spans) (now work) from ⌝ }
-    ensures { λ r. ⌜ Found limits (now (book .entry)) k (now (tables .entry)) (now (work .entry)) from r (now (work .exit)) ⌝ }
+    requires { ⌜ (TakenUnder limits (now tbox) (now book))
+        × (Placeable limits (unfoldedBook limits (now tbox) (now book)) k (now tables) (now spans) (now work) from) ⌝ }
+    ensures { λ r. ⌜ Found limits (unfoldedBook limits (now (tbox .entry)) (now (book .entry))) k (now (tables .entry))
+        (now (work .entry)) from r (now (work .exit)) ⌝ }
 {
     let rows = spans[MAX_CARDS + k];
     if rows == 0 {
-        let made = make_table(book, k, limits, &mut work[from..]);
+        let made = make_table(tbox, book, k, limits, &mut work[from..]);
         return Spot {
             card: k,
             cached: false,

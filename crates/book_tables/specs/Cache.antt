@@ -15,11 +15,10 @@ use Prim.Native.Nat.{ℕ, _+_, _^_, _<_, _≤_}
 use lib.ListN.{drop, getD, length, set, take}
 use mathlib.Core.List.{List}
 use mathlib.Core.Path.{_≡_}
-use Rattle.table.specs.Bounds.{Bounded, maxRows, pictureSize}
+use Rattle.table.specs.Bounds.{maxRows, pictureSize}
 use Rattle.table.specs.Layout.{endSize, «place»}
 use Rattle.table.specs.declared.layout.Limits.{Limits}
 use Rattle.table_rows.specs.Links.{Zeros}
-use Rattle.picture.specs.Readable.{Readable}
 use Rattle.meaning.specs.NormalTable.{mergedCount, normalFile}
 use Rattle.row_sets.specs.Rows.{Checked}
 use Rattle.homomorphism_search.specs.Search.{LinkedTable}
@@ -27,9 +26,12 @@ use Rattle.normal_writer.specs.Tables.{tableIn, tableRows}
 use Rattle.workspace.specs.Prepare.{workSize}
 use Rattle.book.specs.Form.{card, cardTag, mostCards}
 use Rattle.table.specs.NameSet.{setBelow}
+use Rattle.table.specs.NameValues.{setOf}
 use Rattle.field_places.specs.Places.{Placed}
-use Rattle.field_places.specs.declared.places.Fields.{Fields}
-use Rattle.book_tables.specs.Tables.{BookTaken, coversTable}
+use Rattle.under.specs.Book.{AcceptableBookUnder}
+use Rattle.unfold_tables.specs.Ready.{Ready}
+use Rattle.book_tables.specs.Tables.{TakenUnder, coversTable}
+use Rattle.book_tables.specs.declared.books.Books.{Books}
 use Rattle.book_tables.specs.declared.subsumers.Subsumers.{Subsumers}
 
 pub record TableAt (limits : Limits) (s part : List ℕ) (rows : ℕ) : Type 0 where
@@ -62,19 +64,17 @@ Stored part m k at tables spans r tables₂ spans₂ =
     (limits : Limits) (book : List ℕ) → Cached limits book tables spans at → TableAt limits (card book k) part m →
     Cached limits book tables₂ spans₂ r
 
-pub record Findable (limits : Limits) (case book : List ℕ) (cards : Fields) (work : List ℕ) : Type 0 where
-  pub bounded : Bounded limits
-  pub readable : Readable limits case
-  pub few : mergedCount limits case ≤ limits .rows
-  pub placed : Placed cardTag book cards
-  pub taken : BookTaken limits book
+pub record Findable (limits : Limits) (tbox case book : List ℕ) (books : Books) (work : List ℕ) : Type 0 where
+  pub ready : Ready limits tbox (books .starts) (setOf (books .defined))
+  pub placed : Placed cardTag book (books .cards)
+  pub accepted : AcceptableBookUnder limits tbox case book
   pub long : length work ≡ workSize limits
 
-pub record CardsTestable (limits : Limits) (book : List ℕ) (cards : Fields) (n : ℕ) (links work spans : List ℕ) :
+pub record CardsTestable (limits : Limits) (tbox book : List ℕ) (books : Books) (n : ℕ) (links work spans : List ℕ) :
     Type 0 where
-  pub bounded : Bounded limits
-  pub placed : Placed cardTag book cards
-  pub taken : BookTaken limits book
+  pub ready : Ready limits tbox (books .starts) (setOf (books .defined))
+  pub placed : Placed cardTag book (books .cards)
+  pub taken : TakenUnder limits tbox book
   pub long : length work ≡ workSize limits
   pub lower : place n endSize ≤ pictureSize limits
   pub linked : LinkedTable (tableIn work 0 n) n links

@@ -1,17 +1,17 @@
-// Which cards cover the case. 14 is answered yes for all, so tables are made in the work space: the case's at its
-// start, each card's in the second half. That of a covering card is cached, if it fits.
+// Which cards cover the case, all of them unfolded. 14 is answered yes for all, so tables are made in the work space:
+// the case's at its start, each card's in the second half. That of a covering card is cached, if it fits.
+use crate::books::Books;
 use crate::cache::SPANS;
 use crate::cache::store;
 use crate::covering::table_covers;
 use book_form::form::card;
 use book_form::word::bit;
-use field_places::places::Fields;
-use normal_writer::write::normal_table;
 use normal_writer::write::table_at;
 use prepare_pair::prepare::half_size;
 use row_sets::rows::LINKS;
 use row_sets::rows::fill_links;
 use table::layout::Limits;
+use unfold_tables::tables::unfolded_table;
 ghost use mathlib.Core.Path.{_≡_};
 ghost use Prim.Native.Nat.{_+_, _^_};
 ghost use Rattle.table.specs.Pick.{pick};
@@ -21,6 +21,8 @@ ghost use Rattle.normal_writer.specs.Tables.{tableIn};
 ghost use Rattle.book.specs.Form.{mostCards};
 ghost use Rattle.table.specs.NameSet.{setBelow};
 ghost use Rattle.book.specs.Selection.{caseCovered};
+ghost use Rattle.definitions.specs.Unfolded.{unfoldedFile};
+ghost use Rattle.under.specs.Book.{unfoldedBook};
 ghost use Rattle.book_tables.specs.Tables.{coversTable};
 ghost use Rattle.book_tables.specs.Cache.{Addable, Cached, CardsTestable, Findable, Stored, Testable};
 
@@ -74,8 +76,9 @@ fn add_card(
 
 // Whether each card in turn covers the case.
 fn test_cards(
+    tbox: &[u8],
     book: &[u8],
-    cards: Fields,
+    books: Books,
     limits: Limits,
     n: usize,
     links: &[u8; LINKS],
@@ -83,16 +86,22 @@ fn test_cards(
     tables: &mut [u8],
     spans: &mut [usize; SPANS],
 ) -> Subsumers
-    requires { ⌜ CardsTestable limits (now book) cards n (now links) (now work) (now spans) ⌝ }
+    requires { ⌜ CardsTestable limits (now tbox) (now book) books n (now links) (now work) (now spans) ⌝ }
     ensures { λ r. ⌜ (r .word ≡ setBelow
-        (coversTable limits (tableIn (now (work .entry)) 0 n) (now (book .entry))) (cards .count))
-        × (Cached limits (now (book .entry)) (now (tables .exit)) (now (spans .exit)) (r .at)) ⌝ }
+        (coversTable limits (tableIn (now (work .entry)) 0 n)
+        (unfoldedBook limits (now (tbox .entry)) (now (book .entry)))) (books .cards .count))
+        × (Cached limits (unfoldedBook limits (now (tbox .entry)) (now (book .entry))) (now (tables .exit))
+        (now (spans .exit)) (r .at)) ⌝ }
 {
+    let cards = books.cards;
+    let starts = books.starts;
+    let defined = books.defined;
     let half = half_size(limits);
     let mut subsumers = Subsumers { word: 0, at: 0 };
     let mut k = 0;
     while k < cards.count {
-        let m = normal_table(card(book, cards, k), limits, &mut work[half..]);
+        let own = card(book, cards, k);
+        let m = unfolded_table(own, tbox, &starts, defined, limits, &mut work[half..]);
         let covers = covers_case(work, n, links, half, m, limits.depth);
         subsumers = add_card(covers, &work[half..], m, k, subsumers, tables, spans);
         k += 1;
@@ -102,21 +111,27 @@ fn test_cards(
 
 // The cards that cover the case, and their tables, as many as fit.
 pub fn find_subsumers(
+    tbox: &[u8],
     case: &[u8],
     book: &[u8],
-    cards: Fields,
+    books: Books,
     limits: Limits,
     work: &mut [u8],
     tables: &mut [u8],
     spans: &mut [usize; SPANS],
 ) -> Subsumers
-    requires { ⌜ (Findable limits (now case) (now book) cards (now work))
+    requires { ⌜ (Findable limits (now tbox) (now case) (now book) books (now work))
         × (Zeros (mostCards + mostCards) (now spans)) ⌝ }
-    ensures { λ r. ⌜ (r .word ≡ setBelow (caseCovered limits (now (case .entry)) (now (book .entry))) (cards .count))
-        × (Cached limits (now (book .entry)) (now (tables .exit)) (now (spans .exit)) (r .at)) ⌝ }
+    ensures { λ r. ⌜ (r .word ≡ setBelow
+        (caseCovered limits (unfoldedFile limits (now (tbox .entry)) (now (case .entry)))
+        (unfoldedBook limits (now (tbox .entry)) (now (book .entry)))) (books .cards .count))
+        × (Cached limits (unfoldedBook limits (now (tbox .entry)) (now (book .entry))) (now (tables .exit))
+        (now (spans .exit)) (r .at)) ⌝ }
 {
-    let n = normal_table(case, limits, work);
+    let starts = books.starts;
+    let defined = books.defined;
+    let n = unfolded_table(case, tbox, &starts, defined, limits, work);
     let mut links = [0u8; LINKS];
     fill_links(table_at(work, 0, n), n, &mut links);
-    test_cards(book, cards, limits, n, &links, work, tables, spans)
+    test_cards(tbox, book, books, limits, n, &links, work, tables, spans)
 }

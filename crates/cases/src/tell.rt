@@ -8,7 +8,9 @@ use picture::answer::Answer;
 use picture::answer::Input;
 use picture::answer::Refusal;
 use picture_reader::read::read;
+use table::layout::END_LENGTH;
 use table::layout::END_SIZE;
+use table::layout::END_TAG;
 use table::layout::Limits;
 use table::layout::MAX_ROWS;
 use table::layout::ROW_SIZE;
@@ -18,6 +20,9 @@ const RESULT: usize = ROW_SIZE * MAX_ROWS + END_SIZE;
 
 // That of a work space: two halves.
 const WORK: usize = 2 * RESULT;
+
+// The definitions book without definitions: the end field alone.
+const NO_DEFINITIONS: [u8; END_SIZE] = [END_TAG, 0, END_LENGTH as u8];
 
 // The end of a line: what the answer is, and its number.
 fn say(what: &[u8], number: u64) {
@@ -95,7 +100,7 @@ pub fn tell(label: &[u8], s: &[u8], n: usize) {
 }
 
 fn tell_normalized(s: &[u8], out: &mut [u8]) {
-    match normalize(s, Limits::bench(), out) {
+    match normalize(&NO_DEFINITIONS, s, Limits::bench(), out) {
         Normalized::Length(n) => {
             say(b": length ", n as u64);
         }
@@ -129,7 +134,14 @@ pub fn tell_nested(depth: u8, s: &[u8], n: usize) {
 fn tell_least(first: &[u8], second: &[u8]) {
     let mut work = [0u8; WORK];
     let mut out = [0u8; RESULT];
-    match lcs(first, second, Limits::bench(), &mut work, &mut out) {
+    match lcs(
+        &NO_DEFINITIONS,
+        first,
+        second,
+        Limits::bench(),
+        &mut work,
+        &mut out,
+    ) {
         Common::Length(n) => {
             say(b": length ", n as u64);
         }

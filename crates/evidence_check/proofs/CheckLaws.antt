@@ -24,19 +24,22 @@ use Rattle.countermodel.specs.Layout.{individualCount}
 use Rattle.countermodel.specs.Model.{modelTree, rowTree}
 use Rattle.homomorphism.specs.Layout.{imageOf}
 use Rattle.model_check.specs.ModelRows.{fitsRow}
-use Rattle.workspace.specs.Lent.{lentAsked, pairWork}
 use Rattle.workspace.specs.Prepare.{Acceptable, workSize}
 use Rattle.prepare_pair.proofs.TablesIn.{on-tables}
-use Rattle.prepare_pair.specs.Tables.{NormalTables}
+use Rattle.prepare_pair.specs.Tables.{NormalTables, workUnder}
 use Rattle.prepare_pair.specs.declared.prepare.Pair.{Pair}
 use Rattle.evidence.proofs.NormalTables.{fits-picture}
 use Rattle.evidence.proofs.Refutations.{refutation-asked-same}
-use Rattle.evidence.specs.Call.{evidenceAsked, evidenceKind, verifyAnswer, verifyLent, verifyWork}
+use Rattle.evidence.specs.Call.{evidenceAsked, evidenceKind}
 use Rattle.evidence.specs.Check.{checkAsked, refutationAsked}
 use Rattle.evidence.specs.Form.{mapForm}
 use Rattle.evidence.specs.Map.{mapAsked, refusalBy}
 use Rattle.evidence.specs.declared.check.Verified.{Verified}
 use Rattle.evidence.specs.declared.check.Verified.the-variants.{MapTaken, Refused, RefutationTaken}
+use Rattle.definitions.specs.Unfolded.{unfoldedFile}
+use Rattle.under.proofs.Asked.{verify-asked, verify-work-asked}
+use Rattle.under.specs.Asked.{pairAskedUnder}
+use Rattle.under.specs.Calls.{verifyUnder, verifyWorkUnder}
 use Rattle.evidence_check.specs.Tables.{checkIn}
 
 -- ---- on two tables
@@ -108,18 +111,27 @@ tables-check {limits} {first} {second} bounded tables e =
 
 -- ---- the call by its tests
 
-module _ (limits : Limits) (first second e work : List ℕ) where
+module _ (limits : Limits) (bounded : Bounded limits) (tbox first second e work : List ℕ) where
   abbrev pub Gives : Verified → List ℕ → Type 0
   Gives answer space =
-      (answer ≡ verifyAnswer limits first second e (length work)) × (space ≡ verifyWork limits first second work)
+      (answer ≡ verifyUnder limits tbox first second e (length work))
+      × (space ≡ verifyWorkUnder limits tbox first second work)
+
+  abbrev u : List ℕ
+  u = unfoldedFile limits tbox first
+
+  abbrev v : List ℕ
+  v = unfoldedFile limits tbox second
 
   -- b is the answer to 1, a what the questions before the evidence answer, `space` what `prepare` has left
   pub prepared-call : (b : Bool) → b ≡ leb (workSize limits) (length work) →
-      (a : Asked) → lentAsked limits b first second ≡ a → (space : List ℕ) →
-      space ≡ pairWork limits b first second work →
-      Gives (onAsked Refused (andThen a (evidenceAsked limits first second e)) (evidenceKind limits second e)) space
-  unfolding verifyAnswer
+      (a : Asked) → pairAskedUnder limits tbox b first second ≡ a → (space : List ℕ) →
+      space ≡ workUnder limits tbox first second b work →
+      Gives (onAsked Refused (andThen a (evidenceAsked limits u v e)) (evidenceKind limits v e)) space
   prepared-call b room a is space written =
-      let asks : verifyLent limits first second (length work) ≡ a =
-      ap (λ q. lentAsked limits q first second) (sym room) ∙ is in
-      (rw asks, written ∙ ap (λ q. pairWork limits q first second work) room)
+      let asks : pairAskedUnder limits tbox (leb (workSize limits) (length work)) first second ≡ a =
+      ap (λ q. pairAskedUnder limits tbox q first second) (sym room) ∙ is in (
+        sym (verify-asked limits bounded tbox first second e (length work) ∙ rw asks),
+        written ∙ ap (λ q. workUnder limits tbox first second q work) room
+            ∙ sym (verify-work-asked limits bounded tbox first second work),
+      )

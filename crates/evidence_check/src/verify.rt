@@ -1,4 +1,4 @@
-// The fifth call: question 1, both pictures into the work space, and the evidence.
+// The fifth call: question 1, both pictures, unfolded, into the work space, and the evidence.
 use crate::check::check;
 use evidence::check::Verified;
 use prepare_pair::prepare::Prepared;
@@ -11,10 +11,11 @@ ghost use mathlib.Core.Path.{_≡_};
 ghost use Prim.Native.Nat.{ℕ};
 ghost use lib.ListN.{length};
 ghost use Rattle.table.specs.Bounds.{Bounded};
-ghost use Rattle.evidence.specs.Call.{verifyAnswer, verifyWork};
+ghost use Rattle.under.specs.Calls.{verifyUnder, verifyWorkUnder};
 
-// The call: 1; the pair; 16 to 23. Only the pair is written.
+// The call: 1; the pair under the definitions book; 16 to 23. Only the pair is written.
 pub fn verify(
+    tbox: &[u8],
     first: &[u8],
     second: &[u8],
     evidence: &[u8],
@@ -22,11 +23,14 @@ pub fn verify(
     work: &mut [u8],
 ) -> Verified
     requires { ⌜ Bounded limits ⌝ }
-    ensures { λ r. ⌜ (r ≡ verifyAnswer limits (now (first .entry)) (now (second .entry)) (now (evidence .entry)) (length (now (work .entry)))) × (now (work .exit) ≡ verifyWork limits (now (first .entry)) (now (second .entry)) (now (work .entry))) ⌝ }
+    ensures { λ r. ⌜ (r ≡ verifyUnder limits (now (tbox .entry)) (now (first .entry)) (now (second .entry))
+        (now (evidence .entry)) (length (now (work .entry))))
+        × (now (work .exit) ≡ verifyWorkUnder limits (now (tbox .entry)) (now (first .entry)) (now (second .entry))
+        (now (work .entry))) ⌝ }
 {
     let half = half_size(limits);
     let enough = half + half <= work.len();
-    match prepare(first, second, limits, enough, work) {
+    match prepare(tbox, first, second, limits, enough, work) {
         Prepared::Tables(pair) => {
             let low = first_table(work, pair);
             let high = second_table(work, limits, pair);

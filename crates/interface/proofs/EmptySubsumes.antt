@@ -44,7 +44,7 @@ use Rattle.interface.specs.Calls.{validateWord}
 use Rattle.interface.specs.Starred.{empty, k1, k1-map}
 use Rattle.interface.specs.StarredClaims.{HasRows, Holds, TakesEvidence, WritesEvidence}
 use Rattle.interface.specs.Word.{outcomeYes}
-use Rattle.interface.proofs.Conditions.{takes-map, writes-evidence}
+use Rattle.interface.proofs.EndFields.{takes-map-end, writes-evidence}
 use Rattle.interface.proofs.Words.{bench-bounded}
 
 abbrev q : Table pictureSignature
@@ -118,8 +118,8 @@ module _ (first : List ℕ) (few : mergedCount benchLimits first ≤ maxRows) wh
         writes-evidence benchLimits bench-bounded first empty pair k1-map (empty-evidence decided) true decided
 
     empty-taken : TakesEvidence benchLimits first empty outcomeYes k1-map
-    empty-taken work enough =
-        takes-map benchLimits bench-bounded first empty k1-map work enough pair
+    empty-taken =
+        takes-map-end benchLimits bench-bounded first empty pair k1-map
         (record { form = empty-form; maps = empty-map })
 
 -- whatever fits a picture fits the empty row

@@ -4,6 +4,9 @@ pub mod Shapes
 pub mod Answers
 pub mod Places
 pub mod Values
+pub mod Undefined
+pub mod EmptyBooks
 pub mod Conditions
+pub mod EndFields
 pub mod EmptySubsumes
 pub mod StarredHold

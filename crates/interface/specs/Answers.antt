@@ -1,12 +1,15 @@
 -- Condition 1, "a result or a numbered refusal, each laid down beforehand along with the contents of the buffers": what
--- every call answers, said once, and what paper 01 lays down for each of the six.
+-- every call answers, said once, and what the papers lay down for each of the six. Five take a definitions book, `tbox`
+-- (02, U3).
 --   Whom, Names, Line, questions, Listed    questions that a call asks, by number, and whom they name
+--   ofGiven, ofDefinitions                  those of a picture that is given; those of the definitions book
 --   Buffers, buffers, Filled, Leaves        what is lent for writing; what a buffer, and what both, hold then
 --   refusalBytes                            what a refusal writes
 --   pictures, AtField                       the picture that an input is; where in a picture a refusal is
 --   Call                                    what is laid down for a call on given inputs
 --   Placed                                  what a refusal carries beside its number and input: where it is, or 0 and 0
 --   Passes, GivesResult, Refuses, Answers   all questions are answered yes; a result; a numbered refusal; one of these
+--   AcceptableOne                           one picture under a definitions book, of which all is answered yes
 --   tables, OutcomeYes, EitherOutcome       both normal tables, each in its half; which outcome a result has
 --   validateCall .. mostSpecificCall        what is laid down for each call
 use Prim.Native.Nat.{_<_, _≤_, ℕ}
@@ -28,33 +31,36 @@ use Rattle.picture.specs.declared.answer.Asked.the-variants.{No, Yes}
 use Rattle.picture.specs.declared.answer.Input.{Input}
 use Rattle.picture.specs.declared.answer.Input.the-variants.{Book, Buffer, Card, Definition, Definitions, Evidence, First, Second}
 use Rattle.picture.specs.declared.answer.Refusal.{Refusal}
-use Rattle.meaning.specs.Covering.{Covers}
 use Rattle.meaning.specs.NormalTable.{mergedCount, normalFile}
-use Rattle.normal.specs.Call.{oneAsked}
 use Rattle.normal.specs.Half.{halfOf}
-use Rattle.workspace.specs.Prepare.{Acceptable, workSize}
-use Rattle.evidence.specs.Call.{verifyAsked}
+use Rattle.workspace.specs.Prepare.{workSize}
 use Rattle.evidence.specs.Taken.{MapOf, RefutationOf}
-use Rattle.subsumption.specs.Call.{subsumesAsked}
 use Rattle.subsumption.specs.Verdict.{evidenceOf, evidenceSize}
-use Rattle.lcs.specs.Call.{lcsAsked}
 use Rattle.lcs.specs.Product.{lcsCount, lcsFile}
-use Rattle.book.specs.Call.{AcceptableBook, mostSpecificAsked}
 use Rattle.book.specs.Form.{cardCount}
 use Rattle.book.specs.Form as form
 use Rattle.book.specs.Selection.{mostSpecificCards}
+use Rattle.definitions.specs.Covering.{CoversUnder}
+use Rattle.definitions.specs.Form.{definitionCount, definitionFile}
+use Rattle.definitions.specs.Unfolded.{Definable, Unfolds, unfoldedFile}
+use Rattle.under.specs.Asked.{lcsAskedUnder, mostSpecificAskedUnder, oneAskedUnder}
+use Rattle.under.specs.Asked.{subsumesAskedUnder, verifyAskedUnder}
+use Rattle.under.specs.Book.{AcceptableBookUnder, unfoldedBook}
+use Rattle.under.specs.Given.{AcceptableUnder}
 use Rattle.interface.specs.Word.{byte, card, cardOf, input, inputCode, outcome, outcomeNo, outcomeYes, question, refusalWord, row, value, valueWord}
 
 -- ---- a call, whichever it is
 
--- an input; or a card of the book, by its number, which is below the number of cards
+-- an input; or a card of the book, or a definition, by its number, which is below the number of cards, or definitions
 pub data Whom : Type 0 where
   the : Input → Whom
   cards : ℕ → Whom
+  definitions : ℕ → Whom
 
 abbrev pub Names : Whom → Input → Type 0
 Names (the named) input = input ≡ named
 Names (cards count) input = (k : ℕ) × (k < count) × (input ≡ Card k)
+Names (definitions count) input = (k : ℕ) × (k < count) × (input ≡ Definition k)
 
 pub record Line : Type 0 where
   pub least : ℕ
@@ -68,6 +74,19 @@ abbrev pub Listed : List Line → ℕ → Input → Type 0
 Listed [] number input = ⊥
 Listed (l ∷ more) number input =
     ((l .least ≤ number) × (number ≤ l .most) × Names (l .whom) input) ⊎ Listed more number input
+
+-- 2 to 14 of a given picture; and "27, is no defined name excluded;" "29, has each unfolded picture at most 256 rows;
+-- 30, is its depth at most 12"
+abbrev pub ofGiven : Whom → List Line → List Line
+ofGiven whom more = questions 2 14 whom ∷ questions 27 27 whom ∷ questions 29 30 whom ∷ more
+
+-- 02, U3, "25, 26 and 28 name the definitions book, the others the picture, or the definition by its place", "its
+-- pictures then meet 2 to 13"
+abbrev pub ofDefinitions : List ℕ → List Line → List Line
+ofDefinitions tbox more =
+    questions 25 26 (the Definitions) ∷ questions 28 28 (the Definitions)
+    ∷ questions 2 13 (definitions (definitionCount tbox)) ∷ questions 27 27 (definitions (definitionCount tbox))
+    ∷ questions 29 30 (definitions (definitionCount tbox)) ∷ more
 
 -- a buffer that a call is not lent is one without bytes here
 pub record Buffers : Type 0 where
@@ -88,20 +107,20 @@ pub record Leaves (lent bytes left : Buffers) : Type 0 where
   pub result : Filled (lent .result) (bytes .result) (left .result)
 
 -- 01, "Refusals 1 to 14 and 24 write nothing. 15 to 23 leave the work space as a success does and result buffers
--- untouched": by the number, and what a success writes
+-- untouched"; 02, U3, of 25 to 30, "all write nothing": by the number, and what a success writes
 abbrev pub refusalBytes : ℕ → Buffers → Buffers
 refusalBytes number success = buffers (pick (leb 15 number && leb number 23) (success .work) []) []
 
--- the picture that an input is: the first or the case, the second, or a card; the others are none
-abbrev pub pictures : List ℕ → List ℕ → (ℕ → List ℕ) → Input → List ℕ
-pictures first second cardAt Buffer = []
-pictures first second cardAt First = first
-pictures first second cardAt Second = second
-pictures first second cardAt Evidence = []
-pictures first second cardAt Book = []
-pictures first second cardAt (Card k) = cardAt k
-pictures first second cardAt Definitions = []
-pictures first second cardAt (Definition k) = []
+-- the picture that an input is: the first or the case, the second, a card, or a definition's; the others are none
+abbrev pub pictures : List ℕ → List ℕ → (ℕ → List ℕ) → (ℕ → List ℕ) → Input → List ℕ
+pictures first second cardAt definitionAt Buffer = []
+pictures first second cardAt definitionAt First = first
+pictures first second cardAt definitionAt Second = second
+pictures first second cardAt definitionAt Evidence = []
+pictures first second cardAt definitionAt Book = []
+pictures first second cardAt definitionAt (Card k) = cardAt k
+pictures first second cardAt definitionAt Definitions = []
+pictures first second cardAt definitionAt (Definition k) = definitionAt k
 
 -- 02, U1, "the row being read (rows completed so far) and the byte where its field begins, from the picture's first",
 -- of a refusal of the picture s
@@ -190,7 +209,7 @@ validateCall limits picture = record {
   result-size = 0;
   refusals = questions 2 13 (the First) ∷ [];
   limits = limits;
-  picture = pictures picture [] (λ k. []);
+  picture = pictures picture [] (λ k. []) (λ k. []);
   asks = λ lent. readAsked limits First picture;
   Passed = Readable limits picture;
   Outcome = OutcomeYes;
@@ -199,89 +218,108 @@ validateCall limits picture = record {
   bytes = buffers [] [];
 }
 
--- Write its normal table and give its length in bytes.
-abbrev pub normalizeCall : Limits → List ℕ → Call
-normalizeCall limits picture = record {
-  work-size = 0;
-  result-size = pictureSize limits;
-  refusals = questions 1 1 (the Buffer) ∷ questions 2 14 (the First) ∷ [];
-  limits = limits;
-  picture = pictures picture [] (λ k. []);
-  asks = λ lent. oneAsked limits picture (length (lent .result));
-  Passed = Readable limits picture × (mergedCount limits picture ≤ limits .rows);
-  Outcome = OutcomeYes;
-  given = length (normalFile limits picture);
-  most = pictureSize limits;
-  bytes = buffers [] (normalFile limits picture);
-}
+-- 25 to 30, and 2 to 13 of the definitions' pictures, are answered yes, 2 to 13 of the picture, and 14 of it unfolded
+pub record AcceptableOne (limits : Limits) (tbox picture : List ℕ) : Type 0 where
+  pub definable : Definable limits tbox
+  pub readable : Readable limits picture
+  pub unfolds : Unfolds limits tbox picture
+  pub few : mergedCount limits (unfoldedFile limits tbox picture) ≤ limits .rows
 
--- Verdict with evidence, and its length.
-abbrev pub subsumesCall : Limits → List ℕ → List ℕ → Call
-subsumesCall limits first second = record {
-  work-size = workSize limits;
-  result-size = evidenceSize limits;
-  refusals = questions 1 1 (the Buffer) ∷ questions 2 14 (the First) ∷ questions 2 14 (the Second) ∷ [];
-  limits = limits;
-  picture = pictures first second (λ k. []);
-  asks = λ lent. subsumesAsked limits first second (length (lent .work)) (length (lent .result));
-  Passed = Acceptable limits first second;
-  Outcome = EitherOutcome (Covers limits second first) (Covers limits second first → ⊥);
-  given = length (evidenceOf limits first second);
-  most = evidenceSize limits;
-  bytes = buffers (tables limits first second) (evidenceOf limits first second);
-}
+-- the calls under a definitions book: what they write is that of the unfolded pictures
+module _ (limits : Limits) (tbox : List ℕ) where
+  abbrev unfolded : List ℕ → List ℕ
+  unfolded picture = unfoldedFile limits tbox picture
 
--- Common picture and its length.
-abbrev pub lcsCall : Limits → List ℕ → List ℕ → Call
-lcsCall limits first second = record {
-  work-size = workSize limits;
-  result-size = pictureSize limits;
-  refusals =
-      questions 1 1 (the Buffer) ∷ questions 2 14 (the First) ∷ questions 2 14 (the Second)
-      ∷ questions 15 15 (the Second) ∷ [];
-  limits = limits;
-  picture = pictures first second (λ k. []);
-  asks = λ lent. lcsAsked limits first second (length (lent .work)) (length (lent .result));
-  Passed = Acceptable limits first second × (lcsCount limits first second ≤ limits .rows);
-  Outcome = OutcomeYes;
-  given = length (lcsFile limits first second);
-  most = pictureSize limits;
-  bytes = buffers (tables limits first second) (lcsFile limits first second);
-}
+  -- Write its normal table and give its length in bytes.
+  abbrev pub normalizeCall : List ℕ → Call
+  normalizeCall picture = record {
+    work-size = 0;
+    result-size = pictureSize limits;
+    refusals = questions 1 1 (the Buffer) ∷ ofDefinitions tbox (ofGiven (the First) []);
+    limits = limits;
+    picture = pictures picture [] (λ k. []) (definitionFile tbox);
+    asks = λ lent. oneAskedUnder limits tbox picture (length (lent .result));
+    Passed = AcceptableOne limits tbox picture;
+    Outcome = OutcomeYes;
+    given = length (normalFile limits (unfolded picture));
+    most = pictureSize limits;
+    bytes = buffers [] (normalFile limits (unfolded picture));
+  }
 
--- Check evidence: map taken or refutation taken.
-abbrev pub verifyCall : Limits → List ℕ → List ℕ → List ℕ → Call
-verifyCall limits first second evidence = record {
-  work-size = workSize limits;
-  result-size = 0;
-  refusals =
-      questions 1 1 (the Buffer) ∷ questions 2 14 (the First) ∷ questions 2 14 (the Second)
-      ∷ questions 16 23 (the Evidence) ∷ [];
-  limits = limits;
-  picture = pictures first second (λ k. []);
-  asks = λ lent. verifyAsked limits first second evidence (length (lent .work));
-  Passed =
-      Acceptable limits first second × (MapOf limits first second evidence ⊎ RefutationOf limits first second evidence);
-  Outcome = EitherOutcome (MapOf limits first second evidence) (RefutationOf limits first second evidence);
-  given = 0;
-  most = 0;
-  bytes = buffers (tables limits first second) [];
-}
+  -- Verdict with evidence, and its length.
+  abbrev pub subsumesCall : List ℕ → List ℕ → Call
+  subsumesCall first second = record {
+    work-size = workSize limits;
+    result-size = evidenceSize limits;
+    refusals = questions 1 1 (the Buffer) ∷ ofDefinitions tbox (ofGiven (the First) (ofGiven (the Second) []));
+    limits = limits;
+    picture = pictures first second (λ k. []) (definitionFile tbox);
+    asks = λ lent. subsumesAskedUnder limits tbox first second (length (lent .work)) (length (lent .result));
+    Passed = AcceptableUnder limits tbox first second;
+    Outcome = EitherOutcome (CoversUnder limits tbox second first) (CoversUnder limits tbox second first → ⊥);
+    given = length (evidenceOf limits (unfolded first) (unfolded second));
+    most = evidenceSize limits;
+    bytes = buffers (tables limits (unfolded first) (unfolded second))
+        (evidenceOf limits (unfolded first) (unfolded second));
+  }
 
--- Nearest cards for a case.
-abbrev pub mostSpecificCall : Limits → List ℕ → List ℕ → Call
-mostSpecificCall limits case book = record {
-  work-size = workSize limits;
-  result-size = 0;
-  refusals =
-      questions 1 1 (the Buffer) ∷ questions 2 14 (the First) ∷ questions 24 24 (the Book)
-      ∷ questions 2 14 (cards (cardCount book)) ∷ [];
-  limits = limits;
-  picture = pictures case [] (form.card book);
-  asks = λ lent. mostSpecificAsked limits case book (length (lent .work));
-  Passed = AcceptableBook limits case book;
-  Outcome = OutcomeYes;
-  given = mostSpecificCards limits case book;
-  most = 0xFFFFFFFF;
-  bytes = buffers (zeros (workSize limits)) [];
-}
+  -- Common picture and its length.
+  abbrev pub lcsCall : List ℕ → List ℕ → Call
+  lcsCall first second = record {
+    work-size = workSize limits;
+    result-size = pictureSize limits;
+    refusals =
+        questions 1 1 (the Buffer)
+        ∷ ofDefinitions tbox (ofGiven (the First) (ofGiven (the Second) (questions 15 15 (the Second) ∷ [])));
+    limits = limits;
+    picture = pictures first second (λ k. []) (definitionFile tbox);
+    asks = λ lent. lcsAskedUnder limits tbox first second (length (lent .work)) (length (lent .result));
+    Passed =
+        AcceptableUnder limits tbox first second
+        × (lcsCount limits (unfolded first) (unfolded second) ≤ limits .rows);
+    Outcome = OutcomeYes;
+    given = length (lcsFile limits (unfolded first) (unfolded second));
+    most = pictureSize limits;
+    bytes = buffers (tables limits (unfolded first) (unfolded second))
+        (lcsFile limits (unfolded first) (unfolded second));
+  }
+
+  -- Check evidence: map taken or refutation taken. "refutations are checked on unfolded pictures"
+  abbrev pub verifyCall : List ℕ → List ℕ → List ℕ → Call
+  verifyCall first second evidence = record {
+    work-size = workSize limits;
+    result-size = 0;
+    refusals =
+        questions 1 1 (the Buffer)
+        ∷ ofDefinitions tbox (ofGiven (the First) (ofGiven (the Second) (questions 16 23 (the Evidence) ∷ [])));
+    limits = limits;
+    picture = pictures first second (λ k. []) (definitionFile tbox);
+    asks = λ lent. verifyAskedUnder limits tbox first second evidence (length (lent .work));
+    Passed =
+        AcceptableUnder limits tbox first second
+        × (MapOf limits (unfolded first) (unfolded second) evidence
+        ⊎ RefutationOf limits (unfolded first) (unfolded second) evidence);
+    Outcome = EitherOutcome (MapOf limits (unfolded first) (unfolded second) evidence)
+        (RefutationOf limits (unfolded first) (unfolded second) evidence);
+    given = 0;
+    most = 0;
+    bytes = buffers (tables limits (unfolded first) (unfolded second)) [];
+  }
+
+  -- Nearest cards for a case.
+  abbrev pub mostSpecificCall : List ℕ → List ℕ → Call
+  mostSpecificCall case book = record {
+    work-size = workSize limits;
+    result-size = 0;
+    refusals =
+        questions 1 1 (the Buffer)
+        ∷ ofDefinitions tbox (ofGiven (the First) (ofGiven (cards (cardCount book)) (questions 24 24 (the Book) ∷ [])));
+    limits = limits;
+    picture = pictures case [] (form.card book) (definitionFile tbox);
+    asks = λ lent. mostSpecificAskedUnder limits tbox case book (length (lent .work));
+    Passed = AcceptableBookUnder limits tbox case book;
+    Outcome = OutcomeYes;
+    given = mostSpecificCards limits (unfolded case) (unfoldedBook limits tbox book);
+    most = 0xFFFFFFFF;
+    bytes = buffers (zeros (workSize limits)) [];
+  }

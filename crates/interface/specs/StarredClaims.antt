@@ -18,7 +18,8 @@
 --   WritesEvidence,
 --   TakesEvidence                 what a call gives with any buffers that are long enough
 --   Holds, AllHold                what a claim says of the calls; that each of a list holds
--- These are at any limits; that the cases hold is shown at paper 01's.
+-- These are at any limits; that the cases hold is shown at paper 01's. The definitions book is one without definitions:
+-- the end field alone.
 use Prim.Native.Nat.{_*_, _+_, _^_, _≤_, ℕ}
 use lib.ListN.{length}
 use mathlib.Core.List.{List, [], _++_, _∷_}
@@ -33,12 +34,10 @@ use Rattle.countermodel.specs.Layout.{individualLength, individualTag}
 use Rattle.picture.specs.Readable.{Readable}
 use Rattle.meaning.specs.Covering.{Covers}
 use Rattle.meaning.specs.NormalTable.{mergedCount}
-use Rattle.normal.specs.Call.{normalizeResult}
 use Rattle.workspace.specs.Prepare.{workSize}
 use Rattle.homomorphism.specs.Layout.{mapTag}
-use Rattle.lcs.specs.Call.{lcsResult}
-use Rattle.subsumption.specs.Call.{subsumesResult}
 use Rattle.subsumption.specs.Verdict.{evidenceSize}
+use Rattle.under.specs.Calls.{lcsResultUnder, normalizeResultUnder, subsumesResultUnder}
 use Rattle.interface.specs.Calls.{lcsWord, normalizeWord, subsumesWord, validateWord, verifyWord}
 use Rattle.interface.specs.Word.{outcomeNo, outcomeYes, valueWord}
 
@@ -109,26 +108,26 @@ module _ (limits : Limits) where
   abbrev pub WritesNormal : List ℕ → List ℕ → Type 0
   WritesNormal first table =
       (result : List ℕ) → pictureSize limits ≤ length result →
-      (normalizeWord limits first (length result) ≡ valueWord outcomeYes (length table))
-      × (normalizeResult limits first result ≡ put result 0 table)
+      (normalizeWord limits endBytes first (length result) ≡ valueWord outcomeYes (length table))
+      × (normalizeResultUnder limits endBytes first result ≡ put result 0 table)
 
   abbrev pub WritesCommon : List ℕ → List ℕ → List ℕ → Type 0
   WritesCommon first second table =
       (work result : List ℕ) → workSize limits ≤ length work → pictureSize limits ≤ length result →
-      (lcsWord limits first second (length work) (length result) ≡ valueWord outcomeYes (length table))
-      × (lcsResult limits first second (length work) result ≡ put result 0 table)
+      (lcsWord limits endBytes first second (length work) (length result) ≡ valueWord outcomeYes (length table))
+      × (lcsResultUnder limits endBytes first second (length work) result ≡ put result 0 table)
 
   -- the word has the verdict and the evidence's length; the result buffer holds the evidence, and past it what was lent
   abbrev pub WritesEvidence : List ℕ → List ℕ → ℕ → List ℕ → Type 0
   WritesEvidence first second outcome evidence =
       (work result : List ℕ) → workSize limits ≤ length work → evidenceSize limits ≤ length result →
-      (subsumesWord limits first second (length work) (length result) ≡ valueWord outcome (length evidence))
-      × (subsumesResult limits first second (length work) result ≡ put result 0 evidence)
+      (subsumesWord limits endBytes first second (length work) (length result) ≡ valueWord outcome (length evidence))
+      × (subsumesResultUnder limits endBytes first second (length work) result ≡ put result 0 evidence)
 
   abbrev pub TakesEvidence : List ℕ → List ℕ → ℕ → List ℕ → Type 0
   TakesEvidence first second outcome evidence =
       (work : List ℕ) → workSize limits ≤ length work →
-      verifyWord limits first second evidence (length work) ≡ valueWord outcome 0
+      verifyWord limits endBytes first second evidence (length work) ≡ valueWord outcome 0
 
   -- normal: the row counts, and the normal table
   -- subsumes, subsumesNot: the verdict is yes, or no, with this evidence, which the check takes, and it is so by the

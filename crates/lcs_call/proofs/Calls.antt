@@ -32,16 +32,20 @@ use Rattle.table.specs.Put.{put}
 use Rattle.table_rows.specs.declared.builder.Builder.{Builder}
 use Rattle.table.specs.declared.layout.Limits.{Limits}
 use Rattle.prepare_pair.proofs.TablesIn.{on-tables}
-use Rattle.workspace.specs.Lent.{lentAsked, pairWork, roomy}
+use Rattle.workspace.specs.Lent.{roomy}
 use Rattle.workspace.specs.Prepare.{Acceptable}
-use Rattle.prepare_pair.specs.Tables.{NormalTables}
+use Rattle.prepare_pair.specs.Tables.{NormalTables, workUnder}
 use Rattle.prepare_pair.specs.declared.prepare.Pair.{Pair}
-use Rattle.lcs.specs.Call.{largeAsked, lcsAnswer, lcsLent, lcsResult, lcsWork, tooLarge}
+use Rattle.lcs.specs.Call.{largeAsked, tooLarge}
 use Rattle.lcs_call.specs.Large.{largeIn}
 use Rattle.product_rows.specs.Grown.{Built}
 use Rattle.lcs.specs.Product.{lcsCount, lcsFile, lcsTree}
 use Rattle.product_rows.specs.Siblings.{Trim}
 use Rattle.product_writer.specs.Tables.{Trims, commonFileIn, productAt}
+use Rattle.definitions.specs.Unfolded.{unfoldedFile}
+use Rattle.under.proofs.Asked.{lcs-asked, lcs-result-asked, lcs-work-asked}
+use Rattle.under.specs.Asked.{pairAskedUnder}
+use Rattle.under.specs.Calls.{lcsResultUnder, lcsUnder, lcsWorkUnder}
 use Rattle.lcs.specs.declared.common.Common.{Common}
 use Rattle.lcs.specs.declared.common.Common.the-variants.{Length, Refused}
 
@@ -110,26 +114,36 @@ module _ (limits : Limits) (first second : List ℕ) (bounded : Bounded limits) 
 
 -- ---- the call by its tests
 
-module _ (limits : Limits) (first second work result : List ℕ) where
+module _ (limits : Limits) (bounded : Bounded limits) (tbox first second work result : List ℕ) where
   abbrev pub Gives : Common → List ℕ → List ℕ → Type 0
   Gives answer space buffer =
-      (answer ≡ lcsAnswer limits first second (length work) (length result))
-      × ((space ≡ lcsWork limits first second work (length result)) × (buffer ≡ lcsResult limits first second (length work) result))
+      (answer ≡ lcsUnder limits tbox first second (length work) (length result))
+      × ((space ≡ lcsWorkUnder limits tbox first second work (length result))
+      × (buffer ≡ lcsResultUnder limits tbox first second (length work) result))
 
-  abbrev file-of : List ℕ
-  file-of = lcsFile limits first second
+  abbrev u : List ℕ
+  u = unfoldedFile limits tbox first
+
+  abbrev v : List ℕ
+  v = unfoldedFile limits tbox second
 
   -- b is the answer to 1, a what the questions before 15 answer, `space` what `prepare` has left
   pub prepared-call : (b : Bool) → b ≡ roomy limits (pictureSize limits) (length work) (length result) →
-      (a : Asked) → lentAsked limits b first second ≡ a → (space : List ℕ) →
-      space ≡ pairWork limits b first second work →
-      Gives (onAsked Refused (andThen a (largeAsked limits first second)) (Length (length file-of))) space
-      (kept (andThen a (largeAsked limits first second)) (put result 0 file-of) result)
-  unfolding lcsAnswer
+      (a : Asked) → pairAskedUnder limits tbox b first second ≡ a → (space : List ℕ) →
+      space ≡ workUnder limits tbox first second b work →
+      Gives (onAsked Refused (andThen a (largeAsked limits u v)) (Length (length (lcsFile limits u v)))) space
+      (kept (andThen a (largeAsked limits u v)) (put result 0 (lcsFile limits u v)) result)
   prepared-call b room a is space written =
-      let asks : lcsLent limits first second (length work) (length result) ≡ a =
-      ap (λ q. lentAsked limits q first second) (sym room) ∙ is in
-      (rw asks, (written ∙ ap (λ q. pairWork limits q first second work) room, rw asks))
+      let asks : pairAskedUnder limits tbox (roomy limits (pictureSize limits) (length work) (length result)) first
+      second
+      ≡ a = ap (λ q. pairAskedUnder limits tbox q first second) (sym room) ∙ is in (
+        sym (lcs-asked limits bounded tbox first second (length work) (length result) ∙ rw asks),
+        (
+          written ∙ ap (λ q. workUnder limits tbox first second q work) room
+              ∙ sym (lcs-work-asked limits bounded tbox first second work (length result)),
+          sym (lcs-result-asked limits bounded tbox first second (length work) result ∙ rw asks),
+        ),
+      )
 
 -- ---- the parts of the work space that are the normal tables
 

@@ -1,4 +1,5 @@
-// The fourth call: question 1, both pictures into the work space, question 15, and the common picture into the result buffer.
+// The fourth call: question 1, both pictures, unfolded, into the work space, question 15, and the common picture into
+// the result buffer.
 use lcs::common::Common;
 use normal_writer::write::SCRATCH;
 use normal_writer::write::write_table;
@@ -19,7 +20,7 @@ ghost use Rattle.table.specs.Bounds.{Bounded, pictureSize};
 ghost use Rattle.table.specs.Put.{put};
 ghost use Rattle.row_sets.specs.Rows.{Checked};
 ghost use Rattle.picture.specs.Asked.{kept, onAsked};
-ghost use Rattle.lcs.specs.Call.{lcsAnswer, lcsResult, lcsWork};
+ghost use Rattle.under.specs.Calls.{lcsResultUnder, lcsUnder, lcsWorkUnder};
 ghost use Rattle.lcs_call.specs.Large.{largeIn};
 ghost use Rattle.product_writer.specs.Tables.{Trims, commonFileIn};
 
@@ -47,8 +48,9 @@ fn write_common(
     Common::Length(write_table(&scratch, table, result))
 }
 
-// The call: 1; the pair; 15. Nothing is written before 14 is answered yes for both.
+// The call: 1; the pair under the definitions book; 15. Nothing is written before 14 is answered yes for both.
 pub fn lcs(
+    tbox: &[u8],
     first: &[u8],
     second: &[u8],
     limits: Limits,
@@ -56,10 +58,15 @@ pub fn lcs(
     result: &mut [u8],
 ) -> Common
     requires { ⌜ Bounded limits ⌝ }
-    ensures { λ r. ⌜ (r ≡ lcsAnswer limits (now (first .entry)) (now (second .entry)) (length (now (work .entry))) (length (now (result .entry)))) × ((now (work .exit) ≡ lcsWork limits (now (first .entry)) (now (second .entry)) (now (work .entry)) (length (now (result .entry)))) × (now (result .exit) ≡ lcsResult limits (now (first .entry)) (now (second .entry)) (length (now (work .entry))) (now (result .entry)))) ⌝ }
+    ensures { λ r. ⌜ (r ≡ lcsUnder limits (now (tbox .entry)) (now (first .entry)) (now (second .entry))
+        (length (now (work .entry))) (length (now (result .entry))))
+        × ((now (work .exit) ≡ lcsWorkUnder limits (now (tbox .entry)) (now (first .entry)) (now (second .entry))
+        (now (work .entry)) (length (now (result .entry))))
+        × (now (result .exit) ≡ lcsResultUnder limits (now (tbox .entry)) (now (first .entry)) (now (second .entry))
+        (length (now (work .entry))) (now (result .entry)))) ⌝ }
 {
     let enough = has_room(limits, half_size(limits), work.len(), result.len());
-    match prepare(first, second, limits, enough, work) {
+    match prepare(tbox, first, second, limits, enough, work) {
         Prepared::Tables(pair) => {
             let low = first_table(work, pair);
             let high = second_table(work, limits, pair);

@@ -19,7 +19,7 @@ use Rattle.refutation_writer.specs.Refuting.{againstTree}
 use Rattle.countermodel.specs.Writing.{refutationFile}
 use Rattle.refutation_writer.specs.Writing.{RefutationRoom}
 use Rattle.prepare_pair.proofs.TablesIn.{on-tables}
-use Rattle.prepare_pair.specs.Tables.{NormalTables}
+use Rattle.prepare_pair.specs.Tables.{NormalTables, workUnder}
 use Rattle.homomorphism.proofs.MapFiles.{length-mapFile}
 use Rattle.homomorphism_search.proofs.NormalMaps.{normal-maps}
 use Rattle.homomorphism.specs.Layout.{imagePlace}
@@ -32,7 +32,6 @@ use Rattle.meaning.specs.NormalTable.{normalFile, normalTreeOf}
 use Rattle.row_sets.specs.Rows.{Checked}
 use Rattle.picture.specs.Asked.{kept, onAsked}
 use Rattle.picture.specs.declared.answer.Asked.{Asked}
-use Rattle.picture.specs.declared.answer.Asked.the-variants as asked
 use Rattle.picture.specs.Depth.{depth}
 use Rattle.picture.specs.Readable.{Readable}
 use Rattle.table.specs.Fields.{parentOf}
@@ -41,15 +40,19 @@ use Rattle.table.specs.Layout.{endSize}
 use Rattle.table.specs.Pick.{pick}
 use Rattle.table.specs.Put.{put}
 use Rattle.table.specs.declared.layout.Limits.{Limits}
-use Rattle.workspace.specs.Lent.{lentAsked, pairWork, roomy}
+use Rattle.workspace.specs.Lent.{roomy}
 use Rattle.workspace.specs.Prepare.{Acceptable}
 use Rattle.prepare_pair.specs.declared.prepare.Pair.{Pair}
-use Rattle.subsumption.specs.Call.{subsumesAnswer, subsumesAsked, subsumesResult, subsumesWork, verdictAnswer}
+use Rattle.subsumption.specs.Call.{verdictAnswer}
 use Rattle.subsumes.specs.Tables.{Settled, evidenceIn, verdictIn}
 use Rattle.subsumption.specs.Verdict.{evidenceOf, evidenceSize, mapOf, refutationOf, verdictOf}
 use Rattle.subsumption.specs.declared.verdict.Verdict.{Verdict}
 use Rattle.subsumption.specs.declared.verdict.Verdict.the-variants.{No, Refused, Yes}
 use Rattle.subsumption.proofs.Writers.{individuals-few, map-size}
+use Rattle.definitions.specs.Unfolded.{unfoldedFile}
+use Rattle.under.proofs.Asked.{subsumes-asked, subsumes-result-asked, subsumes-work-asked}
+use Rattle.under.specs.Asked.{pairAskedUnder, subsumesAskedUnder}
+use Rattle.under.specs.Calls.{subsumesResultUnder, subsumesUnder, subsumesWorkUnder}
 
 -- ---- the normal tables of a pair
 
@@ -134,23 +137,34 @@ module _ (s t : List ℕ) (depth : ℕ) where
 
 -- ---- the call by its tests
 
-module _ (limits : Limits) (first second work result : List ℕ) where
+module _ (limits : Limits) (bounded : Bounded limits) (tbox first second work result : List ℕ) where
   abbrev pub Gives : Verdict → List ℕ → List ℕ → Type 0
   Gives answer space buffer =
-      (answer ≡ subsumesAnswer limits first second (length work) (length result))
-      × ((space ≡ subsumesWork limits first second work (length result)) × (buffer ≡ subsumesResult limits first second (length work) result))
+      (answer ≡ subsumesUnder limits tbox first second (length work) (length result))
+      × ((space ≡ subsumesWorkUnder limits tbox first second work (length result))
+      × (buffer ≡ subsumesResultUnder limits tbox first second (length work) result))
+
+  abbrev u : List ℕ
+  u = unfoldedFile limits tbox first
+
+  abbrev v : List ℕ
+  v = unfoldedFile limits tbox second
 
   -- b is the answer to 1, a what the questions answer, `space` what `prepare` has left
   pub prepared-call : (b : Bool) → b ≡ roomy limits (evidenceSize limits) (length work) (length result) →
-      (a : Asked) → lentAsked limits b first second ≡ a → (space : List ℕ) →
-      space ≡ pairWork limits b first second work →
-      Gives (onAsked Refused a (verdictAnswer limits first second)) space
-      (kept a (put result 0 (evidenceOf limits first second)) result)
-  unfolding subsumesAnswer
+      (a : Asked) → pairAskedUnder limits tbox b first second ≡ a → (space : List ℕ) →
+      space ≡ workUnder limits tbox first second b work →
+      Gives (onAsked Refused a (verdictAnswer limits u v)) space (kept a (put result 0 (evidenceOf limits u v)) result)
   prepared-call b room a is space written =
-      let asks : subsumesAsked limits first second (length work) (length result) ≡ a =
-      ap (λ q. lentAsked limits q first second) (sym room) ∙ is in
-      (rw asks, (written ∙ ap (λ q. pairWork limits q first second work) room, rw asks))
+      let asks : subsumesAskedUnder limits tbox first second (length work) (length result) ≡ a =
+      ap (λ q. pairAskedUnder limits tbox q first second) (sym room) ∙ is in (
+        sym (subsumes-asked limits bounded tbox first second (length work) (length result) ∙ rw asks),
+        (
+          written ∙ ap (λ q. workUnder limits tbox first second q work) room
+              ∙ sym (subsumes-work-asked limits bounded tbox first second work (length result)),
+          sym (subsumes-result-asked limits bounded tbox first second (length work) result ∙ rw asks),
+        ),
+      )
 
 -- ---- the parts of the work space that are the normal tables
 

@@ -58,7 +58,7 @@ module _ (limits : Limits) (first second : List ℕ) (pair : Acceptable limits f
       let named = countermodel-named pictureSignature Either (normalTreeOf limits second) (normalTreeOf limits first)
       second-named first-named in
       let inside : k < length (encode pictureSignature b) = omega (arith, l, refutationFile-count b) in
-      encoded-named pictureSignature Either Any b named k inside n
+      encoded-named pictureSignature Either Any b named k inside .0 n
       (true-is _ (ap (λ a. has a n) (sym (written-names b k inside)) ∙ h))
 
   pub evidence-mentions : verdictOf limits first second ≡ false → (k n : ℕ) →

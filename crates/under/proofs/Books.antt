@@ -8,8 +8,7 @@
 --   case-covered, card-covered   covering under the definitions book is covering of the unfolded ones
 --   most-specific-under          so a card is nearest under it exactly if it is nearest there
 --   bookAll, most-specific-all, most-specific-work-all   what is asked in all; then the word; the work space
---   cardFew, book-order          14 of an unfolded card; after what is asked before the first 14 comes 14 alone, of the
---                                unfolded case and cards
+--   book-order                   after what is asked before the first 14 comes 14 alone, of the unfolded case and cards
 --   BookNo, book-decides, book-refuses   so all is yes exactly with room and of an acceptable book; the first no; what
 --                                every refusal has
 --   most-specific-same, most-specific-work-same    where a book is prepared, the call is that without a definitions
@@ -66,6 +65,7 @@ use Rattle.definitions.specs.Covering.{CoversUnder}
 use Rattle.definitions.specs.Unfolded.{Unfolds, unfoldedFile}
 use Rattle.definitions.proofs.Questions.{OfDefinitions, definitions-decides, definitions-refuses}
 use Rattle.definitions.specs.Refusals.{AllOf, DefinitionsNo}
+use Rattle.under.specs.Asked.{cardFew}
 use Rattle.under.specs.Book.{AcceptableBookUnder, MostSpecificUnder, PreparedBook, bookBefore, caseAndCards}
 use Rattle.under.specs.Book.{mostSpecificUnder, mostSpecificWorkUnder, unfoldedBook}
 
@@ -321,12 +321,8 @@ module _ (limits : Limits) (bounded : Bounded limits) (tbox case book : List ℕ
       kept-then (bookBefore limits tbox case book (length work)) (mostSpecificAsked limits c b (length work))
       (put work 0 (zeros (workSize limits))) work
 
-  -- 14 of the unfolded cards
-  abbrev pub cardFew : ℕ → Asked
-  cardFew k = mergedAsked limits (Card k) (unfoldedFile limits tbox (card book k))
-
   abbrev merged : Asked
-  merged = andThen (mergedAsked limits First c) (askedFrom cardFew (cardCount book) 0)
+  merged = andThen (mergedAsked limits First c) (askedFrom (cardFew limits tbox book) (cardCount book) 0)
 
   -- the unfolded case and cards are readable, and the book of the cards has the form: what is left is 14
   opened : (room : ℕ) → workSize limits ≤ room → PreparedBook limits tbox case book →
@@ -339,7 +335,7 @@ module _ (limits : Limits) (bounded : Bounded limits) (tbox case book : List ℕ
       (λ k. read-decides limits (Card k) (card b k) .yes) (cardCount b) 0 .1
       (λ k a l. again-readable limits bounded tbox case book ok k (omega arith)) in
       let cards = ap (λ (n : ℕ). askedFrom (cardMerged limits b) n 0) (unfolded-count limits bounded tbox case book ok)
-      ∙ from-same (cardMerged limits b) cardFew (cardCount book) 0
+      ∙ from-same (cardMerged limits b) (cardFew limits tbox book) (cardCount book) 0
       (λ k a l. ap (mergedAsked limits (Card k)) (unfolded-card limits bounded tbox case book ok k (omega arith))) in
       rw (le-leb (workSize limits) room long, read, unfolded-form limits bounded tbox case book ok, reads)
       (ap (andThen (mergedAsked limits First c)) cards)
@@ -367,10 +363,10 @@ module _ (limits : Limits) (bounded : Bounded limits) (tbox case book : List ℕ
       (sym (book-order room))
       (said-so (andThen (bookBefore limits tbox case book room) merged)
       (and-decides (bookBefore limits tbox case book room) merged (before-decides limits tbox case book room)
-      (λ ok. and-decides (mergedAsked limits First c) (askedFrom cardFew (cardCount book) 0)
+      (λ ok. and-decides (mergedAsked limits First c) (askedFrom (cardFew limits tbox book) (cardCount book) 0)
       (merged-decides limits First c)
-      (λ few. from-decides cardFew Few (λ k. TooMany limits (Card k) (unfoldedFile limits tbox (card book k)))
-      (cardCount book) 0
+      (λ few. from-decides (cardFew limits tbox book) Few
+      (λ k. TooMany limits (Card k) (unfoldedFile limits tbox (card book k))) (cardCount book) 0
       (λ k a l. merged-decides limits (Card k) (unfoldedFile limits tbox (card book k)))))) (
         λ ((long, ok), (few, each)). (
           long,
@@ -386,9 +382,9 @@ module _ (limits : Limits) (bounded : Bounded limits) (tbox case book : List ℕ
   book-refuses P room early many each =
       subst (EveryRefusal P) (sym (book-order room))
       (and-refuses P (bookBefore limits tbox case book room) merged early
-      (and-refuses P (mergedAsked limits First c) (askedFrom cardFew (cardCount book) 0)
+      (and-refuses P (mergedAsked limits First c) (askedFrom (cardFew limits tbox book) (cardCount book) 0)
       (merged-refuses limits First c P many)
-      (from-refuses P cardFew (cardCount book) 0
+      (from-refuses P (cardFew limits tbox book) (cardCount book) 0
       (λ k a l. merged-refuses limits (Card k) (unfoldedFile limits tbox (card book k)) P (each k (omega arith))))))
 
   module _ (ok : PreparedBook limits tbox case book) where

@@ -3,8 +3,8 @@
 --   fits-other           what fits a tree fits it in an interpretation with the same pairs, if the names that the tree
 --                        speaks of have the same sets
 --   unfolded-plain       the tree of an unfolded picture speaks of no defined name
---   OtherDefined         two files of individuals that are the same but for defined names
---   refutation-ignored   so if one is a refutation of the unfolded pictures, the other is,
+--   refutation-ignored   so if one of two files that are the same but for them is a refutation of the unfolded
+--                        pictures, the other is,
 --   taken-ignored        and if one is taken, the other is, whatever bytes are given for the pictures
 use Prim.Native.Nat.{_<_, ℕ}
 use lib.Dec.{T}
@@ -29,8 +29,8 @@ use Rattle.ale.specs.Tree.{Forest, Kind, Tree, cons, exists, forAll, nil, node}
 use Rattle.tbox.proofs.Coverings.{Plain, Undefined}
 use Rattle.tbox.proofs.Coverings as tables
 use Rattle.picture.specs.Readable.{Readable}
-use Rattle.meaning.specs.Meaning.{pictureTable, pictureTree, setAt}
-use Rattle.countermodel.specs.Individual.{individualNames, individualOk, individualParent, individualRole, individuals, refutationForm}
+use Rattle.meaning.specs.Meaning.{pictureTable, pictureTree}
+use Rattle.countermodel.specs.Individual.{individualOk, individuals}
 use Rattle.countermodel.specs.Layout.{individualCount}
 use Rattle.evidence.specs.Taken.{RefutationOf}
 use Rattle.evidence.specs.declared.check.Verified.the-variants.{RefutationTaken}
@@ -40,6 +40,7 @@ use Rattle.definitions.specs.Tbox.{definedWord, tboxOf}
 use Rattle.definitions.specs.Unfolded.{Definable, Unfolds, unfoldedFile}
 use Rattle.under.specs.Calls.{verifyUnder}
 use Rattle.under.specs.Given.{AcceptableUnder}
+use Rattle.under.specs.Ignored.{OtherDefined}
 use Rattle.under.proofs.Conditions.{kind-shown, refutation-shown, takes-refutation}
 
 -- ---- two interpretations
@@ -83,14 +84,6 @@ unfolded-plain limits bounded tbox ok s r u =
     (pictureTable s) (picture-unfoldable limits bounded tbox ok s r u))
 
 -- ---- two refutations
-
-pub record OtherDefined (limits : Limits) (tbox e d : List ℕ) : Type 0 where
-  pub form : refutationForm limits e ≡ refutationForm limits d
-  pub count : individualCount e ≡ individualCount d
-  pub parents : (k : ℕ) → k < individualCount e → individualParent e k ≡ individualParent d k
-  pub roles : (k : ℕ) → k < individualCount e → individualRole e k ≡ individualRole d k
-  pub names : (k n : ℕ) → k < individualCount e → has (definedWord tbox) n ≡ false →
-      pictureSignature .has (setAt (individualNames e k)) n ≡ pictureSignature .has (setAt (individualNames d k)) n
 
 module _ (limits : Limits) (bounded : Bounded limits) (tbox first second : List ℕ)
     (ok : AcceptableUnder limits tbox first second) (e d : List ℕ) (other : OtherDefined limits tbox e d) where

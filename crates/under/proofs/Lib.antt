@@ -8,4 +8,5 @@ pub mod Conditions
 pub mod Ignored
 pub mod Commons
 pub mod Books
+pub mod Asked
 pub mod Empty

@@ -8,7 +8,9 @@ use libc::STDOUT_FILENO;
 use refutation_reader::layout::INDIVIDUAL_SIZE;
 use refutation_reader::layout::MAX_INDIVIDUALS;
 use subsumes::subsumes::subsumes;
+use table::layout::END_LENGTH;
 use table::layout::END_SIZE;
+use table::layout::END_TAG;
 use table::layout::Limits;
 use table::layout::MAX_ROWS;
 use table::layout::ROW_SIZE;
@@ -25,6 +27,9 @@ const WORK: usize = 2 * (ROW_SIZE * MAX_ROWS + END_SIZE);
 // That for a result buffer: the longest refutation, which is longer than any map.
 const RESULT: usize = INDIVIDUAL_SIZE * MAX_INDIVIDUALS + END_SIZE;
 
+// The definitions book without definitions: the end field alone.
+const NO_DEFINITIONS: [u8; END_SIZE] = [END_TAG, 0, END_LENGTH as u8];
+
 // verdict yes
 const YES_LINE: usize = 12;
 
@@ -39,7 +44,14 @@ fn answer(first: &[u8], second: &[u8], work: &mut [u8], result: &mut [u8], out: 
     requires { ⌜ Lengths (length (now work)) (length (now result)) (length (now out)) ⌝ }
     ensures { λ r. ⌜ Front (now (out .exit)) (printed (now (first .entry)) (now (second .entry))) r ⌝ }
 {
-    let verdict = subsumes(first, second, Limits::bench(), work, result);
+    let verdict = subsumes(
+        &NO_DEFINITIONS,
+        first,
+        second,
+        Limits::bench(),
+        work,
+        result,
+    );
     gather(verdict, result, out)
 }
 

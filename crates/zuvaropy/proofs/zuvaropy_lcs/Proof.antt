@@ -16,12 +16,13 @@ lcs-requires c κs = search needs
 
 common-word-requires : tie.Need-common-word-requires
 common-word-requires c κs =
-    let a = c .before .before .before .before .before .before .before .before .before .before .before .before .args in
+    let a =
+    c .before .before .before .before .before .before .before .before .before .before .before .before .before .args in
     let limits = c .before .before .before .before .before .before .before .bench in
     let lcs = c .before .before .before .before .lcs in
     λ n e.
-    common-small (limits .result) (limits .ensures .1) (now (a .first)) (now (a .second)) (length (now (a .work)))
-    (length (now (a .result)))
+    common-small (limits .result) (limits .ensures .1) (now (a .definitions)) (now (a .first)) (now (a .second))
+    (length (now (a .work))) (length (now (a .result)))
     n (sym (lcs .ensures .0) ∙ e)
 
 same-length : tie.Need-same-length

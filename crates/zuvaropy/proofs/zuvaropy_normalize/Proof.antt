@@ -1,10 +1,7 @@
 -- The word of the answer; a length fits its part of the word, since a normal table is within the limits.
 use mathlib.Core.Path.{_∙_, sym}
-use native.Mathlib.Omega.{arith}
-use denote.Ref.{now}
-use lib.ListN.{length}
-use Rattle.normal.proofs.Answers.{answer-size}
 use Rattle.interface.specs.Calls.{normalizeWord}
+use Rattle.interface.proofs.Values.{normal-small}
 use borrow.Author.Needs.{needs}
 use Rattle.zuvaropy.proofs.zuvaropy_normalize.Statement.{statement}
 use Rattle.zuvaropy.proofs.zuvaropy_normalize.Tie as tie
@@ -17,11 +14,9 @@ normalize-requires c κs = search needs
 
 normalized-word-requires : tie.Need-normalized-word-requires
 normalized-word-requires c κs =
-    let a = c .before .before .before .before .before .before .before .args in
     let limits = c .before .before .before .before .bench in
     let normalize = c .before .before .normalize in
-    λ n e.
-    omega (arith, limits .ensures .1, answer-size (limits .result) (now (a .picture)) (length (now (a .result))) n (sym (normalize .ensures .0) ∙ e))
+    λ n e. normal-small (limits .result) (limits .ensures .1) _ _ _ n (sym (normalize .ensures .0) ∙ e)
 
 same-length : tie.Need-same-length
 same-length c = search needs

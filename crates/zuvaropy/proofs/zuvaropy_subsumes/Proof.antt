@@ -16,12 +16,13 @@ subsumes-requires c κs = search needs
 
 verdict-word-requires : tie.Need-verdict-word-requires
 verdict-word-requires c κs =
-    let a = c .before .before .before .before .before .before .before .before .before .before .before .before .args in
+    let a =
+    c .before .before .before .before .before .before .before .before .before .before .before .before .before .args in
     let limits = c .before .before .before .before .before .before .before .bench in
     let subsumes = c .before .before .before .before .subsumes in
     let given = sym (subsumes .ensures .0) in
-    let small = verdict-small (limits .result) (limits .ensures .1) (now (a .first)) (now (a .second))
-    (length (now (a .work))) (length (now (a .result))) in
+    let small = verdict-small (limits .result) (limits .ensures .1) (now (a .definitions)) (now (a .first))
+    (now (a .second)) (length (now (a .work))) (length (now (a .result))) in
     λ n. (λ e. small n .0 (given ∙ e), λ e. small n .1 (given ∙ e))
 
 same-length : tie.Need-same-length

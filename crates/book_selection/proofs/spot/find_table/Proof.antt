@@ -1,33 +1,40 @@
 -- A table that is cached stands in the tables; another is made in the part of the work space that is lent.
-use Prim.Native.Nat.{_<_}
+use Prim.Native.Nat.{_<_, ℕ}
 use native.Mathlib.Omega.{arith}
 use denote.Ref.{now}
 use mathlib.Core.Bool.{false≢true}
+use mathlib.Core.List.{List}
 use mathlib.Core.Path.{refl, sym}
 use Rattle.fields.proofs.Forms.{count-most}
 use Rattle.book.specs.Form.{cardTag, mostCards}
 use Rattle.book_tables.proofs.Caches.{made-same}
+use Rattle.book_tables.proofs.CardTables.{count-is}
 use Rattle.book_tables.proofs.Parts.{made-before, part-room}
+use Rattle.under.specs.Book.{unfoldedBook}
 use Rattle.book_selection.proofs.Standings.{cached-stands, made-stands}
 use borrow.Author.Needs.{needs}
 use Rattle.book_selection.proofs.spot.find_table.Statement.{statement}
 use Rattle.book_selection.proofs.spot.find_table.Tie as tie
 
+-- the book of the unfolded cards
+abbrev again : (c : tie.Start) → List ℕ
+again c = unfoldedBook (c .args .limits) (now (c .args .tbox)) (now (c .args .book))
+
 -- a card of the book is one of 32
 small : (c : tie.Start) → c .args .k < mostCards
-small c = omega (arith, c .pre .below, count-most cardTag (now (c .args .book)))
+small c = omega (arith, c .pre .1 .below, count-most cardTag (again c))
 
 add-rows : tie.Need-add-rows
-add-rows c = omega (arith, small (c .before .before .before))
+add-rows c = omega (arith, small (c .before .before .before .before))
 
 mul-rows : tie.Need-mul-rows
-mul-rows c = omega (arith, small (c .before .before .before))
+mul-rows c = omega (arith, small (c .before .before .before .before))
 
 element-copy-out-rows : tie.Need-element-copy-out-rows
 element-copy-out-rows c = omega (
   arith,
-  small (c .before .before .before),
-  c .before .before .before .pre .cached
+  small (c .before .before .before .before),
+  c .before .before .before .before .pre .1 .cached
       .cache-is .spanned,
 )
 
@@ -42,12 +49,12 @@ part-make-table-end c = search needs
 
 make-table-requires : tie.Need-make-table-requires
 make-table-requires c κs =
-    let start = c .before .before .before .before .before .before in
-    let pre = start .pre in
+    let start = c .before .before .before .before .before .before .before in
+    let (taken, pre) = start .pre in
     record {
       bounded = pre .bounded;
-      taken = pre .cached .taken;
-      below = pre .below;
+      taken = taken;
+      below = omega (arith, pre .below, count-is (pre .bounded) taken);
       space = part-room (now (start .args .work)) _ _ (pre .room);
     }
 
@@ -56,15 +63,15 @@ same-length c = search needs
 
 returns : tie.Need-returns
 returns c =
-    let start = c .before .before .before .before .before .before .before .before .before in
+    let start = c .before .before .before .before .before .before .before .before .before .before in
     let a = start .args in
-    let pre = start .pre in
+    let pre = start .pre .1 in
     let made = c .before .before .make-table in
     let few = pre .cached .taken .few (a .k) (pre .below) in
-    let end = made .last .1 .1 .1 .0 in
+    let end = made .last .1 .1 .1 .1 .0 in
     record {
       stands =
-          made-stands (a .limits) (now (a .book)) (now (a .tables)) (now (a .work)) (a .from) (a .k) (made .result) end
+          made-stands (a .limits) (again start) (now (a .tables)) (now (a .work)) (a .from) (a .k) (made .result) end
           (pre .bounded) few (pre .room) (made .ensures);
       card-is = refl;
       first = λ _. refl;
@@ -74,24 +81,21 @@ returns c =
     }
 
 mul-start : tie.Need-mul-start
-mul-start c = omega (arith, small (c .before .before .before .before .before))
+mul-start c = omega (arith, small (c .before .before .before .before .before .before))
 
 element-copy-out-start : tie.Need-element-copy-out-start
-element-copy-out-start c = omega (
-  arith,
-  small (c .before .before .before .before .before),
-  c .before .before .before
-      .before .before .pre .cached .cache-is .spanned,
-)
+element-copy-out-start c =
+    let start = c .before .before .before .before .before .before in
+    omega (arith, small start, start .pre .1 .cached .cache-is .spanned)
 
 returns-2 : tie.Need-returns-2
 returns-2 c =
-    let start = c .before .before .before .before .before .before in
+    let start = c .before .before .before .before .before .before .before in
     let a = start .args in
-    let pre = start .pre in
+    let pre = start .pre .1 in
     record {
       stands =
-          cached-stands (a .limits) (now (a .book)) (now (a .tables)) (now (a .spans)) (pre .cached .at) (pre .bounded)
+          cached-stands (a .limits) (again start) (now (a .tables)) (now (a .spans)) (pre .cached .at) (pre .bounded)
           (pre .cached .cache-is) (now (a .work)) (a .k) (small start) (c .before .if1 .left);
       card-is = refl;
       first = λ e. absurd (false≢true (sym e));

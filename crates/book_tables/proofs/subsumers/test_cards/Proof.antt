@@ -1,102 +1,127 @@
 -- At the loop's head the cards below k are tested. The table of card k is made in the second half, and the search on
 -- both tables says whether it covers the case.
-use Prim.Native.Nat.{_+_, _-_, _≤_}
+use Prim.Native.Nat.{_+_, _-_, _<_, _≤_, ℕ}
 use native.Mathlib.Omega.{arith}
 use borrow.Rule.Slice.PartMut.{midOf}
 use denote.Ref.{now}
 use lib.ListN.{length}
+use mathlib.Core.List.{List}
 use mathlib.Core.Path.{_∙_, _≡_, refl, sym}
 use Rattle.table.specs.Bounds.{pictureSize}
 use Rattle.normal_writer.specs.Tables.{Tabled, tableIn}
 use Rattle.meaning.specs.NormalTable.{mergedCount}
-use Rattle.book.specs.Form.{card}
+use Rattle.book.specs.Form.{card, cardCount}
+use Rattle.under.specs.Book.{unfoldedBook}
 use Rattle.book_tables.specs.Cache.{SubsumersBelow}
-use Rattle.book_tables.proofs.CardTables.{card-room, card-tabled}
+use Rattle.book_tables.proofs.CardTables.{card-room, card-tabled, cards-taken, count-is}
 use Rattle.book_tables.proofs.CardTests.{addable, test-all, test-half, test-next, test-start, testable}
 use Rattle.book_tables.proofs.Parts.{part-room, withUpper}
 use Rattle.book_tables.proofs.subsumers.test_cards.Statement.{statement}
 use Rattle.book_tables.proofs.subsumers.test_cards.Tie as tie
 
 abbrev Inv-loop : tie.InvT-loop
-Inv-loop book cards limits n links work₀ tables₀ spans₀ half subsumers₀ k₀ work tables spans subsumers k =
-    SubsumersBelow limits (tableIn work₀ 0 n) book (cards .count) n work tables spans subsumers k
+Inv-loop tbox book limits n links work₀ tables₀ spans₀ cards starts defined half subsumers₀ k₀ work tables spans
+    subsumers k =
+    SubsumersBelow limits (tableIn work₀ 0 n) (unfoldedBook limits tbox book) (cards .count) n work tables spans
+    subsumers k
     × (length tables ≡ length tables₀)
 
 abbrev μ-loop : tie.MeasureT-loop
-μ-loop book cards limits n links work₀ tables₀ spans₀ half subsumers₀ k₀ work tables spans subsumers k =
+μ-loop tbox book limits n links work₀ tables₀ spans₀ cards starts defined half subsumers₀ k₀ work tables spans
+    subsumers k =
     cards .count - k
 
 half-size-requires : tie.Need-half-size-requires Inv-loop μ-loop
-half-size-requires c κs = c .before .before .before .pre .bounded
+half-size-requires c κs = c .before .before .before .before .before .before .before .pre .ready .bounded
 
 loop-holds : tie.Need-loop-holds Inv-loop μ-loop
-loop-holds c = let pre = c .before .before .before .before .pre in (test-start (pre .long) refl (pre .blank), refl)
+loop-holds c =
+    let pre = c .before .before .before .before .before .before .before .before .pre in
+    (test-start (pre .long) refl (pre .blank), refl)
 
 card-requires : tie.Need-card-requires Inv-loop μ-loop
-card-requires c κs = (c .before .before .before .before .before .before .before .pre .placed, c .if1 .taken)
+card-requires c κs = (
+  c .before .before .before .before .before .before .before .before .before .before .before .pre .placed,
+  c .if1 .taken,
+)
 
 -- the second half is there, and as long as the longest table
-inside : (c : tie.At-loop Inv-loop μ-loop) → let a = c .before .before .before .before .before .args in
+inside : (c : tie.At-loop Inv-loop μ-loop) →
+    let a = c .before .before .before .before .before .before .before .before .before .args in
     c .before .half-size .result + pictureSize (a .limits) ≤ length (c .loop .work)
 inside c = omega (arith, c .before .half-size .ensures, c .loop .inv .0 .long)
 
-sub-normal-table : tie.Need-sub-normal-table Inv-loop μ-loop
-sub-normal-table c = omega (arith, inside (c .before .before .before))
+sub-unfolded-table : tie.Need-sub-unfolded-table Inv-loop μ-loop
+sub-unfolded-table c = omega (arith, inside (c .before .before .before .before))
 
-part-normal-table-start : tie.Need-part-normal-table-start Inv-loop μ-loop
-part-normal-table-start c = omega (arith, inside (c .before .before .before))
+part-unfolded-table-start : tie.Need-part-unfolded-table-start Inv-loop μ-loop
+part-unfolded-table-start c = omega (arith, inside (c .before .before .before .before))
 
-part-normal-table-end : tie.Need-part-normal-table-end Inv-loop μ-loop
-part-normal-table-end c = omega (arith, inside (c .before .before .before))
+part-unfolded-table-end : tie.Need-part-unfolded-table-end Inv-loop μ-loop
+part-unfolded-table-end c = omega (arith, inside (c .before .before .before .before))
 
-normal-table-requires : tie.Need-normal-table-requires Inv-loop μ-loop
-normal-table-requires c κs =
-    let head = c .before .before .before .before in
-    let start = head .before .before .before .before .before in
-    let pre = start .pre in
-    let k = head .loop .k in
-    card-room (now (start .args .book)) k (c .before .card .ensures) (pre .bounded)
-    (pre .taken .readable k (omega (arith, c .before .before .if1 .taken, pre .placed .counted)))
-    (part-room (head .loop .work) _ _ (omega (arith, inside head)))
+-- a card whose place is kept is one of the lent book
+in-book : (c : tie.Then1 Inv-loop μ-loop) → let head = c .before .before in
+    let a = head .before .before .before .before .before .before .before .before .before .args in
+    head .loop .k < cardCount (now (a .book))
+in-book c =
+    let pre = c .before .before .before .before .before .before .before .before .before .before .before .pre in
+    omega (arith, c .if1 .taken, pre .placed .counted)
+
+unfolded-table-requires : tie.Need-unfolded-table-requires Inv-loop μ-loop
+unfolded-table-requires c κs =
+    let turn = c .before .before .before in
+    let head = turn .before .before in
+    let pre = head .before .before .before .before .before .before .before .before .before .pre in
+    card-room (pre .ready .bounded) (pre .taken) (head .loop .k) (in-book turn) (c .before .before .card .ensures)
+    (pre .ready) (part-room (head .loop .work) _ _ (omega (arith, inside head)))
 
 -- the ways back from the table that was made: to the entry, to the loop's head, to the turn's beginning
-abbrev entry : (c : tie.After-normal-table Inv-loop μ-loop) → tie.Start Inv-loop μ-loop
-entry c = c .before .before .before .before .before .before .before .before .before .before
+abbrev entry : (c : tie.After-unfolded-table Inv-loop μ-loop) → tie.Start Inv-loop μ-loop
+entry c = c .before .before .before .before .before .before .before .before .before .before .before .before .before
+    .before .before
 
-abbrev head : (c : tie.After-normal-table Inv-loop μ-loop) → tie.At-loop Inv-loop μ-loop
-head c = c .before .before .before .before .before
+abbrev head : (c : tie.After-unfolded-table Inv-loop μ-loop) → tie.At-loop Inv-loop μ-loop
+head c = c .before .before .before .before .before .before
 
-abbrev turn : (c : tie.After-normal-table Inv-loop μ-loop) → tie.Then1 Inv-loop μ-loop
-turn c = c .before .before .before
+abbrev turn : (c : tie.After-unfolded-table Inv-loop μ-loop) → tie.Then1 Inv-loop μ-loop
+turn c = c .before .before .before .before
 
--- it is card k's, and 14 is answered yes for that
-tabled : (c : tie.After-normal-table Inv-loop μ-loop) → let a = entry c .args in let l = head c .loop in
+-- the book of the unfolded cards
+abbrev again : (c : tie.After-unfolded-table Inv-loop μ-loop) → List ℕ
+again c = let a = entry c .args in unfoldedBook (a .limits) (now (a .tbox)) (now (a .book))
+
+-- the table is that of its card k, and 14 is answered yes for that
+tabled : (c : tie.After-unfolded-table Inv-loop μ-loop) → let a = entry c .args in let l = head c .loop in
     let half = head c .before .half-size .result in
-    Tabled (a .limits) (card (now (a .book)) (l .k)) (midOf half (length (l .work) - half) (l .work))
-    (c .normal-table .result) (c .normal-table .last .1 .1 .0)
+    Tabled (a .limits) (card (again c) (l .k)) (midOf half (length (l .work) - half) (l .work))
+    (c .unfolded-table .result) (c .unfolded-table .last .1 .1 .1 .1 .1 .0)
 tabled c =
-    card-tabled (now (entry c .args .book)) (head c .loop .k) (c .before .before .card .ensures)
-    (c .normal-table .ensures)
+    let pre = entry c .pre in
+    card-tabled (pre .ready .bounded) (pre .taken) (head c .loop .k) (in-book (turn c))
+    (c .before .before .before .card .ensures) (c .unfolded-table .ensures)
 
-few : (c : tie.After-normal-table Inv-loop μ-loop) → let a = entry c .args in
-    mergedCount (a .limits) (card (now (a .book)) (head c .loop .k)) ≤ a .limits .rows
+few : (c : tie.After-unfolded-table Inv-loop μ-loop) → let a = entry c .args in
+    mergedCount (a .limits) (card (again c) (head c .loop .k)) ≤ a .limits .rows
 few c =
     let pre = entry c .pre in
-    pre .taken .few (head c .loop .k) (omega (arith, turn c .if1 .taken, pre .placed .counted))
+    let bounded = pre .ready .bounded in
+    cards-taken bounded (pre .taken) .few (head c .loop .k)
+    (omega (arith, in-book (turn c), count-is bounded (pre .taken)))
 
 covers-case-requires : tie.Need-covers-case-requires Inv-loop μ-loop
 covers-case-requires c κs =
     let made = c .before .before .before in
     let pre = entry made .pre in
-    testable (head made .loop .inv .0) (turn made .if1 .taken) (pre .bounded) (few made) (pre .lower)
+    testable (head made .loop .inv .0) (turn made .if1 .taken) (pre .ready .bounded) (few made) (pre .lower)
     (head made .before .half-size .ensures) (tabled made) (pre .linked)
 
 -- the second half is there still
-half-there : (c : tie.After-normal-table Inv-loop μ-loop) → let half = head c .before .half-size .result in
-    half ≤ length (withUpper (head c .loop .work) half (c .normal-table .last .1 .1 .0))
+half-there : (c : tie.After-unfolded-table Inv-loop μ-loop) → let half = head c .before .half-size .result in
+    half ≤ length (withUpper (head c .loop .work) half (c .unfolded-table .last .1 .1 .1 .1 .1 .0))
 half-there c =
     let pre = entry c .pre in
-    test-half (head c .loop .inv .0) (turn c .if1 .taken) (pre .bounded) (few c) (pre .lower)
+    test-half (head c .loop .inv .0) (turn c .if1 .taken) (pre .ready .bounded) (few c) (pre .lower)
     (head c .before .half-size .ensures) (tabled c)
 
 sub-add-card : tie.Need-sub-add-card Inv-loop μ-loop
@@ -112,11 +137,11 @@ add-card-requires : tie.Need-add-card-requires Inv-loop μ-loop
 add-card-requires c κs =
     let made = c .before .before .before .before .before .before .before .before in
     let pre = entry made .pre in
-    addable (head made .loop .inv .0) (turn made .if1 .taken) (pre .bounded) (few made) (pre .lower)
+    addable (head made .loop .inv .0) (turn made .if1 .taken) (pre .ready .bounded) (few made) (pre .lower)
     (head made .before .half-size .ensures) (tabled made) (pre .placed .located .most)
 
 -- the way back from the end of the turn
-abbrev made-in : (c : tie.After-slice-known4 Inv-loop μ-loop) → tie.After-normal-table Inv-loop μ-loop
+abbrev made-in : (c : tie.After-slice-known4 Inv-loop μ-loop) → tie.After-unfolded-table Inv-loop μ-loop
 made-in c = c .before .before .before .before .before .before .before .before .before .before .before
 
 add-k : tie.Need-add-k Inv-loop μ-loop
@@ -130,7 +155,7 @@ loop-again c =
     let made = made-in c in
     let pre = entry made .pre in
     let added = c .before .before .add-card in (
-      test-next (head made .loop .inv .0) (turn made .if1 .taken) (pre .bounded) (few made) (pre .lower)
+      test-next (head made .loop .inv .0) (turn made .if1 .taken) (pre .ready .bounded) (few made) (pre .lower)
           (head made .before .half-size .ensures) (tabled made)
           (c .before .before .before .before .before .before .before .covers-case .ensures) (added .ensures .0)
           (added .ensures .1),
@@ -138,8 +163,9 @@ loop-again c =
     )
 
 same-length : tie.Need-same-length Inv-loop μ-loop
-same-length c = c .before .before .loop .inv .0 .long ∙ sym (c .before .before .before .before .before .before .before
-    .pre .long)
+same-length c =
+    c .before .before .loop .inv .0 .long
+    ∙ sym (c .before .before .before .before .before .before .before .before .before .before .before .pre .long)
 
 same-length-2 : tie.Need-same-length-2 Inv-loop μ-loop
 same-length-2 c = c .before .before .loop .inv .1
@@ -156,10 +182,10 @@ test-cards-spec =
     half-size-requires
     loop-holds
     card-requires
-    sub-normal-table
-    part-normal-table-start
-    part-normal-table-end
-    normal-table-requires
+    sub-unfolded-table
+    part-unfolded-table-start
+    part-unfolded-table-end
+    unfolded-table-requires
     covers-case-requires
     sub-add-card
     part-add-card-start

@@ -9,6 +9,7 @@ use native.Mathlib.Omega.{arith}
 use Prim.Native.Nat.{_+_}
 use Rattle.picture.specs.declared.answer.Asked.the-variants.{No, Yes}
 use Rattle.workspace.specs.Prepare.{workSize}
+use Rattle.definitions.specs.Unfolded.{unfoldedFile}
 use Rattle.prepare_pair.proofs.TablesIn.{Lending, first-lies, prepared-in, prepared-no, prepared-tables, prepared-yes}
 use Rattle.prepare_pair.specs.Tables.{NormalTables}
 use Rattle.evidence_check.proofs.CheckLaws.{prepared-call, tables-check}
@@ -17,7 +18,7 @@ use Rattle.evidence_check.proofs.verify.verify.Tie as tie
 
 -- the ways back: from what `prepare` has given to the entry, from the parts to the former
 abbrev entry : (c : tie.After-prepare) → tie.Start
-entry c = c .before .before .before .before .before .before .before
+entry c = c .before .before .before .before .before .before .before .before
 
 abbrev prepared : (c : tie.After-second-table) → tie.After-prepare
 prepared c = c .before .before .before .before .before .before .before .before
@@ -30,8 +31,8 @@ room c = ap (λ n. leb (n + n) (length (now (entry c .args .work)))) (c .before 
 
 lending : (c : tie.After-prepare) → let a = entry c .args in
     let half = c .before .before .half-size .result in
-    Lending (a .limits) (leb (half + half) (length (now (a .work)))) (now (a .first)) (now (a .second)) (now (a .work))
-    (c .prepare .last .1 .1 .1 .1 .0) (c .prepare .result)
+    Lending (a .limits) (leb (half + half) (length (now (a .work)))) (now (a .tbox)) (now (a .first))
+    (now (a .second)) (now (a .work)) (c .prepare .last .1 .1 .1 .1 .1 .0) (c .prepare .result)
 lending c =
     let a = entry c .args in
     let half = c .before .before .half-size in
@@ -44,7 +45,8 @@ lending c =
 
 -- the parts are the normal tables
 normal : (c : tie.After-second-table) → let a = entry (prepared c) .args in
-    NormalTables (a .limits) (now (a .first)) (now (a .second)) (c .before .before .before .before .pair .given .0 .0)
+    NormalTables (a .limits) (unfoldedFile (a .limits) (now (a .tbox)) (now (a .first)))
+    (unfoldedFile (a .limits) (now (a .tbox)) (now (a .second))) (c .before .before .before .before .pair .given .0 .0)
     (now (c .before .first-table .result)) (now (c .second-table .result))
 normal c =
     prepared-tables (lending (prepared c)) (c .before .before .before .before .pair .given .1)
@@ -58,7 +60,7 @@ add-enough c = search needs
 
 prepare-requires : tie.Need-prepare-requires
 prepare-requires c κs =
-    let start = c .before .before .before .before .before .before in
+    let start = c .before .before .before .before .before .before .before in
     let half = c .before .half-size in (
       start .pre,
       λ e. omega (arith, half .ensures, leb-true (half .result + half .result) (length (now (start .args .work))) e),
@@ -91,7 +93,8 @@ returns c =
     let a = entry d .args in
     let l = lending d in
     let (answer, space) =
-    prepared-call (a .limits) (now (a .first)) (now (a .second)) (now (a .evidence)) (now (a .work)) _ (room d) Yes
+    prepared-call (a .limits) (l .bounded) (now (a .tbox)) (now (a .first)) (now (a .second)) (now (a .evidence))
+    (now (a .work)) _ (room d) Yes
     (prepared-yes l (c .before .before .before .before .before .pair .given .1) .0) _ (l .written) in
     (c .check .ensures ∙ tables-check (l .bounded) (normal (c .before)) (now (a .evidence)) ∙ answer, space)
 
@@ -103,8 +106,9 @@ returns-2 c =
     let d = c .before .before .before .before .before in
     let a = entry d .args in
     let refusal = c .before .refusal .given in
-    prepared-call (a .limits) (now (a .first)) (now (a .second)) (now (a .evidence)) (now (a .work)) _ (room d)
-    (No (refusal .0 .0)) (prepared-no (lending d) (refusal .0 .0) (refusal .1)) _ (lending d .written)
+    prepared-call (a .limits) (lending d .bounded) (now (a .tbox)) (now (a .first)) (now (a .second))
+    (now (a .evidence)) (now (a .work)) _ (room d) (No (refusal .0 .0))
+    (prepared-no (lending d) (refusal .0 .0) (refusal .1)) _ (lending d .written)
 
 pub verify-spec : {M : Type 1} → statement M
 verify-spec =

@@ -8,22 +8,21 @@ use lib.Seq.{length-take-le}
 use mathlib.Core.List.{_++_}
 use mathlib.Core.Path.{_∙_, _≡_, ap, sym}
 use Rattle.workspace.specs.Prepare.{workSize}
-use Rattle.book.specs.Selection.{mostSpecificCards}
-use Rattle.most_specific.specs.Asking.{afterCards}
-use Rattle.most_specific.proofs.Calls.{book-taken, case-few, merged-passed, merged-refused}
-use Rattle.most_specific.proofs.Calls.{cleared-part, done, stopped}
+use Rattle.most_specific.specs.Asking.{afterDefinitions, wordUnder}
+use Rattle.most_specific.proofs.Calls.{cleared-part, done, merged-accepted, merged-passed, merged-refused}
+use Rattle.most_specific.proofs.Calls.{stopped}
 use Rattle.most_specific.proofs.most_specific.select.Statement.{statement}
 use Rattle.most_specific.proofs.most_specific.select.Tie as tie
 
 half-size-requires : tie.Need-half-size-requires
-half-size-requires c κs = search needs
+half-size-requires c κs = c .before .before .before .before .pre .0 .ready .bounded
 
 add-size : tie.Need-add-size
 add-size c = search needs
 
 -- the way back to the entry
 abbrev entry : (c : tie.After-half-size) → tie.Start
-entry c = c .before .before .before .before
+entry c = c .before .before .before .before .before
 
 -- the part of the work space that is lent is as long as both halves
 lent : (c : tie.After-half-size) → let size = c .half-size .result + c .half-size .result in
@@ -46,18 +45,12 @@ specific-cards-requires c κs =
     let asked = c .before .before .before in
     let a = entry (asked .before) .args in
     let pre = entry (asked .before) .pre .0 in
-    let is = asked .ask-merged .ensures in
-    let yes-all = c .before .enum-told .given .1 in
     record {
-      bounded = pre .bounded;
-      readable = pre .readable;
-      few =
-          case-few (a .limits) (now (a .case)) (now (a .book)) (a .cards) (pre .cards-read)
-          (asked .ask-merged .result) is yes-all;
-      placed = pre .cards-read .places-are;
-      taken =
-          book-taken (a .limits) (now (a .case)) (now (a .book)) (a .cards) (pre .cards-read)
-          (asked .ask-merged .result) is yes-all;
+      ready = pre .ready;
+      placed = pre .places-are;
+      accepted =
+          merged-accepted (a .limits) (now (a .tbox)) (now (a .case)) (now (a .book)) (a .books) pre
+          (asked .ask-merged .result) (asked .ask-merged .ensures) (c .before .enum-told .given .1);
       long = lent (asked .before) ∙ omega (arith, asked .before .half-size .ensures);
     }
 
@@ -76,10 +69,11 @@ returns c =
     let a = entry (asked .before) .args in
     let half = asked .before .half-size in
     let chosen = c .before .before .specific-cards in
-    done (a .limits) (mostSpecificCards (a .limits) (now (a .case)) (now (a .book))) (now (a .work))
-    (afterCards (a .limits) (now (a .case)) (now (a .book)))
-    (merged-passed (a .limits) (now (a .case)) (now (a .book)) (a .cards) (entry (asked .before) .pre .0 .cards-read)
-    (asked .ask-merged .result) (asked .ask-merged .ensures) (c .before .before .before .before .enum-told .given .1))
+    done (a .limits) (wordUnder (a .limits) (now (a .tbox)) (now (a .case)) (now (a .book))) (now (a .work))
+    (afterDefinitions (a .limits) (now (a .tbox)) (now (a .case)) (now (a .book)))
+    (merged-passed (a .limits) (now (a .tbox)) (now (a .case)) (now (a .book)) (a .books)
+    (entry (asked .before) .pre .0) (asked .ask-merged .result) (asked .ask-merged .ensures)
+    (c .before .before .before .before .enum-told .given .1))
     (chosen .result) _ (chosen .ensures .0)
     (ap (λ l. l ++ drop (half .result + half .result) (now (a .work))) (chosen .ensures .1)
     ∙ cleared-part (now (a .work)) (workSize (a .limits)) (half .result + half .result) (omega (arith, half .ensures)))
@@ -89,10 +83,11 @@ returns-2 c =
     let asked = c .before .before .before in
     let a = entry (asked .before) .args in
     let refusal = c .before .refusal .given in
-    stopped (a .limits) (mostSpecificCards (a .limits) (now (a .case)) (now (a .book))) (now (a .work))
-    (afterCards (a .limits) (now (a .case)) (now (a .book))) (refusal .0 .0)
-    (merged-refused (a .limits) (now (a .case)) (now (a .book)) (a .cards) (entry (asked .before) .pre .0 .cards-read)
-    (asked .ask-merged .result) (asked .ask-merged .ensures) (refusal .0 .0) (refusal .1))
+    stopped (a .limits) (wordUnder (a .limits) (now (a .tbox)) (now (a .case)) (now (a .book))) (now (a .work))
+    (afterDefinitions (a .limits) (now (a .tbox)) (now (a .case)) (now (a .book))) (refusal .0 .0)
+    (merged-refused (a .limits) (now (a .tbox)) (now (a .case)) (now (a .book)) (a .books)
+    (entry (asked .before) .pre .0) (asked .ask-merged .result) (asked .ask-merged .ensures) (refusal .0 .0)
+    (refusal .1))
 
 pub select-spec : {M : Type 1} → statement M
 select-spec =

@@ -74,8 +74,8 @@ returns c =
     let upper = c .before .before .build-half2 in (
       rw (lower .ensures .0, upper .ensures .0),
       halves-built (a .limits) (now (a .first)) (now (a .second)) (now (a .work)) (lower .last .1 .1 .0)
-          (upper .last .1 .1 .0) (half .result) (half .result + half .result) (start .pre .accepted)
-          (half .ensures) refl (lower .ensures .1) (upper .ensures .1),
+          (upper .last .1 .1 .0) (half .result) (half .result + half .result) (start .pre .accepted .first-few)
+          (start .pre .accepted .second-few) (half .ensures) refl (lower .ensures .1) (upper .ensures .1),
     )
 
 pub build-halves-spec : {M : Type 1} → statement M

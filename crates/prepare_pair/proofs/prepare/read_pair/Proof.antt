@@ -1,4 +1,4 @@
--- The first reading that refuses is the answer; of two readable pictures the tables are made.
+-- The first reading that refuses is the answer; of two readable pictures the questions of the book are asked.
 use mathlib.Core.Path.{_∙_, sym}
 use borrow.Author.Needs.{needs}
 use denote.Ref.{now}
@@ -7,9 +7,13 @@ use Rattle.picture.specs.declared.answer.Input.the-variants.{First, Second}
 use Rattle.picture.proofs.Orders.{on-no}
 use Rattle.picture.proofs.Keeping.{kept-no}
 use Rattle.prepare_pair.specs.declared.prepare.Prepared.the-variants.{Refused}
-use Rattle.prepare_pair.proofs.TabledPairs.{pair-answers, refused-first, refused-second}
+use Rattle.prepare_pair.proofs.TabledPairs.{both-read, refused-first, refused-second}
 use Rattle.prepare_pair.proofs.prepare.read_pair.Statement.{statement}
 use Rattle.prepare_pair.proofs.prepare.read_pair.Tie as tie
+
+-- the way back from the reading of the first to the entry
+abbrev entry : (c : tie.After-read) → tie.Start
+entry c = c .before .before .before .before .before
 
 read-requires : tie.Need-read-requires
 read-requires c κs = search needs
@@ -23,9 +27,9 @@ read-requires-2 c κs = search needs
 enum-told-2 : tie.Need-enum-told-2
 enum-told-2 c = search needs
 
-write-pair-requires : tie.Need-write-pair-requires
-write-pair-requires c κs =
-    let start = c .before .before .before .before .before .before .before .before .before .before in
+open-pair-requires : tie.Need-open-pair-requires
+open-pair-requires c κs =
+    let start = entry (c .before .before .before .before .before .before) in
     let a = start .args in
     let told = c .before .before .before .before .enum-told .given in
     let told-second = c .before .enum-told2 .given in
@@ -57,33 +61,34 @@ same-length c = search needs
 
 returns : tie.Need-returns
 returns c =
-    let a = c .before .before .before .before .before .before .before .before .before .before .before .before .before .args in
+    let a = entry (c .before .before .before .before .before .before .before .before .before) .args in
     let told = c .before .before .before .before .before .before .before .enum-told .given in
     let told-second = c .before .before .before .before .enum-told2 .given in
     let read = c .before .before .before .before .before .before .before .before .before .read .ensures in
     let read-second = c .before .before .before .before .before .before .read2 .ensures in
-    let done = c .before .before .write-pair .ensures in
-    let both = pair-answers (a .limits) (now (a .first)) (now (a .second)) (told .0 .0) (sym read ∙ told .1)
-    (told-second .0 .0) (sym read-second ∙ told-second .1) in
+    let done = c .before .before .open-pair .ensures in
+    let both = both-read (a .limits) (now (a .tbox)) (now (a .first)) (now (a .second)) (told .0 .0)
+    (sym read ∙ told .1) (told-second .0 .0) (sym read-second ∙ told-second .1) in
     rw both done
 
 returns-2 : tie.Need-returns-2
 returns-2 c =
-    let a = c .before .before .before .before .before .before .before .before .before .before .args in
+    let a = entry (c .before .before .before .before .before .before) .args in
     let told = c .before .before .before .before .enum-told .given in
     let refusal = c .before .refusal .given in
     let read = c .before .before .before .before .before .before .read .ensures in
     let read-second = c .before .before .before .read2 .ensures in
-    let no-is = refused-second (a .limits) (now (a .first)) (now (a .second)) (told .0 .0) (sym read ∙ told .1)
-    (refusal .0 .0) (sym read-second ∙ refusal .1) in
+    let no-is = refused-second (a .limits) (now (a .tbox)) (now (a .first)) (now (a .second)) (told .0 .0)
+    (sym read ∙ told .1) (refusal .0 .0) (sym read-second ∙ refusal .1) in
     (sym (on-no Refused _ _ _ no-is), sym (kept-no _ _ _ _ no-is))
 
 returns-3 : tie.Need-returns-3
 returns-3 c =
-    let a = c .before .before .before .before .before .before .before .args in
+    let a = entry (c .before .before .before) .args in
     let refusal = c .before .refusal2 .given in
     let read = c .before .before .before .read .ensures in
-    let no-is = refused-first (a .limits) (now (a .first)) (now (a .second)) (refusal .0 .0) (sym read ∙ refusal .1) in
+    let no-is = refused-first (a .limits) (now (a .tbox)) (now (a .first)) (now (a .second)) (refusal .0 .0)
+    (sym read ∙ refusal .1) in
     (sym (on-no Refused _ _ _ no-is), sym (kept-no _ _ _ _ no-is))
 
 pub read-pair-spec : {M : Type 1} → statement M
@@ -94,7 +99,7 @@ read-pair-spec =
     enum-told
     read-requires-2
     enum-told-2
-    write-pair-requires
+    open-pair-requires
     enum-known-refusal
     enum-known-refusal-2
     same-length

@@ -11,6 +11,7 @@ use Rattle.picture.specs.declared.answer.Asked.the-variants.{No, Yes}
 use Rattle.workspace.proofs.Lendings.{room-both}
 use Rattle.workspace.specs.Lent.{roomy}
 use Rattle.workspace.specs.Prepare.{workSize}
+use Rattle.definitions.specs.Unfolded.{unfoldedFile}
 use Rattle.prepare_pair.proofs.TablesIn.{Lending, first-lies, long-enough, prepared-in, prepared-no, prepared-tables, prepared-yes}
 use Rattle.prepare_pair.specs.Tables.{NormalTables}
 use Rattle.subsumption.specs.Verdict.{evidenceSize}
@@ -20,7 +21,7 @@ use Rattle.subsumes.proofs.subsumes.subsumes.Tie as tie
 
 -- the ways back: from the answer to 1 and from what `prepare` has given to the entry, from the parts to the latter
 abbrev entry : (c : tie.After-has-room) → tie.Start
-entry c = c .before .before .before .before .before .before .before
+entry c = c .before .before .before .before .before .before .before .before
 
 abbrev tested : (c : tie.After-prepare) → tie.After-has-room
 tested c = c .before .before
@@ -47,8 +48,8 @@ long c e =
     (sym (room c) ∙ e)
 
 lending : (c : tie.After-prepare) → let a = entry (tested c) .args in
-    Lending (a .limits) (tested c .has-room .result) (now (a .first)) (now (a .second)) (now (a .work))
-    (c .prepare .last .1 .1 .1 .1 .0) (c .prepare .result)
+    Lending (a .limits) (tested c .has-room .result) (now (a .tbox)) (now (a .first)) (now (a .second)) (now (a .work))
+    (c .prepare .last .1 .1 .1 .1 .1 .0) (c .prepare .result)
 lending c =
     record {
       bounded = entry (tested c) .pre;
@@ -59,7 +60,8 @@ lending c =
 
 -- the parts are the normal tables
 normal : (c : tie.After-second-table) → let a = entry (tested (prepared c)) .args in
-    NormalTables (a .limits) (now (a .first)) (now (a .second)) (c .before .before .before .before .pair .given .0 .0)
+    NormalTables (a .limits) (unfoldedFile (a .limits) (now (a .tbox)) (now (a .first)))
+    (unfoldedFile (a .limits) (now (a .tbox)) (now (a .second))) (c .before .before .before .before .pair .given .0 .0)
     (now (c .before .first-table .result)) (now (c .second-table .result))
 normal c =
     prepared-tables (lending (prepared c)) (c .before .before .before .before .pair .given .1)
@@ -70,7 +72,7 @@ individuals-within-requires c κs = search needs
 
 individual-place-requires : tie.Need-individual-place-requires
 individual-place-requires c κs =
-    let start = c .before .before .before .before .before in
+    let start = c .before .before .before .before .before .before in
     (omega (arith, c .individuals-within .ensures, within-most (start .args .limits) (start .pre)), omega arith)
 
 has-room-requires : tie.Need-has-room-requires
@@ -123,8 +125,8 @@ returns c =
     let (answered, put) = tables-decided (l .bounded) (normal (c .before .before .before .before))
     (decide .result) (now (a .result)) (decide .last .1 .1 .1 .1 .1 .0) (decide .ensures .0) (decide .ensures .1) in
     let (answer, (space, buffer)) =
-    prepared-call (a .limits) (now (a .first)) (now (a .second)) (now (a .work)) (now (a .result)) _
-    (room (tested d)) Yes
+    prepared-call (a .limits) (l .bounded) (now (a .tbox)) (now (a .first)) (now (a .second)) (now (a .work))
+    (now (a .result)) _ (room (tested d)) Yes
     (prepared-yes l (c .before .before .before .before .before .before .before .before .pair .given .1) .0) _
     (l .written) in
     (answered ∙ answer, (space, put ∙ buffer))
@@ -137,7 +139,8 @@ returns-2 c =
     let d = c .before .before .before .before .before in
     let a = entry (tested d) .args in
     let refusal = c .before .refusal .given in
-    prepared-call (a .limits) (now (a .first)) (now (a .second)) (now (a .work)) (now (a .result)) _ (room (tested d))
+    prepared-call (a .limits) (lending d .bounded) (now (a .tbox)) (now (a .first)) (now (a .second)) (now (a .work))
+    (now (a .result)) _ (room (tested d))
     (No (refusal .0 .0)) (prepared-no (lending d) (refusal .0 .0) (refusal .1)) _ (lending d .written)
 
 pub subsumes-spec : {M : Type 1} → statement M

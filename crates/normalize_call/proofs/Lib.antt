@@ -1,0 +1,3 @@
+-- laws of what the call has written
+pub mod EndAlone
+pub mod Writings

@@ -1,0 +1,2 @@
+-- What the call has written. Nobody has to believe these.
+pub mod Written

@@ -1,0 +1,2 @@
+-- laws of pictures that unfolding changes
+pub mod Changes
