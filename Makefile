@@ -6,7 +6,7 @@
 #                 the last line is 'N passed, M failed'
 # make demo       look a vehicle up in a book and explain it in words; validate the samples, print their normal tables,
 #                 ask which subsumes which, check the sample evidence, print common pictures, look up cards and
-#                 explain them, and run the verdict program
+#                 explain them, look up cards that use a defined name, and run the verdict program
 # make bench      print one table of the time of each call beside the same call hand-written in Rust, three of them in
 #                 C too, and how it grows with the size
 # make count      print how many instructions each call takes, whatever else the machine does, beside C, Rust and what
@@ -59,7 +59,7 @@ gate: tools
 	@mkdir -p build
 	@CC='$(CC)' sh tests/gate.sh; echo $$? >build/gate.status
 
-EXAMPLES = readout bytes validate normalize subsumes verify lcs most_specific explain
+EXAMPLES = readout bytes validate normalize subsumes verify lcs most_specific explain definitions
 EXAMPLE_PARTS = examples/show.c
 HEADING = printf '\n== %s\n'
 
@@ -87,6 +87,8 @@ demo: library program
 	@sh samples/most_specific.sh build/examples/most_specific
 	@$(HEADING) 'explain: the same with the reasons'
 	@sh samples/explain.sh build/examples/explain
+	@$(HEADING) 'definitions: cards that use a defined name, and definitions books that are refused'
+	@sh samples/definitions.sh build/examples/definitions build/examples/most_specific build/examples/explain
 	@$(HEADING) 'verdict: a program that is proved too, on two files'
 	@sh samples/verdict.sh $(PROGRAM)
 

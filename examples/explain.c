@@ -1,16 +1,17 @@
 /*
  * Says of each card of a book why it is, or is not, one of the most specific ones
- * that subsume a case.
+ * that subsume a case, under the definitions of a definitions book if there is one.
  *
- *   explain CASE BOOK
+ *   explain CASE BOOK [DEFINITIONS]
  *
  * Prints a line for each card: whether it subsumes the case, with the evidence of
  * zuvaropy_subsumes and whether zuvaropy_verify takes it. If it does, also whether
  * it is most specific, and which others that are have the same instances; or else
  * for which of them it is passed over. Of those that are, also each row of the
- * card's normal table and the row of the case's that it goes to. Or "refused N,
- * ..": which question refused which input, and where. Exits 1 if something is
- * refused, evidence is not taken, or a file cannot be read.
+ * card's normal table, in which definitions are unfolded, and the row of the case's
+ * that it goes to. Or "refused N, ..": which question refused which input, and
+ * where. Exits 1 if something is refused, evidence is not taken, or a file cannot be
+ * read.
  */
 
 #include "show.h"
@@ -36,6 +37,7 @@ struct answer {
     uint8_t evidence[ZUVAROPY_MAX_EVIDENCE_BYTES];
 };
 
+static struct picture definitions; /* the bytes of the definitions book */
 static int all_taken = 1;
 
 /* The case and the book were not refused, so neither picture is. */
@@ -43,10 +45,12 @@ static void ask(struct answer *answer, const struct picture *the_case, const str
 {
     uint64_t checked;
 
-    answer->word = zuvaropy_subsumes(the_case->bytes, the_case->length, card->bytes, card->length, answer->work,
-                                     sizeof answer->work, answer->evidence, sizeof answer->evidence);
-    checked = zuvaropy_verify(the_case->bytes, the_case->length, card->bytes, card->length, answer->evidence,
-                              zuvaropy_value(answer->word), answer->work, sizeof answer->work);
+    answer->word = zuvaropy_subsumes(definitions.bytes, definitions.length, the_case->bytes, the_case->length,
+                                     card->bytes, card->length, answer->work, sizeof answer->work, answer->evidence,
+                                     sizeof answer->evidence);
+    checked = zuvaropy_verify(definitions.bytes, definitions.length, the_case->bytes, the_case->length, card->bytes,
+                              card->length, answer->evidence, zuvaropy_value(answer->word), answer->work,
+                              sizeof answer->work);
     answer->taken = zuvaropy_outcome(checked) == zuvaropy_outcome(answer->word);
     all_taken = all_taken && answer->taken;
 }
@@ -139,21 +143,25 @@ static void find_cards(struct book *book, const uint8_t *bytes, size_t length)
 int main(int argc, char **argv)
 {
     static uint8_t case_bytes[SHOW_PICTURE_ROOM], book_bytes[SHOW_BOOK_ROOM], work[ZUVAROPY_WORK_BYTES];
+    static uint8_t definition_bytes[SHOW_DEFINITIONS_ROOM];
     struct picture the_case;
     struct book book;
     size_t book_length;
     unsigned int card;
     uint64_t word;
 
-    if (argc != 3) {
-        fprintf(stderr, "usage: %s CASE BOOK\n", argv[0]);
+    if (argc != 3 && argc != 4) {
+        fprintf(stderr, "usage: %s CASE BOOK [DEFINITIONS]\n", argv[0]);
         return 2;
     }
     the_case.bytes = case_bytes;
+    definitions.bytes = definition_bytes;
     if (show_read(argv[1], case_bytes, sizeof case_bytes, &the_case.length) != 0 ||
-        show_read(argv[2], book_bytes, sizeof book_bytes, &book_length) != 0)
+        show_read(argv[2], book_bytes, sizeof book_bytes, &book_length) != 0 ||
+        show_read_definitions(argv[3], definition_bytes, sizeof definition_bytes, &definitions.length) != 0)
         return 1;
-    word = zuvaropy_most_specific(case_bytes, the_case.length, book_bytes, book_length, work, sizeof work);
+    word = zuvaropy_most_specific(definition_bytes, definitions.length, case_bytes, the_case.length, book_bytes,
+                                  book_length, work, sizeof work);
     if (show_refused(word))
         return 1;
     find_cards(&book, book_bytes, book_length);

@@ -34,8 +34,8 @@ static size_t fold(char **names, int count)
     for (at = 1; at < count; at++) {
         if (show_read(names[at], next, sizeof next, &next_length) != 0)
             return 0;
-        word = zuvaropy_lcs(common[(at - 1) % 2], length, next, next_length, work, sizeof work, common[at % 2],
-                            sizeof common[at % 2]);
+        word = zuvaropy_lcs(ZUVAROPY_NO_DEFINITIONS, common[(at - 1) % 2], length, next, next_length, work,
+                            sizeof work, common[at % 2], sizeof common[at % 2]);
         if (zuvaropy_outcome(word) == ZUVAROPY_OUTCOME_REFUSAL && count > 2)
             printf("stopped at %s: ", names[at]);
         if (show_refused(word))

@@ -21,7 +21,7 @@ static int normalize_file(const char *name)
 
     if (show_read(name, picture, sizeof picture, &length) != 0)
         return 1;
-    word = zuvaropy_normalize(picture, length, table, sizeof table);
+    word = zuvaropy_normalize(ZUVAROPY_NO_DEFINITIONS, picture, length, table, sizeof table);
     printf("%s: ", name);
     if (show_refused(word))
         return 1;

@@ -21,6 +21,16 @@ int show_read(const char *name, uint8_t *bytes, size_t room, size_t *length)
     return 0;
 }
 
+int show_read_definitions(const char *name, uint8_t *bytes, size_t room, size_t *length)
+{
+    struct zuvaropy_writer writer = zuvaropy_write_to(bytes, room);
+
+    if (name != NULL)
+        return show_read(name, bytes, room, length);
+    *length = zuvaropy_write_end(&writer);
+    return 0;
+}
+
 int show_refused(uint64_t word)
 {
     const unsigned int question = zuvaropy_question(word), input = zuvaropy_input(word);
@@ -30,6 +40,8 @@ int show_refused(uint64_t word)
     printf("refused %u, %s", question, zuvaropy_input_text(input));
     if (input == ZUVAROPY_INPUT_CARD)
         printf(" %u", zuvaropy_card(word));
+    if (input == ZUVAROPY_INPUT_DEFINITION)
+        printf(" %u", zuvaropy_definition(word));
     if (zuvaropy_has_place(word))
         printf(", row %u, byte %u", zuvaropy_row(word), zuvaropy_byte(word));
     printf(": %s\n", zuvaropy_question_text(question));

@@ -5,14 +5,18 @@
 
 #include "zuvaropy_parts.h"
 
-/* One byte more than the longest picture, evidence or book of pictures, so that a longer file is seen to be longer. A
- * longer book is refused as cut off (24), where the whole of it could be refused for one of its cards. */
+/* One byte more than the longest picture, evidence or book of pictures, of either kind, so that a longer file is seen
+ * to be longer. A longer book is refused as cut off (24, 25), where the whole of it could be refused for a picture. */
 #define SHOW_PICTURE_ROOM (ZUVAROPY_MAX_PICTURE_BYTES + 1)
 #define SHOW_EVIDENCE_ROOM (ZUVAROPY_MAX_EVIDENCE_BYTES + 1)
 #define SHOW_BOOK_ROOM (ZUVAROPY_MAX_BOOK_BYTES + 1)
+#define SHOW_DEFINITIONS_ROOM (ZUVAROPY_MAX_DEFINITIONS_BYTES + 1)
 
 /* Reads the first `room` bytes of a file. 0, or -1 with a message if it cannot be read. */
 int show_read(const char *name, uint8_t *bytes, size_t room, size_t *length);
+
+/* The same for a definitions book, which is one without definitions where the name is NULL. */
+int show_read_definitions(const char *name, uint8_t *bytes, size_t room, size_t *length);
 
 /* If the word is a refusal: nonzero, and a line that says which question refused which input and where, such as
  * "refused 11, card 4, row 3, byte 72: is the parent below the row's number?". */

@@ -71,7 +71,8 @@ int main(int argc, char **argv)
     if (show_read(argv[1], the_case, sizeof the_case, &case_length) != 0 ||
         show_read(argv[2], card, sizeof card, &card_length) != 0)
         return 1;
-    word = zuvaropy_subsumes(the_case, case_length, card, card_length, work, sizeof work, evidence, sizeof evidence);
+    word = zuvaropy_subsumes(ZUVAROPY_NO_DEFINITIONS, the_case, case_length, card, card_length, work, sizeof work,
+                             evidence, sizeof evidence);
     refused = show_refused(word);
     if (!refused)
         print_answer(word);

@@ -28,7 +28,8 @@ int main(int argc, char **argv)
         show_read(argv[2], card, sizeof card, &card_length) != 0 ||
         show_read(argv[3], evidence, sizeof evidence, &evidence_length) != 0)
         return 1;
-    word = zuvaropy_verify(the_case, case_length, card, card_length, evidence, evidence_length, work, sizeof work);
+    word = zuvaropy_verify(ZUVAROPY_NO_DEFINITIONS, the_case, case_length, card, card_length, evidence,
+                           evidence_length, work, sizeof work);
     if (show_refused(word))
         return 1;
     printf(zuvaropy_outcome(word) == ZUVAROPY_OUTCOME_YES ? "map taken\n" : "refutation taken\n");

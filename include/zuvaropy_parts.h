@@ -1,11 +1,12 @@
 /*
  * zuvaropy_parts.h - building and reading the files of Zuvaropy
  *
- * zuvaropy.h lays down the bytes of pictures, evidence and books; the inline
- * functions here write and read them. The library does not need them, and they are
- * not proved: they are tested.
+ * zuvaropy.h lays down the bytes of pictures, evidence and books of both kinds; the
+ * inline functions here write and read them. The library does not need them, and they
+ * are not proved: they are tested.
  *
- * A picture is built row by row, and a book card by card in the same way:
+ * A picture is built row by row, and a book card by card, or a definitions book
+ * definition by definition, in the same way:
  *
  *   static uint8_t picture[ZUVAROPY_MAX_PICTURE_BYTES];
  *   struct zuvaropy_writer writer = zuvaropy_write_to(picture, sizeof picture);
@@ -30,16 +31,18 @@
  *     what zuvaropy_refutation_individual gave, or NULL.
  *   - What is not there is NULL or 0: a field that is cut off or of another kind, as
  *     the end field is; a part of a row or an individual that is NULL; a name that
- *     is not below ZUVAROPY_NAMES; what is above a limit of zuvaropy.h. Counts go up
- *     to the first that is not there, and so must a program: a row or an individual
- *     is looked for at its place alone. Where more bytes are given than the file has,
+ *     is not below ZUVAROPY_NAMES, where it is asked for (the name of a definition is
+ *     given as it stands); what is above a limit of zuvaropy.h. Counts go up to the
+ *     first that is not there, and so must a program: a row or an individual is
+ *     looked for at its place alone. Where more bytes are given than the file has,
  *     one after its end may be what an earlier call left there.
  *   - A writer fails if it cannot write what it is told to: for want of room, at a
- *     row after ZUVAROPY_MAX_ROWS or a card after ZUVAROPY_MAX_CARDS, at a card
- *     without bytes, as is given for a picture that failed, at a card or a number
- *     that is too large for its field, at a name that is not below ZUVAROPY_NAMES,
- *     at names of a row that is not there, at a row in a book or a card in a
- *     picture, and at anything after the end. Then, and from then on, nothing is
+ *     row after ZUVAROPY_MAX_ROWS, a card after ZUVAROPY_MAX_CARDS or a definition
+ *     after ZUVAROPY_MAX_DEFINITIONS, at a card or a definition whose picture has no
+ *     bytes, as is given for one that failed, at a picture or a number that is too
+ *     large for its field, at a name that is not below ZUVAROPY_NAMES, at names of a
+ *     row that is not there, at a row, a card or a definition in a file of another
+ *     kind, and at anything after the end. Then, and from then on, nothing is
  *     written, and zuvaropy_write_end gives 0: it is enough to look there.
  *   - Otherwise what is written is not judged. The calls do that, and say what they
  *     refuse and where.
@@ -126,11 +129,11 @@ struct zuvaropy_writer {
     uint8_t *bytes;
     size_t room;        /* how many there are */
     size_t length;      /* how many are written */
-    unsigned int count; /* rows or cards that are written */
+    unsigned int count; /* rows, cards or definitions that are written */
     int failed;
 };
 
-/* A writer of a new picture or book, to a buffer of so many bytes. */
+/* A writer of a new picture or book of either kind, to a buffer of so many bytes. */
 static inline struct zuvaropy_writer zuvaropy_write_to(uint8_t *bytes, size_t room)
 {
     struct zuvaropy_writer writer;
@@ -232,20 +235,43 @@ static inline void zuvaropy_write_impossible(struct zuvaropy_writer *writer, uns
         zuvaropy_parts_put_number(value + ZUVAROPY_IMPOSSIBLE_AT, ZUVAROPY_IMPOSSIBLE_BYTES, 1);
 }
 
+/* Adds a field with a picture from so many bytes of its value on. Where the value begins, as above. */
+static inline uint8_t *zuvaropy_parts_write_picture(struct zuvaropy_writer *writer, unsigned int tag, size_t before,
+                                                    const uint8_t *picture, size_t length, unsigned int limit)
+{
+    uint8_t *value;
+
+    if (!picture || length == 0 || !zuvaropy_parts_number_fits(length, ZUVAROPY_LENGTH_BYTES))
+        writer->failed = 1;
+    value = zuvaropy_parts_write_item(writer, tag, before + length, limit);
+    if (value)
+        memcpy(value + before, picture, length);
+    return value;
+}
+
 /* Adds a card: the bytes of a picture, from another buffer. Its number, or ZUVAROPY_MAX_CARDS if the writer fails or
  * has failed. */
 static inline unsigned int zuvaropy_write_card(struct zuvaropy_writer *writer, const uint8_t *picture, size_t length)
 {
+    if (!zuvaropy_parts_write_picture(writer, ZUVAROPY_TAG_CARD, 0, picture, length, ZUVAROPY_MAX_CARDS))
+        return ZUVAROPY_MAX_CARDS;
+    return writer->count - 1;
+}
+
+/* Adds a definition: a name, and the bytes of its picture, from another buffer. Its number, or
+ * ZUVAROPY_MAX_DEFINITIONS if the writer fails or has failed. */
+static inline unsigned int zuvaropy_write_definition(struct zuvaropy_writer *writer, unsigned int name,
+                                                     const uint8_t *picture, size_t length)
+{
     uint8_t *value;
 
-    if (!picture || length == 0) {
+    if (name >= ZUVAROPY_NAMES)
         writer->failed = 1;
-        return ZUVAROPY_MAX_CARDS;
-    }
-    value = zuvaropy_parts_write_item(writer, ZUVAROPY_TAG_CARD, length, ZUVAROPY_MAX_CARDS);
+    value = zuvaropy_parts_write_picture(writer, ZUVAROPY_TAG_DEFINITION, ZUVAROPY_DEFINITION_PICTURE_AT, picture,
+                                         length, ZUVAROPY_MAX_DEFINITIONS);
     if (!value)
-        return ZUVAROPY_MAX_CARDS;
-    memcpy(value, picture, length);
+        return ZUVAROPY_MAX_DEFINITIONS;
+    zuvaropy_parts_put_number(value + ZUVAROPY_DEFINED_AT, ZUVAROPY_DEFINED_BYTES, name);
     return writer->count - 1;
 }
 
@@ -408,27 +434,35 @@ static inline int zuvaropy_individual_has(const uint8_t *individual, unsigned in
 }
 
 /*
- * Books
+ * Books of both kinds
  */
+
+/* The value of a field by its number, where all have this tag and there are at most so many, and its length; or NULL
+ * and 0. */
+static inline const uint8_t *zuvaropy_parts_book_value(const uint8_t *book, size_t length, unsigned int tag,
+                                                       unsigned int limit, unsigned int number, size_t *value_length)
+{
+    size_t field = zuvaropy_parts_field_bytes(book, length, tag);
+    unsigned int before;
+
+    for (before = 0; before < number && field > 0; before++) {
+        book += field;
+        length -= field;
+        field = zuvaropy_parts_field_bytes(book, length, tag);
+    }
+    *value_length = 0;
+    if (field == 0 || number >= limit)
+        return ZUVAROPY_NONE;
+    *value_length = field - ZUVAROPY_HEAD_BYTES;
+    return book + ZUVAROPY_HEAD_BYTES;
+}
 
 /* The bytes of a card, which are those of a picture, and their number, for which there has to be a place; or NULL and
  * 0. */
 static inline const uint8_t *zuvaropy_book_card(const uint8_t *book, size_t length, unsigned int card,
                                                 size_t *card_length)
 {
-    size_t field = zuvaropy_parts_field_bytes(book, length, ZUVAROPY_TAG_CARD);
-    unsigned int number;
-
-    for (number = 0; number < card && field > 0; number++) {
-        book += field;
-        length -= field;
-        field = zuvaropy_parts_field_bytes(book, length, ZUVAROPY_TAG_CARD);
-    }
-    *card_length = 0;
-    if (field == 0 || card >= ZUVAROPY_MAX_CARDS)
-        return ZUVAROPY_NONE;
-    *card_length = field - ZUVAROPY_HEAD_BYTES;
-    return book + ZUVAROPY_HEAD_BYTES;
+    return zuvaropy_parts_book_value(book, length, ZUVAROPY_TAG_CARD, ZUVAROPY_MAX_CARDS, card, card_length);
 }
 
 /* The number of cards. */
@@ -438,6 +472,34 @@ static inline unsigned int zuvaropy_book_cards(const uint8_t *book, size_t lengt
     size_t card_length;
 
     while (zuvaropy_book_card(book, length, count, &card_length))
+        count++;
+    return count;
+}
+
+/* The bytes of the picture of a definition, with the name that it defines and the number of the bytes, for which there
+ * have to be places; or NULL, 0 and 0. The name is not judged: it may be any byte, and question 25 refuses one that is
+ * not below ZUVAROPY_NAMES. */
+static inline const uint8_t *zuvaropy_book_definition(const uint8_t *book, size_t length, unsigned int definition,
+                                                      unsigned int *name, size_t *picture_length)
+{
+    const uint8_t *value = zuvaropy_parts_book_value(book, length, ZUVAROPY_TAG_DEFINITION, ZUVAROPY_MAX_DEFINITIONS,
+                                                     definition, picture_length);
+
+    *name = 0;
+    if (*picture_length < ZUVAROPY_DEFINITION_PICTURE_AT) /* there is no name */
+        return ZUVAROPY_NONE;
+    *name = zuvaropy_parts_get_part(value, ZUVAROPY_DEFINED_AT, ZUVAROPY_DEFINED_BYTES);
+    *picture_length -= ZUVAROPY_DEFINITION_PICTURE_AT;
+    return value + ZUVAROPY_DEFINITION_PICTURE_AT;
+}
+
+/* The number of definitions. */
+static inline unsigned int zuvaropy_book_definitions(const uint8_t *book, size_t length)
+{
+    unsigned int count = 0, name;
+    size_t picture_length;
+
+    while (zuvaropy_book_definition(book, length, count, &name, &picture_length))
         count++;
     return count;
 }

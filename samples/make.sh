@@ -1,5 +1,6 @@
 #!/bin/sh
-# Writes the sample pictures, evidence and books: sh samples/make.sh [FOLDER], by default beside this script.
+# Writes the sample pictures, evidence, books and definitions books: sh samples/make.sh [FOLDER], by default beside this
+# script.
 set -eu
 folder=${1:-$(dirname "$0")}
 mkdir -p "$folder"
@@ -11,12 +12,12 @@ bytes() {
     done
 }
 
-# row PARENT KIND ROLE IMPOSSIBLE WANTED EXCLUDED: names are added up by weight; 7 is the highest.
+# row PARENT KIND ROLE IMPOSSIBLE WANTED EXCLUDED: names are added up by weight; 15 is the highest.
 row() {
     bytes 16 0 21
     bytes 0 "$1" "$2" "$3" "$4"
-    bytes 0 0 0 0 0 0 0 "$5"
-    bytes 0 0 0 0 0 0 0 "$6"
+    bytes 0 0 0 0 0 0 $(($5 / 256)) $(($5 % 256))
+    bytes 0 0 0 0 0 0 $(($6 / 256)) $(($6 % 256))
 }
 
 end() {
@@ -38,10 +39,25 @@ individual() {
     bytes 0 0 0 0 0 0 0 "$3"
 }
 
+# length ROWS..: the bytes of a picture of the rows that the command writes.
+length() {
+    { "$@"; end; } | wc -c
+}
+
 # card ROWS..: a card, which is a picture of the rows that the command writes.
 card() {
-    length=$({ "$@"; end; } | wc -c)
+    length=$(length "$@")
     bytes 81 $((length / 256)) $((length % 256))
+    "$@"
+    end
+}
+
+# definition NAME ROWS..: a definition, which is the number of a name and a picture.
+definition() {
+    name=$1
+    shift
+    length=$(($(length "$@") + 1))
+    bytes 97 $((length / 256)) $((length % 256)) "$name"
     "$@"
     end
 }
@@ -108,14 +124,19 @@ early() {
     row 0 $some $child 0 $woman 0
 }
 
-# A chain of so many edges.
+# chain EDGES: so many edges, each to a doctor.
 chain() {
+    chain_to "$1" $doctor
+}
+# chain_to EDGES NAMES: the last row has these names.
+chain_to() {
     top
     parent=0
-    while [ "$parent" -lt "$1" ]; do
+    while [ "$parent" -lt $(($1 - 1)) ]; do
         row "$parent" $some $child 0 $doctor 0
         parent=$((parent + 1))
     done
+    row "$parent" $some $child 0 "$2" 0
 }
 
 # 15 children, and all children have 15 pets: merged, these stand below each child.
@@ -156,6 +177,46 @@ apart() {
     individual 0 $r $five
 }
 
+# Vehicles. A belt side fault is defined: a belt fault, and some firing loop that is open. One card is of a belt side
+# fault with a corroded connector, the other of one with a clip that is not seated. The vehicle has the former, spelled
+# out.
+loop=1 clip=2 connector=3                                            # roles
+belt_fault=1 firing=2 open=4 corroded=8 seated=16 belt_side_fault=32  # names 0 to 5, by weight
+side_fault() {
+    row 0 $root 0 0 $belt_fault 0
+    row 0 $some $loop 0 $((firing + open)) 0
+}
+bad_connector() {
+    row 0 $root 0 0 $belt_side_fault 0
+    row 0 $some $connector 0 $corroded 0
+}
+loose_clip() {
+    row 0 $root 0 0 $belt_side_fault 0
+    row 0 $some $clip 0 0 $seated
+}
+vehicle() {
+    row 0 $root 0 0 $belt_fault 0
+    row 0 $some $connector 0 $corroded 0
+    row 0 $some $loop 0 $((firing + open)) 0
+}
+
+# three NAMES: three parts with these names.
+three() {
+    top
+    row 0 $some $loop 0 "$1" 0
+    row 0 $some $clip 0 "$1" 0
+    row 0 $some $connector 0 "$1" 0
+}
+
+# Each part has three parts, down to the fifth: unfolded 364 rows. Names 8 to 12.
+threefold() {
+    definition 8 three 512
+    definition 9 three 1024
+    definition 10 three 2048
+    definition 11 three 4096
+    definition 12 three 0
+}
+
 { family; end; } >"$folder/family.pic"
 { friend; end; } >"$folder/friend.pic"
 { top; end; } >"$folder/top.pic"                     # what everything is an instance of
@@ -165,6 +226,7 @@ apart() {
 { spread; end; } >"$folder/spread.pic"               # one merged row more than allowed
 { both; end; } >"$folder/both.pic"
 { each; end; } >"$folder/each.pic"
+{ vehicle; end; } >"$folder/side.pic"
 
 { map 0; end; } >"$folder/top.map"            # top subsumes everything
 { map 0 1 1; end; } >"$folder/both-each.map"  # each subsumes both: both names are at one row
@@ -187,3 +249,18 @@ cards doctor >"$folder/open.book"                                   # without it
 
 # Cards 0 and 2 subsume each other too; cards 1 and 3 say less.
 { card doctors; card healthy; card doctors_again; card top; end; } >"$folder/reworded.book"
+{ card bad_connector; card loose_clip; end; } >"$folder/side.book"
+
+# side: the definition of a belt side fault, definition 0 of these books.
+side() {
+    definition 5 side_fault
+}
+
+{ side; end; } >"$folder/side.defs"
+side >"$folder/open.defs"                                            # without its end field
+{ side; definition 6 early; end; } >"$folder/early.defs"             # row 3 of definition 1 comes before its parent
+{ side; definition 5 loose_clip; end; } >"$folder/twice.defs"        # name 5 twice
+{ side; definition 4 top; end; } >"$folder/seated.defs"              # card 1 of side.book excludes name 4
+{ side; definition 0 loose_clip; end; } >"$folder/ring.defs"         # name 5 wants 0, which wants 5
+{ threefold; end; } >"$folder/threefold.defs"                        # more rows than allowed
+{ definition 8 chain_to 7 512; definition 9 chain 6; end; } >"$folder/deep.defs"  # one edge more than allowed
