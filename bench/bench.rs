@@ -38,7 +38,7 @@ use std::env;
 use std::process::exit;
 
 use calls::{Call, Input, Side};
-use lines::{Growth, Line, Sort, GROWTH, LINES};
+use lines::{Growth, Line, Sort, DEFINED_LINES, GROWTH, LINES};
 use race::Race;
 use reference::outcome;
 use report::{Size, Timed};
@@ -106,7 +106,8 @@ fn sizes((call, name, _, sizes, make): &Growth) -> Vec<Race> {
 }
 
 fn main() {
-    let lines = LINES.iter().flat_map(|(call, lines)| lines.iter().map(move |line| (call, line)));
+    let all = LINES.iter().chain(&DEFINED_LINES);
+    let lines = all.flat_map(|(call, lines)| lines.iter().map(move |line| (call, line)));
     if env::args().nth(1).as_deref() == Some("count") {
         let counted = lines.filter(|(_, line)| line.0 != Sort::Other);
         return counted.for_each(|(call, line)| count::print(call, line, &draw(call, line)));

@@ -1,6 +1,6 @@
 //! The six calls, each with its sides: the library, the same call in Rust and, where there is one, in plain C.
 
-use super::reference::{outcome, value, MAX_EVIDENCE_BYTES, NO, WORK_BYTES};
+use super::reference::{outcome, value, Under, MAX_EVIDENCE_BYTES, NO, NOTHING, WORK_BYTES};
 use super::{library, plain, reference};
 
 /// What a call reads; the parts that it does not ask for are empty.
@@ -11,6 +11,17 @@ pub struct Input {
     /// The second picture or the book.
     pub second: Vec<u8>,
     pub evidence: Vec<u8>,
+    /// Empty where there are none.
+    pub definitions: Vec<u8>,
+}
+
+impl Input {
+    fn under(&self) -> Under<'_> {
+        match self.definitions[..] {
+            [] => NOTHING,
+            _ => Under { definitions: &self.definitions },
+        }
+    }
 }
 
 /// What a call writes.
@@ -61,7 +72,7 @@ fn same(_: &Input, one: &Answer, other: &Answer) -> bool {
 fn same_verdict(input: &Input, one: &Answer, other: &Answer) -> bool {
     let taken = |answer: &Answer| {
         let evidence = &answer.buffers.result[..value(answer.word)];
-        outcome(reference::verify(&input.first, &input.second, evidence, &mut vec![0; WORK_BYTES])) == NO
+        outcome(reference::verify(input.under(), &input.first, &input.second, evidence, &mut vec![0; WORK_BYTES])) == NO
     };
     let refuted = |answer: &Answer| outcome(answer.word) == NO && taken(answer);
     one == other || refuted(one) && refuted(other) && one.buffers.work == other.buffers.work
@@ -77,40 +88,57 @@ pub const VALIDATE: Call = Call {
 
 pub const NORMALIZE: Call = Call {
     name: "normalize",
-    library: |input, buffers| library::normalize(&input.first, &mut buffers.result),
-    rust: |input, buffers| reference::normalize(&input.first, &mut buffers.result),
+    library: |input, buffers| library::normalize(input.under(), &input.first, &mut buffers.result),
+    rust: |input, buffers| reference::normalize(input.under(), &input.first, &mut buffers.result),
     plain: Some(|input, buffers| plain::normalize(&input.first, &mut buffers.result)),
     agree: same,
 };
 
 pub const SUBSUMES: Call = Call {
     name: "subsumes",
-    library: |input, buffers| library::subsumes(&input.first, &input.second, &mut buffers.work, &mut buffers.result),
-    rust: |input, buffers| reference::subsumes(&input.first, &input.second, &mut buffers.work, &mut buffers.result),
+    library: |input, buffers| {
+        library::subsumes(input.under(), &input.first, &input.second, &mut buffers.work, &mut buffers.result)
+    },
+    rust: |input, buffers| {
+        reference::subsumes(input.under(), &input.first, &input.second, &mut buffers.work, &mut buffers.result)
+    },
     plain: None,
     agree: same_verdict,
 };
 
 pub const VERIFY: Call = Call {
     name: "verify",
-    library: |input, buffers| library::verify(&input.first, &input.second, &input.evidence, &mut buffers.work),
-    rust: |input, buffers| reference::verify(&input.first, &input.second, &input.evidence, &mut buffers.work),
+    library: |input, buffers| {
+        library::verify(input.under(), &input.first, &input.second, &input.evidence, &mut buffers.work)
+    },
+    rust: |input, buffers| {
+        reference::verify(input.under(), &input.first, &input.second, &input.evidence, &mut buffers.work)
+    },
     plain: Some(|input, buffers| plain::verify(&input.first, &input.second, &input.evidence, &mut buffers.work)),
     agree: same,
 };
 
 pub const LCS: Call = Call {
     name: "lcs",
-    library: |input, buffers| library::lcs(&input.first, &input.second, &mut buffers.work, &mut buffers.result),
-    rust: |input, buffers| reference::lcs(&input.first, &input.second, &mut buffers.work, &mut buffers.result),
+    library: |input, buffers| {
+        library::lcs(input.under(), &input.first, &input.second, &mut buffers.work, &mut buffers.result)
+    },
+    rust: |input, buffers| {
+        reference::lcs(input.under(), &input.first, &input.second, &mut buffers.work, &mut buffers.result)
+    },
     plain: None,
     agree: same,
 };
 
 pub const MOST_SPECIFIC: Call = Call {
     name: "most_specific",
-    library: |input, buffers| library::most_specific(&input.first, &input.second, &mut buffers.work),
-    rust: |input, buffers| reference::most_specific(&input.first, &input.second, &mut buffers.work),
+    library: |input, buffers| library::most_specific(input.under(), &input.first, &input.second, &mut buffers.work),
+    rust: |input, buffers| reference::most_specific(input.under(), &input.first, &input.second, &mut buffers.work),
     plain: None,
     agree: same,
 };
+
+/// A call under definitions, which the plain C has not.
+pub const fn under(call: Call) -> Call {
+    Call { plain: None, ..call }
+}

@@ -1,15 +1,15 @@
 //! What is timed: the lines of the table, and those of the growth.
 
-use super::calls::{Call, Input, LCS, MOST_SPECIFIC, NORMALIZE, SUBSUMES, VALIDATE, VERIFY};
+use super::calls::{under, Call, Input, LCS, MOST_SPECIFIC, NORMALIZE, SUBSUMES, VALIDATE, VERIFY};
 use super::parts::{card, regathered, Pair};
 use super::reference::most_specific::MAX_CARDS;
 use super::reference::table::MAX_ROWS;
-use super::reference::{self, value, MAX_EVIDENCE_BYTES, MAX_INDIVIDUALS, NO, WORK_BYTES, YES};
+use super::reference::{self, value, MAX_EVIDENCE_BYTES, MAX_INDIVIDUALS, NO, NOTHING, WORK_BYTES, YES};
 use super::rng::Rng;
 use super::trees::{encode, root, Tree};
 use super::{book, lcs_inputs, most_specific_inputs, picture_inputs, subsumes_inputs, verify_inputs};
 
-use Sort::{Full, Other, Typical, Worst};
+use Sort::{Defined, Full, Other, Typical, Worst};
 
 /// The outcome of a refusal.
 const REFUSED: u64 = 0;
@@ -21,6 +21,8 @@ pub enum Sort {
     Full,
     /// The slowest that is known.
     Worst,
+    /// Under definitions.
+    Defined,
     Other,
 }
 
@@ -30,6 +32,7 @@ impl Sort {
             Typical => "typical",
             Full => "full",
             Worst => "worst",
+            Defined => "defined",
             Other => "other",
         }
     }
@@ -64,7 +67,7 @@ fn two((first, second): Pair) -> Input {
 fn evident(pair: Pair) -> Input {
     let input = two(pair);
     let mut evidence = vec![0; MAX_EVIDENCE_BYTES];
-    let word = reference::subsumes(&input.first, &input.second, &mut vec![0; WORK_BYTES], &mut evidence);
+    let word = reference::subsumes(NOTHING, &input.first, &input.second, &mut vec![0; WORK_BYTES], &mut evidence);
     evidence.truncate(value(word));
     Input { evidence, ..input }
 }
@@ -73,6 +76,37 @@ fn case((case, cards): most_specific_inputs::Book) -> Input {
     let cards: Vec<Vec<u8>> = cards.iter().map(|card| encode(card)).collect();
     Input { first: encode(&case), second: book::encode(&cards), ..Input::default() }
 }
+
+/// Names that cards want: each is defined as a card of a few rows, the last one by the first besides.
+const DEFINED: [u8; 4] = [28, 29, 30, 31];
+
+/// The input under definitions of some of its names.
+fn defined(input: Input, rng: &mut Rng) -> Input {
+    let picture = |&name: &u8| {
+        let mut tree = card(4, 2, rng);
+        tree.iter_mut().for_each(|node| node.wanted &= (1 << DEFINED[0]) - 1);
+        tree[0].wanted |= if name == DEFINED[3] { 1 << DEFINED[0] } else { 1 };
+        (name, encode(&tree))
+    };
+    let pictures: Vec<(u8, Vec<u8>)> = DEFINED.iter().map(picture).collect();
+    Input { definitions: book::definitions(&pictures), ..input }
+}
+
+/// The calls under definitions, counted beside the others but for their means.
+pub static DEFINED_LINES: [(Call, &[Line]); 3] = [
+    (under(NORMALIZE), &[(Defined, "card, 4 definitions", YES, |rng| defined(one(card(20, 3, rng)), rng))]),
+    (
+        under(SUBSUMES),
+        &[
+            (Defined, "4 definitions, yes", YES, |rng| defined(two(subsumes_inputs::card_yes(20, 3, rng)), rng)),
+            (Defined, "4 definitions, no", NO, |rng| defined(two(subsumes_inputs::card_no(20, 3, rng)), rng)),
+        ],
+    ),
+    (
+        under(MOST_SPECIFIC),
+        &[(Defined, "4 definitions", YES, |rng| defined(case(most_specific_inputs::typical(rng)), rng))],
+    ),
+];
 
 pub static LINES: [(Call, &[Line]); 6] = [
     (

@@ -32,7 +32,7 @@ fn input(first: &Tree, second: &Tree, model: &[Individual]) -> Input {
         evidence.extend(individual.names.to_be_bytes());
     }
     evidence.extend(field::head_bytes(TAG_END, 0));
-    Input { first: encode(first), second: encode(second), evidence }
+    Input { first: encode(first), second: encode(second), evidence, ..Input::default() }
 }
 
 /// What a number hangs from in a brush: a chain of so many edges, and all the rest below its end.

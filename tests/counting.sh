@@ -7,7 +7,7 @@
 warnings='-Wall -Wextra -Wpedantic -Werror'
 c="${CC:-gcc} -std=c99 -O2 -g $warnings -Iinclude -Itests"
 calls='validate normalize subsumes lcs verify most_specific'
-sample_files='samples/*.pic samples/*.map samples/*.ref samples/*.book'
+sample_files='samples/*.pic samples/*.map samples/*.ref samples/*.book samples/*.defs'
 . tests/count.sh
 
 # one NAME COMMAND..: a check that passes if COMMAND does.
@@ -110,8 +110,9 @@ objects() {
     shift
     rm -f "$into"/*.o "$into"/fuzz/*.o
     mkdir -p "$into/fuzz"
-    for source in check area picture rows random pages reference normal_reference normalize evidence verify_reference \
-        witness verify subsumes lcs_reference lcs book most_specific_reference most_specific second_unit \
+    for source in check calls area picture rows random pages reference definitions_reference normal_reference normalize \
+        evidence verify_reference witness verify subsumes lcs_reference lcs book most_specific_reference \
+        most_specific under second_unit \
         fuzz/fuzz fuzz/feed fuzz/feed_rows fuzz/lent fuzz/pair; do
         "$@" -c "tests/$source.c" -o "$into/$source.o"
     done

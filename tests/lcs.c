@@ -1,6 +1,7 @@
 #include "lcs.h"
 
 #include "area.h"
+#include "calls.h"
 #include "check.h"
 #include "lcs_reference.h"
 #include "normalize.h"
@@ -20,8 +21,8 @@ static uint64_t lcs_areas(struct pair *pair, unsigned long at)
 
     memcpy(first.bytes, pair->first.bytes, pair->first.length);
     memcpy(second.bytes, pair->second.bytes, pair->second.length);
-    word = zuvaropy_lcs(pair->first.bytes, pair->first.length, pair->second.bytes, pair->second.length,
-                        area_lent(&work), work.room, area_lent(&result), result.room);
+    word = call_lcs(pair->first.bytes, pair->first.length, pair->second.bytes, pair->second.length,
+                    area_lent(&work), work.room, area_lent(&result), result.room);
     CHECK(memcmp(first.bytes, pair->first.bytes, pair->first.length) == 0);
     CHECK(memcmp(second.bytes, pair->second.bytes, pair->second.length) == 0);
     wanted = reference_lcs(pair->first.bytes, pair->first.length, pair->second.bytes, pair->second.length,
@@ -33,7 +34,7 @@ static uint64_t lcs_areas(struct pair *pair, unsigned long at)
     if (word == wanted && zuvaropy_outcome(word) == ZUVAROPY_OUTCOME_YES) {
         pair->common.length = zuvaropy_value(word);
         memcpy(pair->common.bytes, area_lent(&result), pair->common.length);
-        CHECK_WORD(zuvaropy_validate(pair->common.bytes, pair->common.length), word_rows(reference_lcs_kept()), at);
+        CHECK_WORD(call_validate(pair->common.bytes, pair->common.length), word_rows(reference_lcs_kept()), at);
     }
     return word;
 }
@@ -71,15 +72,15 @@ unsigned int lcs_subsumes(const struct picture *first, const struct picture *sec
 {
     static uint8_t space[ZUVAROPY_WORK_BYTES], evidence[ZUVAROPY_MAX_EVIDENCE_BYTES];
 
-    return zuvaropy_outcome(zuvaropy_subsumes(first->bytes, first->length, second->bytes, second->length, space,
-                                              sizeof space, evidence, sizeof evidence));
+    return zuvaropy_outcome(call_subsumes(first->bytes, first->length, second->bytes, second->length, space,
+                                          sizeof space, evidence, sizeof evidence));
 }
 
 /* Has the picture a normal table, so that it can be compared? */
 static int is_normalized(const struct picture *p)
 {
     static uint8_t table[ZUVAROPY_MAX_PICTURE_BYTES];
-    const uint64_t word = zuvaropy_normalize(p->bytes, p->length, table, sizeof table);
+    const uint64_t word = call_normalize(p->bytes, p->length, table, sizeof table);
 
     CHECK(zuvaropy_outcome(word) == ZUVAROPY_OUTCOME_YES || word == word_refusal(ZUVAROPY_QUESTION_MERGED, 0));
     return zuvaropy_outcome(word) == ZUVAROPY_OUTCOME_YES;

@@ -128,8 +128,8 @@ refuses() {
 example() {
     sed -n '/^\.EX$/,/^\.EE$/p' "$page" | sed '1d;$d;s/\\e/\\/g' >"$room/example.c"
     $c "$room/example.c" "$archive" -o "$room/example" && "$room/example" <samples/each.pic | cmp - samples/each.pic &&
-        refuses cut.pic 'refused 6, row 5, byte 120: is the whole value there?' &&
-        refuses spread.pic 'refused 14: has the merged table at most 256 rows?'
+        refuses cut.pic 'refused 6, first picture, row 5, byte 120: is the whole value there?' &&
+        refuses spread.pic 'refused 14, first picture: has the merged table at most 256 rows?'
 }
 
 # The tables of zuvaropy(5): of each part its section, name, offset, bytes and, where it is always the same, its number;
@@ -154,7 +154,7 @@ bytes() {
 # The library takes these files, and says of them what the page says.
 taken() {
     set --
-    for section in 'First picture' 'Second picture' Map Refutation Book; do
+    for section in 'First picture' 'Second picture' Map Refutation Book 'Definitions book' 'Defined name'; do
         bytes "$section" >"$room/$section" || return
         set -- "$@" "$room/$section"
     done
@@ -168,6 +168,9 @@ map written: 1
 refutation: no, 0
 cards: 1 1
 book: yes, 1
+unfolded: 1
+subsumes: 1
+subsumes: 2
 END
 }
 

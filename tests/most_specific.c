@@ -1,6 +1,7 @@
 #include "most_specific.h"
 
 #include "area.h"
+#include "calls.h"
 #include "check.h"
 #include "most_specific_reference.h"
 #include "normalize.h"
@@ -20,8 +21,8 @@ static void most_specific_area(const struct lookup *l, uint64_t wanted, unsigned
 
     memcpy(before.case_picture.bytes, l->case_picture.bytes, l->case_picture.length);
     memcpy(before.book.bytes, l->book.bytes, l->book.length);
-    word = zuvaropy_most_specific(l->case_picture.bytes, l->case_picture.length, l->book.bytes, l->book.length,
-                                  area_lent(&work), work.room);
+    word = call_most_specific(l->case_picture.bytes, l->case_picture.length, l->book.bytes, l->book.length,
+                              area_lent(&work), work.room);
     CHECK_WORD(word, wanted, at);
     CHECK(memcmp(before.case_picture.bytes, l->case_picture.bytes, l->case_picture.length) == 0);
     CHECK(memcmp(before.book.bytes, l->book.bytes, l->book.length) == 0);

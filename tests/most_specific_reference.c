@@ -1,5 +1,7 @@
 #include "most_specific_reference.h"
 
+#include "calls.h"
+#include "definitions_reference.h"
 #include "normal_reference.h"
 #include "reference.h"
 
@@ -89,6 +91,38 @@ static uint64_t ask_case(uint64_t (*ask)(const struct part *))
     return word != 0 ? word | of_input(ZUVAROPY_INPUT_FIRST, 0) : 0;
 }
 
+/* 25 to 30, and 2 to 13 of the definitions. */
+static uint64_t ask_definitions(void)
+{
+    struct given pictures[1 + ZUVAROPY_MAX_CARDS] = {{sought.bytes, sought.length, ZUVAROPY_INPUT_FIRST, 0}};
+    unsigned int n;
+
+    for (n = 0; n < card_count; n++) {
+        const struct given card = {cards[n].bytes, cards[n].length, ZUVAROPY_INPUT_CARD, n};
+
+        pictures[1 + n] = card;
+    }
+    return reference_definitions(calls_definitions(), pictures, 1 + card_count);
+}
+
+static void unfold(struct part *picture, struct picture *unfolded)
+{
+    reference_unfold(unfolded, picture->bytes, picture->length);
+    picture->bytes = unfolded->bytes;
+    picture->length = unfolded->length;
+}
+
+/* From here on the case and the cards are unfolded. */
+static void unfold_all(void)
+{
+    static struct picture unfolded[1 + ZUVAROPY_MAX_CARDS];
+    unsigned int n;
+
+    unfold(&sought, &unfolded[0]);
+    for (n = 0; n < card_count; n++)
+        unfold(&cards[n], &unfolded[1 + n]);
+}
+
 /* The word of the refusal; 0 if there is none. */
 static uint64_t ask_all(const struct book *book)
 {
@@ -99,18 +133,28 @@ static uint64_t ask_all(const struct book *book)
     if (word == 0)
         word = ask_cards(ask_reading);
     if (word == 0)
-        word = ask_case(ask_merged);
+        word = ask_definitions();
+    if (word != 0)
+        return word;
+    unfold_all();
+    word = ask_case(ask_merged);
     return word != 0 ? word : ask_cards(ask_merged);
 }
 
 /* The cards */
 
+/* Of unfolded pictures, so that no definitions are needed. */
 static bool subsumes(const struct part *general, const struct part *specific)
 {
     static uint8_t work[ZUVAROPY_WORK_BYTES], evidence[ZUVAROPY_MAX_EVIDENCE_BYTES];
+    const struct definitions under = calls_definitions();
+    uint64_t word;
 
-    return zuvaropy_outcome(zuvaropy_subsumes(specific->bytes, specific->length, general->bytes, general->length, work,
-                                              sizeof work, evidence, sizeof evidence)) == ZUVAROPY_OUTCOME_YES;
+    calls_under_none();
+    word = call_subsumes(specific->bytes, specific->length, general->bytes, general->length, work, sizeof work,
+                         evidence, sizeof evidence);
+    calls_under(under.bytes, under.length);
+    return zuvaropy_outcome(word) == ZUVAROPY_OUTCOME_YES;
 }
 
 static uint32_t bit(unsigned int card)

@@ -1,7 +1,8 @@
 /*
  * A second finder of the most specific cards to compare the library with. It
  * asks the questions as they stand, and finds the cards as they are defined,
- * from the verdicts of zuvaropy_subsumes on each pair of a book, both ways.
+ * from the verdicts of zuvaropy_subsumes on each pair of a book, both ways, after
+ * unfolding. The definitions are those that the calls are made under.
  */
 
 #ifndef MOST_SPECIFIC_REFERENCE_H

@@ -1,5 +1,6 @@
 #include "normal_reference.h"
 
+#include "definitions_reference.h"
 #include "reference.h"
 #include "rows.h"
 
@@ -234,4 +235,25 @@ void normal_reference(struct normal_reference *result, const uint8_t *file, size
         tidy(n);
     write_nodes(result);
     result->word = (uint64_t)ZUVAROPY_OUTCOME_YES << ZUVAROPY_OUTCOME_SHIFT | result->length;
+}
+
+void normal_reference_under(struct normal_reference *result, const uint8_t *file, size_t length)
+{
+    static struct picture unfolded;
+    uint64_t word;
+
+    if (reference_read(file, length).question != 0) {
+        normal_reference(result, file, length);
+        return;
+    }
+    word = reference_definitions_one(file, length);
+    if (word == 0) {
+        reference_unfold(&unfolded, file, length);
+        normal_reference(result, unfolded.bytes, unfolded.length);
+        return;
+    }
+    result->question = zuvaropy_question(word);
+    result->word = word;
+    result->merged = 0;
+    result->length = 0;
 }

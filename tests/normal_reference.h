@@ -17,6 +17,9 @@ struct normal_reference {
     uint8_t bytes[ZUVAROPY_MAX_PICTURE_BYTES];
 };
 
+/* Without definitions; and under those that the calls are made under, where the
+ * question may also be one of 25 to 30, and the word name a definition. */
 void normal_reference(struct normal_reference *result, const uint8_t *file, size_t length);
+void normal_reference_under(struct normal_reference *result, const uint8_t *file, size_t length);
 
 #endif

@@ -1,7 +1,10 @@
 #include "normalize.h"
 
 #include "area.h"
+#include "calls.h"
 #include "check.h"
+#include "normal_reference.h"
+#include "random.h"
 
 #include <assert.h>
 #include <string.h>
@@ -22,13 +25,13 @@ void normalize_check(const struct picture *p, size_t room, unsigned int fill, ui
     assert(room <= NORMALIZE_ROOM);
     memset(area, (int)fill, sizeof area);
     memcpy(before, p->bytes, sizeof before);
-    CHECK_WORD(zuvaropy_normalize(p->bytes, p->length, lent, room), wanted, at);
+    CHECK_WORD(call_normalize(p->bytes, p->length, lent, room), wanted, at);
     CHECK(memcmp(before, p->bytes, sizeof before) == 0);
     CHECK(area_is_filled(area, MARGIN, fill));
     CHECK(area_is_filled(lent + length, sizeof area - MARGIN - length, fill));
     if (length > 0) {
         CHECK(memcmp(lent, table, length) == 0);
-        CHECK_WORD(zuvaropy_validate(lent, length), word_rows((length - 3) / 24), at);
+        CHECK_WORD(call_validate(lent, length), word_rows((length - 3) / 24), at);
     }
 }
 
@@ -40,10 +43,19 @@ void normalize_check_fills(const struct picture *p, uint64_t wanted, const uint8
         normalize_check(p, ZUVAROPY_MAX_PICTURE_BYTES, normalize_fills[i], wanted, table, at);
 }
 
+uint64_t normalize_any(const struct picture *p, unsigned long at)
+{
+    static struct normal_reference wanted;
+
+    normal_reference_under(&wanted, p->bytes, p->length);
+    normalize_check(p, ZUVAROPY_MAX_PICTURE_BYTES, random_below(256), wanted.word, wanted.bytes, at);
+    return wanted.word;
+}
+
 void normalize_check_half(const uint8_t *half, const struct picture *p)
 {
     uint8_t wanted[ZUVAROPY_MAX_PICTURE_BYTES] = {0};
 
-    CHECK(zuvaropy_outcome(zuvaropy_normalize(p->bytes, p->length, wanted, sizeof wanted)) == ZUVAROPY_OUTCOME_YES);
+    CHECK(zuvaropy_outcome(call_normalize(p->bytes, p->length, wanted, sizeof wanted)) == ZUVAROPY_OUTCOME_YES);
     CHECK(memcmp(half, wanted, sizeof wanted) == 0);
 }

@@ -20,6 +20,10 @@ void normalize_check(const struct picture *p, size_t room, unsigned int fill, ui
 /* The same with several fills and a buffer that is just long enough. */
 void normalize_check_fills(const struct picture *p, uint64_t wanted, const uint8_t *table, unsigned long at);
 
+/* The same with one fill. The word and the table must be those of the reference
+ * under the definitions that the calls are made under. Returns the word. */
+uint64_t normalize_any(const struct picture *p, unsigned long at);
+
 /* Half of a work space must be the normal table as the call writes it, and zeros. */
 void normalize_check_half(const uint8_t *half, const struct picture *p);
 

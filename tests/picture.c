@@ -1,5 +1,6 @@
 #include "picture.h"
 
+#include "calls.h"
 #include "check.h"
 
 #include <assert.h>
@@ -218,7 +219,7 @@ uint64_t picture_validate(const struct picture *p)
     uint64_t word;
 
     memcpy(before, p->bytes, sizeof before);
-    word = zuvaropy_validate(p->bytes, p->length);
+    word = call_validate(p->bytes, p->length);
     CHECK(memcmp(before, p->bytes, sizeof before) == 0);
     return word;
 }

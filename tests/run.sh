@@ -85,7 +85,8 @@ if command -v "$cxx" >/dev/null; then
     cxx_headers "$cxx"
     program test_header_cxx "$cxx" -x c++ -std=c++11 $warnings -Iinclude tests/test_header.c tests/check.c \
         tests/second_unit.c -x none
-    program test_parts_cxx "$cxx" -x c++ -std=c++11 $warnings -Iinclude tests/test_parts.c tests/check.c -x none
+    program test_parts_cxx "$cxx" -x c++ -std=c++11 $warnings -Iinclude tests/test_parts.c tests/check.c \
+        tests/calls.c -x none
 else
     left_out "headers as C++" "no $cxx"
 fi
@@ -201,6 +202,12 @@ demo() {
     shown '^This is what `make demo` prints first' | diff samples/readout.stdout -
 }
 
+# It shows what examples/definitions.c prints, and one of the refusals.
+defined() {
+    shown 'each leads back to the other:$' >"$out/defined.log" && "$out/definitions" | diff "$out/defined.log" - &&
+        grep -qxF "$(grep '^side.pic ' README.md)" samples/definitions.stdout
+}
+
 one 'shared library' shared
 if command -v nm >/dev/null; then
     count symbols sh tests/symbols.sh "$archive" "$out/shared/libzuvaropy.so"
@@ -231,6 +238,8 @@ one 'example subsumes' example subsumes sh samples/subsumes.sh "$out/subsumes" "
 one 'example lcs' example lcs sh samples/lcs.sh "$out/lcs"
 one 'example most_specific' example most_specific sh samples/most_specific.sh "$out/most_specific"
 one 'example explain' example explain sh samples/explain.sh "$out/explain"
+one 'example definitions' example definitions sh samples/definitions.sh "$out/definitions" "$out/most_specific" \
+    "$out/explain"
 one 'readme, yes' readme 0 "$(shown '^Of .samples/both.pic. and .samples/each.pic.')" samples/both.pic samples/each.pic
 one 'readme, no' readme 0 "$(shown '^of .samples/each.pic. and .samples/both.pic.')" samples/each.pic samples/both.pic
 one 'readme, refused' readme 1 "$(shown '^and of .samples/top.pic. and .samples/cut.pic.')" samples/top.pic \
@@ -240,6 +249,7 @@ one 'readme, card refused' grep -qxF "family.pic early.book: $(grep '^refused 11
     samples/most_specific.stdout
 one 'readme, explained' explained
 one 'readme, demo' demo
+one 'readme, definitions' defined
 
 count verdict sh tests/verdict.sh "$verdict"
 one 'verdict, samples' verdict_samples

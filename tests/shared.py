@@ -12,7 +12,7 @@ import re
 import sys
 
 SAMPLES = pathlib.Path(__file__).parent.parent / "samples"
-INPUTS = ["buffer", "first picture", "second picture", "evidence", "book", "card"]
+INPUTS = ["buffer", "first picture", "second picture", "evidence", "book", "card", "definitions book", "definition"]
 KINDS = {"some": 1, "all": 2}
 PICTURE_BYTES, WORK_BYTES, EVIDENCE_BYTES = 6147, 12294, 46595  # the least that the calls take
 END = b"\x2f\0\0"
@@ -24,13 +24,13 @@ def answer(outcome, value=0):
 
 
 def refusal(line):
-    """The word of '[stopped at FILE: ]refused QUESTION, INPUT[ CARD][, row ROW, byte BYTE]: ..'; None of others."""
+    """The word of '[stopped at FILE: ]refused QUESTION, INPUT[ NUMBER][, row ROW, byte BYTE]: ..'; None of others."""
     found = re.match(r"(?:stopped at \S+: )?refused (\d+), ([a-z ]+?)(?: (\d+))?(?:, row (\d+), byte (\d+))?: ", line)
     if not found:
         return None
     question, which, *numbers = found.groups()
-    card, row, byte = (int(number or 0) for number in numbers)
-    return int(question) << 48 | INPUTS.index(which) << 40 | card << 32 | row << 16 | byte
+    number, row, byte = (int(number or 0) for number in numbers)
+    return int(question) << 48 | INPUTS.index(which) << 40 | number << 32 | row << 16 | byte
 
 
 def name_set(row, what):
@@ -68,9 +68,10 @@ class Library:
     def __init__(self, path):
         self.library = ctypes.CDLL(path)
 
-    def call(self, name, inputs, *rooms):
-        """The answer word, and the buffers that were lent for writing."""
+    def call(self, name, inputs, *rooms, definitions=END):
+        """The answer word, and the buffers that were lent for writing. All calls but one are made under definitions."""
         lent = [ctypes.create_string_buffer(room) for room in rooms]
+        inputs = inputs if name == "validate" else [definitions, *inputs]
         function = getattr(self.library, "zuvaropy_" + name)
         function.restype = ctypes.c_uint64
         function.argtypes = [ctypes.c_char_p, ctypes.c_size_t] * (len(inputs) + len(lent))
@@ -149,6 +150,21 @@ def check_most_specific(library, checks):
         checks.same(what, library.call("most_specific", files, WORK_BYTES), (wanted, bytes(WORK_BYTES)))
 
 
+def check_definitions(library, checks):
+    """The lookups in what the example with definitions prints."""
+    lookup = re.compile(r"(\S+\.pic) (\S+\.book)(?: (\S+\.defs))?: (.+)")
+    found = [lookup.fullmatch(line) for line in (SAMPLES / "definitions.stdout").read_text().splitlines()]
+    for what, (*names, definitions, said) in [(line[0], line.groups()) for line in found if line]:
+        files = [(SAMPLES / name).read_bytes() for name in names]
+        under = (SAMPLES / definitions).read_bytes() if definitions else END
+        wanted = refusal(said)
+        if wanted is None:
+            wanted = answer(YES, sum(1 << int(card) for card in re.findall(r"\d+", said)))
+        word, _ = library.call("most_specific", files, WORK_BYTES, definitions=under)
+        checks.same(what, word, wanted)
+    checks.same("lookups under definitions", sum(bool(line) for line in found) > 7, True)
+
+
 def main():
     library = Library(sys.argv[1])
     checks = Checks()
@@ -158,6 +174,7 @@ def main():
     check_subsumes(library, checks)
     check_verify(library, checks)
     check_most_specific(library, checks)
+    check_definitions(library, checks)
     print(f"shared library from Python: {checks.passed} passed, {checks.failed} failed")
     return checks.failed != 0
 

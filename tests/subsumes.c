@@ -1,7 +1,9 @@
 #include "subsumes.h"
 
 #include "area.h"
+#include "calls.h"
 #include "check.h"
+#include "definitions_reference.h"
 #include "normalize.h"
 #include "rows.h"
 #include "verify.h"
@@ -32,16 +34,17 @@ static uint64_t wanted_verdict(struct inputs *in)
     return (uint64_t)1 << 56 | in->evidence.length;
 }
 
-/* A row with all names that the rows of a picture want, and all that they exclude. */
+/* A row with all names that the rows of a picture, unfolded, want, and all that they exclude. */
 static struct row all_names(const struct picture *p)
 {
     static struct row rows[ZUVAROPY_MAX_ROWS];
-    const unsigned int count = (unsigned int)(p->length / ZUVAROPY_ROW_BYTES);
+    static struct picture unfolded;
     struct row all = ROOT(0, 0);
     unsigned int i;
 
-    rows_read(rows, p->bytes, count);
-    for (i = 0; i < count; i++) {
+    reference_unfold(&unfolded, p->bytes, p->length);
+    rows_read(rows, unfolded.bytes, picture_rows(&unfolded));
+    for (i = 0; i < picture_rows(&unfolded); i++) {
         all.wanted |= rows[i].wanted;
         all.excluded |= rows[i].excluded;
     }
@@ -77,8 +80,8 @@ static void check_taken(const struct inputs *in, uint64_t word, unsigned long at
 {
     const uint64_t taken = word >> ZUVAROPY_OUTCOME_SHIFT << ZUVAROPY_OUTCOME_SHIFT;
 
-    CHECK_WORD(zuvaropy_verify(in->first.bytes, in->first.length, in->second.bytes, in->second.length,
-                               area_lent(&result), zuvaropy_value(word), area_lent(&work), work.room),
+    CHECK_WORD(call_verify(in->first.bytes, in->first.length, in->second.bytes, in->second.length,
+                           area_lent(&result), zuvaropy_value(word), area_lent(&work), work.room),
                taken, at);
     CHECK(area_is_as_wanted(&work));
     CHECK(area_is_as_wanted(&result));
@@ -92,8 +95,8 @@ static uint64_t subsumes_areas(struct inputs *in, unsigned long at)
 
     memcpy(first.bytes, in->first.bytes, in->first.length);
     memcpy(second.bytes, in->second.bytes, in->second.length);
-    word = zuvaropy_subsumes(in->first.bytes, in->first.length, in->second.bytes, in->second.length, area_lent(&work),
-                             work.room, area_lent(&result), result.room);
+    word = call_subsumes(in->first.bytes, in->first.length, in->second.bytes, in->second.length, area_lent(&work),
+                         work.room, area_lent(&result), result.room);
     CHECK(memcmp(first.bytes, in->first.bytes, in->first.length) == 0);
     CHECK(memcmp(second.bytes, in->second.bytes, in->second.length) == 0);
     wanted = wanted_verdict(in);

@@ -4,6 +4,7 @@
  * too far, or any byte written, ends the program by a signal.
  */
 
+#include "calls.h"
 #include "check.h"
 #include "pages.h"
 #include "picture.h"
@@ -20,7 +21,7 @@ static uint64_t validate_at(uint8_t *place)
     pages_allow_writing(&pages);
     memcpy(place, p.bytes, p.length);
     pages_forbid_writing(&pages);
-    word = zuvaropy_validate(place, p.length);
+    word = call_validate(place, p.length);
     CHECK(memcmp(place, p.bytes, p.length) == 0);
     return word;
 }

@@ -9,6 +9,9 @@
 #include "check.h"
 #include "second_unit.h"
 
+/* Short, so that a call stands on one line. */
+#define NONE ZUVAROPY_NO_DEFINITIONS
+
 #ifdef __cplusplus
 #include <array>
 #endif
@@ -24,6 +27,9 @@
 #endif
 #if ZUVAROPY_MAX_CARDS != 32 || ZUVAROPY_MAX_BOOK_BYTES != 196803 || ZUVAROPY_TAG_CARD != 0x51
 #error "a size or a tag is not that of a book"
+#endif
+#if ZUVAROPY_MAX_DEFINITIONS != 32 || ZUVAROPY_MAX_DEFINITIONS_BYTES != 196835 || ZUVAROPY_TAG_DEFINITION != 0x61
+#error "a size or a tag is not that of a definitions book"
 #endif
 
 static void test_version(void)
@@ -80,6 +86,14 @@ static void test_book_sizes(void)
     CHECK(ZUVAROPY_CARD_BYTES(ZUVAROPY_PICTURE_BYTES(1)) == 30);
     CHECK(2 * ZUVAROPY_CARD_BYTES(0 + 1) == 8);
     CHECK(ZUVAROPY_MAX_BOOK_BYTES == 32 * (3 + 6147) + 3);
+
+    CHECK(ZUVAROPY_MAX_DEFINITIONS == 32);
+    CHECK(ZUVAROPY_DEFINED_BYTES == 1);
+    CHECK(ZUVAROPY_DEFINED_AT == 0);
+    CHECK(ZUVAROPY_DEFINITION_PICTURE_AT == 1);
+    CHECK(ZUVAROPY_DEFINITION_BYTES(ZUVAROPY_PICTURE_BYTES(1)) == 31);
+    CHECK(2 * ZUVAROPY_DEFINITION_BYTES(0 + 1) == 10);
+    CHECK(ZUVAROPY_MAX_DEFINITIONS_BYTES == 32 * (3 + 1 + 6147) + 3);
 }
 
 static void test_codes(void)
@@ -89,6 +103,7 @@ static void test_codes(void)
     CHECK(ZUVAROPY_TAG_MAP == 0x41);
     CHECK(ZUVAROPY_TAG_INDIVIDUAL == 0x42);
     CHECK(ZUVAROPY_TAG_CARD == 0x51);
+    CHECK(ZUVAROPY_TAG_DEFINITION == 0x61);
 
     CHECK(ZUVAROPY_KIND_ROOT == 0);
     CHECK(ZUVAROPY_KIND_EXISTS == 1);
@@ -104,6 +119,8 @@ static void test_codes(void)
     CHECK(ZUVAROPY_INPUT_EVIDENCE == 3);
     CHECK(ZUVAROPY_INPUT_BOOK == 4);
     CHECK(ZUVAROPY_INPUT_CARD == 5);
+    CHECK(ZUVAROPY_INPUT_DEFINITIONS == 6);
+    CHECK(ZUVAROPY_INPUT_DEFINITION == 7);
 }
 
 static void test_questions(void)
@@ -132,6 +149,12 @@ static void test_questions(void)
     CHECK(ZUVAROPY_QUESTION_INSTANCE == 22);
     CHECK(ZUVAROPY_QUESTION_REFUTED == 23);
     CHECK(ZUVAROPY_QUESTION_BOOK == 24);
+    CHECK(ZUVAROPY_QUESTION_DEFINITIONS == 25);
+    CHECK(ZUVAROPY_QUESTION_DEFINED_TWICE == 26);
+    CHECK(ZUVAROPY_QUESTION_EXCLUDED == 27);
+    CHECK(ZUVAROPY_QUESTION_RING == 28);
+    CHECK(ZUVAROPY_QUESTION_UNFOLDED == 29);
+    CHECK(ZUVAROPY_QUESTION_UNFOLDED_DEPTH == 30);
 }
 
 static void test_word(void)
@@ -143,7 +166,7 @@ static void test_word(void)
     CHECK(zuvaropy_outcome(word) == 0x12);
     CHECK(zuvaropy_question(word) == 0x34);
     CHECK(zuvaropy_input(word) == 0x56);
-    CHECK(zuvaropy_card(word) == 0x78);
+    CHECK(zuvaropy_card(word) == 0 && zuvaropy_definition(word) == 0); /* it names neither */
     CHECK(zuvaropy_value(word) == 0x9ABCDEF0u);
     CHECK(zuvaropy_row(word) == 0); /* an answer has no place */
     CHECK(zuvaropy_byte(word) == 0);
@@ -151,7 +174,7 @@ static void test_word(void)
     CHECK(zuvaropy_outcome(ones) == 0xFF);
     CHECK(zuvaropy_question(ones) == 0xFF);
     CHECK(zuvaropy_input(ones) == 0xFF);
-    CHECK(zuvaropy_card(ones) == 0xFF);
+    CHECK(zuvaropy_card(ones) == 0 && zuvaropy_definition(ones) == 0);
     CHECK(zuvaropy_value(ones) == 0xFFFFFFFFu);
     CHECK(zuvaropy_row(ones) == 0);
     CHECK(zuvaropy_byte(ones) == 0);
@@ -161,6 +184,8 @@ static void test_word(void)
     CHECK(zuvaropy_question(refusal) == ZUVAROPY_QUESTION_PARENT);
     CHECK(zuvaropy_input(refusal) == ZUVAROPY_INPUT_CARD);
     CHECK(zuvaropy_card(refusal) == 4);
+    CHECK(zuvaropy_definition(refusal) == 0);
+    CHECK(zuvaropy_card(refusal | (uint64_t)0xFF << 32) == 0xFF);
     CHECK(zuvaropy_row(refusal) == 3);
     CHECK(zuvaropy_byte(refusal) == 72);
     CHECK(zuvaropy_row(refusal | 0xFFFFFFFFu) == 0xFFFF);
@@ -168,6 +193,19 @@ static void test_word(void)
     CHECK(zuvaropy_value(refusal) == 0);
 
     CHECK(second_unit_question(word) == 0x34);
+}
+
+/* The number in a refusal is that of a card or of a definition, as its input says, and of no other. */
+static void test_numbered(void)
+{
+    uint64_t input;
+
+    for (input = 0; input <= 255; input++) {
+        const uint64_t refusal = input << ZUVAROPY_INPUT_SHIFT | (uint64_t)31 << ZUVAROPY_CARD_SHIFT;
+
+        CHECK(zuvaropy_card(refusal) == (input == ZUVAROPY_INPUT_CARD ? 31u : 0u));
+        CHECK(zuvaropy_definition(refusal) == (input == ZUVAROPY_INPUT_DEFINITION ? 31u : 0u));
+    }
 }
 
 /* A refusal by 2 to 13 has a place, by any other question not, and an answer has none. */
@@ -192,6 +230,7 @@ static void test_shifts(void)
     CHECK(ZUVAROPY_QUESTION_SHIFT == 48);
     CHECK(ZUVAROPY_INPUT_SHIFT == 40);
     CHECK(ZUVAROPY_CARD_SHIFT == 32);
+    CHECK(ZUVAROPY_DEFINITION_SHIFT == 32);
     CHECK(ZUVAROPY_ROW_SHIFT == 16);
     CHECK(ZUVAROPY_BYTE_SHIFT == 0);
 }
@@ -217,9 +256,9 @@ static void test_texts(void)
 {
     unsigned int question;
 
-    check_texts(zuvaropy_question_text, ZUVAROPY_QUESTION_BUFFER, ZUVAROPY_QUESTION_BOOK, "no such question");
-    check_texts(zuvaropy_input_text, ZUVAROPY_INPUT_BUFFER, ZUVAROPY_INPUT_CARD, "no such input");
-    for (question = ZUVAROPY_QUESTION_BUFFER; question <= ZUVAROPY_QUESTION_BOOK; question++) {
+    check_texts(zuvaropy_question_text, ZUVAROPY_QUESTION_BUFFER, ZUVAROPY_QUESTION_UNFOLDED_DEPTH, "no such question");
+    check_texts(zuvaropy_input_text, ZUVAROPY_INPUT_BUFFER, ZUVAROPY_INPUT_DEFINITION, "no such input");
+    for (question = ZUVAROPY_QUESTION_BUFFER; question <= ZUVAROPY_QUESTION_UNFOLDED_DEPTH; question++) {
         const char *text = zuvaropy_question_text(question);
 
         CHECK(strchr(text, '?') == text + strlen(text) - 1);
@@ -232,6 +271,8 @@ static void test_texts(void)
     CHECK(strcmp(zuvaropy_input_text(ZUVAROPY_INPUT_EVIDENCE), "evidence") == 0);
     CHECK(strcmp(zuvaropy_input_text(ZUVAROPY_INPUT_BOOK), "book") == 0);
     CHECK(strcmp(zuvaropy_input_text(ZUVAROPY_INPUT_CARD), "card") == 0);
+    CHECK(strcmp(zuvaropy_input_text(ZUVAROPY_INPUT_DEFINITIONS), "definitions book") == 0);
+    CHECK(strcmp(zuvaropy_input_text(ZUVAROPY_INPUT_DEFINITION), "definition") == 0);
     CHECK(strcmp(zuvaropy_question_text(0), "no such question") == 0);
     CHECK(strcmp(second_unit_text(ZUVAROPY_QUESTION_PARENT), zuvaropy_question_text(ZUVAROPY_QUESTION_PARENT)) == 0);
 }
@@ -243,6 +284,8 @@ static void test_numbers_in_texts(void)
     CHECK(strstr(zuvaropy_question_text(ZUVAROPY_QUESTION_ROWS), "256 rows") != NULL && ZUVAROPY_MAX_ROWS == 256);
     CHECK(strstr(zuvaropy_question_text(ZUVAROPY_QUESTION_ROLE), "below 32,") != NULL && ZUVAROPY_ROLES == 32);
     CHECK(strstr(zuvaropy_question_text(ZUVAROPY_QUESTION_DEPTH), "at most 12?") != NULL && ZUVAROPY_MAX_DEPTH == 12);
+    CHECK(strstr(zuvaropy_question_text(ZUVAROPY_QUESTION_UNFOLDED), "at most 256 rows?") != NULL);
+    CHECK(strstr(zuvaropy_question_text(ZUVAROPY_QUESTION_UNFOLDED_DEPTH), "at most 12?") != NULL);
 }
 
 static void test_lent(void)
@@ -292,27 +335,28 @@ static void test_validate(void)
 
 static void test_normalize(void)
 {
-    uint64_t (*function)(const uint8_t *, size_t, uint8_t *, size_t) = zuvaropy_normalize;
+    uint64_t (*function)(const uint8_t *, size_t, const uint8_t *, size_t, uint8_t *, size_t) = zuvaropy_normalize;
     const uint64_t one_row = (uint64_t)1 << 56 | ZUVAROPY_PICTURE_BYTES(1);
     const uint64_t no_buffer = (uint64_t)1 << 48, no_head = (uint64_t)2 << 48 | (uint64_t)1 << 40;
-    const uint8_t *next = bytes;
+    const uint8_t *definitions = bytes, *next = bytes;
     uint8_t *next_result = result;
 
     make_picture();
-    CHECK_WORD(zuvaropy_normalize(bytes, sizeof bytes, result, sizeof result), one_row, 0);
+    CHECK_WORD(zuvaropy_normalize(NONE, bytes, sizeof bytes, result, sizeof result), one_row, 0);
     CHECK(memcmp(result, bytes, sizeof bytes) == 0);
-    CHECK_WORD((zuvaropy_normalize)(bytes, sizeof bytes, result, sizeof result), one_row, 0);
-    CHECK_WORD(function(bytes, sizeof bytes, result, sizeof result), one_row, 0);
+    CHECK_WORD((zuvaropy_normalize)(NONE, bytes, sizeof bytes, result, sizeof result), one_row, 0);
+    CHECK_WORD(function(NONE, bytes, sizeof bytes, result, sizeof result), one_row, 0);
     CHECK_WORD(second_unit_normalize(bytes, sizeof bytes, result, sizeof result), one_row, 0);
 
-    CHECK_WORD(zuvaropy_normalize(bytes, sizeof bytes, NULL, 0), no_buffer, 0);
-    CHECK_WORD(zuvaropy_normalize(NULL, 0, result, sizeof result), no_head, 0);
-    CHECK_WORD(zuvaropy_normalize(NULL, 0, NULL, 0), no_buffer, 0);
-    CHECK_WORD(zuvaropy_normalize(bytes, sizeof bytes, NULL, SIZE_MAX), no_buffer, 0);
-    CHECK_WORD(zuvaropy_normalize(NULL, SIZE_MAX, result, sizeof result), no_head, 0);
+    CHECK_WORD(zuvaropy_normalize(NONE, bytes, sizeof bytes, NULL, 0), no_buffer, 0);
+    CHECK_WORD(zuvaropy_normalize(NONE, NULL, 0, result, sizeof result), no_head, 0);
+    CHECK_WORD(zuvaropy_normalize(NONE, NULL, 0, NULL, 0), no_buffer, 0);
+    CHECK_WORD(zuvaropy_normalize(NONE, bytes, sizeof bytes, NULL, SIZE_MAX), no_buffer, 0);
+    CHECK_WORD(zuvaropy_normalize(NONE, NULL, SIZE_MAX, result, sizeof result), no_head, 0);
 
     /* The macro evaluates its arguments once. */
-    CHECK_WORD(zuvaropy_normalize(next++, 0, next_result++, 0), no_buffer, 0);
+    CHECK_WORD(zuvaropy_normalize(definitions++, 0, next++, 0, next_result++, 0), no_buffer, 0);
+    CHECK(definitions == bytes + 1);
     CHECK(next == bytes + 1);
     CHECK(next_result == result + 1);
 }
@@ -322,37 +366,39 @@ static uint8_t evidence[ZUVAROPY_MAX_EVIDENCE_BYTES];
 
 static void test_subsumes(void)
 {
-    uint64_t (*function)(const uint8_t *, size_t, const uint8_t *, size_t, uint8_t *, size_t, uint8_t *, size_t) =
-        zuvaropy_subsumes;
+    uint64_t (*function)(const uint8_t *, size_t, const uint8_t *, size_t, const uint8_t *, size_t, uint8_t *, size_t,
+                         uint8_t *, size_t) = zuvaropy_subsumes;
     static const uint8_t map[ZUVAROPY_MAP_BYTES(1)] = {ZUVAROPY_TAG_MAP, 0, 2, 0, 0, ZUVAROPY_TAG_END, 0, 0};
     const size_t length = sizeof bytes, room = sizeof evidence;
     const uint64_t yes = (uint64_t)1 << 56 | ZUVAROPY_MAP_BYTES(1);
     const uint64_t no_buffer = (uint64_t)1 << 48;
     const uint64_t no_first = (uint64_t)2 << 48 | (uint64_t)1 << 40, no_second = (uint64_t)2 << 48 | (uint64_t)2 << 40;
-    const uint8_t *next = bytes, *next_second = bytes;
+    const uint8_t *definitions = bytes, *next = bytes, *next_second = bytes;
     uint8_t *next_work = work, *next_result = evidence;
 
     make_picture();
-    CHECK_WORD(zuvaropy_subsumes(bytes, length, bytes, length, work, sizeof work, evidence, room), yes, 0);
+    CHECK_WORD(zuvaropy_subsumes(NONE, bytes, length, bytes, length, work, sizeof work, evidence, room), yes, 0);
     CHECK(memcmp(work, bytes, length) == 0);
     CHECK(memcmp(work + ZUVAROPY_SECOND_TABLE_AT, bytes, length) == 0);
     CHECK(memcmp(evidence, map, sizeof map) == 0);
-    CHECK_WORD((zuvaropy_subsumes)(bytes, length, bytes, length, work, sizeof work, evidence, room), yes, 0);
-    CHECK_WORD(function(bytes, length, bytes, length, work, sizeof work, evidence, room), yes, 0);
+    CHECK_WORD((zuvaropy_subsumes)(NONE, bytes, length, bytes, length, work, sizeof work, evidence, room), yes, 0);
+    CHECK_WORD(function(NONE, bytes, length, bytes, length, work, sizeof work, evidence, room), yes, 0);
     CHECK_WORD(second_unit_subsumes(bytes, length, bytes, length, work, sizeof work, evidence, room), yes, 0);
 
-    CHECK_WORD(zuvaropy_subsumes(bytes, length, bytes, length, NULL, 0, evidence, room), no_buffer, 0);
-    CHECK_WORD(zuvaropy_subsumes(bytes, length, bytes, length, work, sizeof work, NULL, 0), no_buffer, 0);
-    CHECK_WORD(zuvaropy_subsumes(NULL, 0, bytes, length, work, sizeof work, evidence, room), no_first, 0);
-    CHECK_WORD(zuvaropy_subsumes(bytes, length, NULL, 0, work, sizeof work, evidence, room), no_second, 0);
-    CHECK_WORD(zuvaropy_subsumes(NULL, 0, NULL, 0, NULL, 0, NULL, 0), no_buffer, 0);
-    CHECK_WORD(zuvaropy_subsumes(bytes, length, bytes, length, NULL, SIZE_MAX, evidence, room), no_buffer, 0);
-    CHECK_WORD(zuvaropy_subsumes(bytes, length, bytes, length, work, sizeof work, NULL, SIZE_MAX), no_buffer, 0);
-    CHECK_WORD(zuvaropy_subsumes(NULL, SIZE_MAX, bytes, length, work, sizeof work, evidence, room), no_first, 0);
-    CHECK_WORD(zuvaropy_subsumes(bytes, length, NULL, SIZE_MAX, work, sizeof work, evidence, room), no_second, 0);
+    CHECK_WORD(zuvaropy_subsumes(NONE, bytes, length, bytes, length, NULL, 0, evidence, room), no_buffer, 0);
+    CHECK_WORD(zuvaropy_subsumes(NONE, bytes, length, bytes, length, work, sizeof work, NULL, 0), no_buffer, 0);
+    CHECK_WORD(zuvaropy_subsumes(NONE, NULL, 0, bytes, length, work, sizeof work, evidence, room), no_first, 0);
+    CHECK_WORD(zuvaropy_subsumes(NONE, bytes, length, NULL, 0, work, sizeof work, evidence, room), no_second, 0);
+    CHECK_WORD(zuvaropy_subsumes(NONE, NULL, 0, NULL, 0, NULL, 0, NULL, 0), no_buffer, 0);
+    CHECK_WORD(zuvaropy_subsumes(NONE, bytes, length, bytes, length, NULL, SIZE_MAX, evidence, room), no_buffer, 0);
+    CHECK_WORD(zuvaropy_subsumes(NONE, bytes, length, bytes, length, work, sizeof work, NULL, SIZE_MAX), no_buffer, 0);
+    CHECK_WORD(zuvaropy_subsumes(NONE, NULL, SIZE_MAX, bytes, length, work, sizeof work, evidence, room), no_first, 0);
+    CHECK_WORD(zuvaropy_subsumes(NONE, bytes, length, NULL, SIZE_MAX, work, sizeof work, evidence, room), no_second, 0);
 
     /* The macro evaluates its arguments once. */
-    CHECK_WORD(zuvaropy_subsumes(next++, 0, next_second++, 0, next_work++, 0, next_result++, 0), no_buffer, 0);
+    CHECK_WORD(zuvaropy_subsumes(definitions++, 0, next++, 0, next_second++, 0, next_work++, 0, next_result++, 0),
+               no_buffer, 0);
+    CHECK(definitions == bytes + 1);
     CHECK(next == bytes + 1);
     CHECK(next_second == bytes + 1);
     CHECK(next_work == work + 1);
@@ -361,34 +407,36 @@ static void test_subsumes(void)
 
 static void test_verify(void)
 {
-    uint64_t (*function)(const uint8_t *, size_t, const uint8_t *, size_t, const uint8_t *, size_t, uint8_t *, size_t) =
-        zuvaropy_verify;
+    uint64_t (*function)(const uint8_t *, size_t, const uint8_t *, size_t, const uint8_t *, size_t, const uint8_t *,
+                         size_t, uint8_t *, size_t) = zuvaropy_verify;
     static const uint8_t map[ZUVAROPY_MAP_BYTES(1)] = {ZUVAROPY_TAG_MAP, 0, 2, 0, 0, ZUVAROPY_TAG_END, 0, 0};
     const size_t length = sizeof bytes, map_length = sizeof map;
     const uint64_t taken = (uint64_t)1 << 56;
     const uint64_t no_buffer = (uint64_t)1 << 48, no_second = (uint64_t)2 << 48 | (uint64_t)2 << 40;
     const uint64_t no_form = (uint64_t)16 << 48 | (uint64_t)3 << 40;
-    const uint8_t *next = bytes, *next_second = bytes, *next_map = map;
+    const uint8_t *definitions = bytes, *next = bytes, *next_second = bytes, *next_map = map;
     uint8_t *next_work = work;
 
     make_picture();
-    CHECK_WORD(zuvaropy_verify(bytes, length, bytes, length, map, map_length, work, sizeof work), taken, 0);
+    CHECK_WORD(zuvaropy_verify(NONE, bytes, length, bytes, length, map, map_length, work, sizeof work), taken, 0);
     CHECK(memcmp(work, bytes, length) == 0);
     CHECK(memcmp(work + ZUVAROPY_SECOND_TABLE_AT, bytes, length) == 0);
-    CHECK_WORD((zuvaropy_verify)(bytes, length, bytes, length, map, map_length, work, sizeof work), taken, 0);
-    CHECK_WORD(function(bytes, length, bytes, length, map, map_length, work, sizeof work), taken, 0);
+    CHECK_WORD((zuvaropy_verify)(NONE, bytes, length, bytes, length, map, map_length, work, sizeof work), taken, 0);
+    CHECK_WORD(function(NONE, bytes, length, bytes, length, map, map_length, work, sizeof work), taken, 0);
     CHECK_WORD(second_unit_verify(bytes, length, bytes, length, map, map_length, work, sizeof work), taken, 0);
 
-    CHECK_WORD(zuvaropy_verify(bytes, length, bytes, length, map, map_length, NULL, 0), no_buffer, 0);
-    CHECK_WORD(zuvaropy_verify(bytes, length, NULL, 0, map, map_length, work, sizeof work), no_second, 0);
-    CHECK_WORD(zuvaropy_verify(bytes, length, bytes, length, NULL, 0, work, sizeof work), no_form, 0);
-    CHECK_WORD(zuvaropy_verify(NULL, 0, NULL, 0, NULL, 0, NULL, 0), no_buffer, 0);
-    CHECK_WORD(zuvaropy_verify(bytes, length, bytes, length, map, map_length, NULL, SIZE_MAX), no_buffer, 0);
-    CHECK_WORD(zuvaropy_verify(bytes, length, NULL, SIZE_MAX, map, map_length, work, sizeof work), no_second, 0);
-    CHECK_WORD(zuvaropy_verify(bytes, length, bytes, length, NULL, SIZE_MAX, work, sizeof work), no_form, 0);
+    CHECK_WORD(zuvaropy_verify(NONE, bytes, length, bytes, length, map, map_length, NULL, 0), no_buffer, 0);
+    CHECK_WORD(zuvaropy_verify(NONE, bytes, length, NULL, 0, map, map_length, work, sizeof work), no_second, 0);
+    CHECK_WORD(zuvaropy_verify(NONE, bytes, length, bytes, length, NULL, 0, work, sizeof work), no_form, 0);
+    CHECK_WORD(zuvaropy_verify(NONE, NULL, 0, NULL, 0, NULL, 0, NULL, 0), no_buffer, 0);
+    CHECK_WORD(zuvaropy_verify(NONE, bytes, length, bytes, length, map, map_length, NULL, SIZE_MAX), no_buffer, 0);
+    CHECK_WORD(zuvaropy_verify(NONE, bytes, length, NULL, SIZE_MAX, map, map_length, work, sizeof work), no_second, 0);
+    CHECK_WORD(zuvaropy_verify(NONE, bytes, length, bytes, length, NULL, SIZE_MAX, work, sizeof work), no_form, 0);
 
     /* The macro evaluates its arguments once. */
-    CHECK_WORD(zuvaropy_verify(next++, 0, next_second++, 0, next_map++, 0, next_work++, 0), no_buffer, 0);
+    CHECK_WORD(zuvaropy_verify(definitions++, 0, next++, 0, next_second++, 0, next_map++, 0, next_work++, 0),
+               no_buffer, 0);
+    CHECK(definitions == bytes + 1);
     CHECK(next == bytes + 1);
     CHECK(next_second == bytes + 1);
     CHECK(next_map == map + 1);
@@ -397,36 +445,38 @@ static void test_verify(void)
 
 static void test_lcs(void)
 {
-    uint64_t (*function)(const uint8_t *, size_t, const uint8_t *, size_t, uint8_t *, size_t, uint8_t *, size_t) =
-        zuvaropy_lcs;
+    uint64_t (*function)(const uint8_t *, size_t, const uint8_t *, size_t, const uint8_t *, size_t, uint8_t *, size_t,
+                         uint8_t *, size_t) = zuvaropy_lcs;
     const size_t length = sizeof bytes, room = sizeof result;
     const uint64_t one_row = (uint64_t)1 << 56 | ZUVAROPY_PICTURE_BYTES(1);
     const uint64_t no_buffer = (uint64_t)1 << 48;
     const uint64_t no_first = (uint64_t)2 << 48 | (uint64_t)1 << 40, no_second = (uint64_t)2 << 48 | (uint64_t)2 << 40;
-    const uint8_t *next = bytes, *next_second = bytes;
+    const uint8_t *definitions = bytes, *next = bytes, *next_second = bytes;
     uint8_t *next_work = work, *next_result = result;
 
     make_picture();
-    CHECK_WORD(zuvaropy_lcs(bytes, length, bytes, length, work, sizeof work, result, room), one_row, 0);
+    CHECK_WORD(zuvaropy_lcs(NONE, bytes, length, bytes, length, work, sizeof work, result, room), one_row, 0);
     CHECK(memcmp(work, bytes, length) == 0);
     CHECK(memcmp(work + ZUVAROPY_SECOND_TABLE_AT, bytes, length) == 0);
     CHECK(memcmp(result, bytes, length) == 0);
-    CHECK_WORD((zuvaropy_lcs)(bytes, length, bytes, length, work, sizeof work, result, room), one_row, 0);
-    CHECK_WORD(function(bytes, length, bytes, length, work, sizeof work, result, room), one_row, 0);
+    CHECK_WORD((zuvaropy_lcs)(NONE, bytes, length, bytes, length, work, sizeof work, result, room), one_row, 0);
+    CHECK_WORD(function(NONE, bytes, length, bytes, length, work, sizeof work, result, room), one_row, 0);
     CHECK_WORD(second_unit_lcs(bytes, length, bytes, length, work, sizeof work, result, room), one_row, 0);
 
-    CHECK_WORD(zuvaropy_lcs(bytes, length, bytes, length, NULL, 0, result, room), no_buffer, 0);
-    CHECK_WORD(zuvaropy_lcs(bytes, length, bytes, length, work, sizeof work, NULL, 0), no_buffer, 0);
-    CHECK_WORD(zuvaropy_lcs(NULL, 0, bytes, length, work, sizeof work, result, room), no_first, 0);
-    CHECK_WORD(zuvaropy_lcs(bytes, length, NULL, 0, work, sizeof work, result, room), no_second, 0);
-    CHECK_WORD(zuvaropy_lcs(NULL, 0, NULL, 0, NULL, 0, NULL, 0), no_buffer, 0);
-    CHECK_WORD(zuvaropy_lcs(bytes, length, bytes, length, NULL, SIZE_MAX, result, room), no_buffer, 0);
-    CHECK_WORD(zuvaropy_lcs(bytes, length, bytes, length, work, sizeof work, NULL, SIZE_MAX), no_buffer, 0);
-    CHECK_WORD(zuvaropy_lcs(NULL, SIZE_MAX, bytes, length, work, sizeof work, result, room), no_first, 0);
-    CHECK_WORD(zuvaropy_lcs(bytes, length, NULL, SIZE_MAX, work, sizeof work, result, room), no_second, 0);
+    CHECK_WORD(zuvaropy_lcs(NONE, bytes, length, bytes, length, NULL, 0, result, room), no_buffer, 0);
+    CHECK_WORD(zuvaropy_lcs(NONE, bytes, length, bytes, length, work, sizeof work, NULL, 0), no_buffer, 0);
+    CHECK_WORD(zuvaropy_lcs(NONE, NULL, 0, bytes, length, work, sizeof work, result, room), no_first, 0);
+    CHECK_WORD(zuvaropy_lcs(NONE, bytes, length, NULL, 0, work, sizeof work, result, room), no_second, 0);
+    CHECK_WORD(zuvaropy_lcs(NONE, NULL, 0, NULL, 0, NULL, 0, NULL, 0), no_buffer, 0);
+    CHECK_WORD(zuvaropy_lcs(NONE, bytes, length, bytes, length, NULL, SIZE_MAX, result, room), no_buffer, 0);
+    CHECK_WORD(zuvaropy_lcs(NONE, bytes, length, bytes, length, work, sizeof work, NULL, SIZE_MAX), no_buffer, 0);
+    CHECK_WORD(zuvaropy_lcs(NONE, NULL, SIZE_MAX, bytes, length, work, sizeof work, result, room), no_first, 0);
+    CHECK_WORD(zuvaropy_lcs(NONE, bytes, length, NULL, SIZE_MAX, work, sizeof work, result, room), no_second, 0);
 
     /* The macro evaluates its arguments once. */
-    CHECK_WORD(zuvaropy_lcs(next++, 0, next_second++, 0, next_work++, 0, next_result++, 0), no_buffer, 0);
+    CHECK_WORD(zuvaropy_lcs(definitions++, 0, next++, 0, next_second++, 0, next_work++, 0, next_result++, 0),
+               no_buffer, 0);
+    CHECK(definitions == bytes + 1);
     CHECK(next == bytes + 1);
     CHECK(next_second == bytes + 1);
     CHECK(next_work == work + 1);
@@ -448,36 +498,93 @@ static void make_book(void)
 
 static void test_most_specific(void)
 {
-    uint64_t (*function)(const uint8_t *, size_t, const uint8_t *, size_t, uint8_t *, size_t) = zuvaropy_most_specific;
+    uint64_t (*function)(const uint8_t *, size_t, const uint8_t *, size_t, const uint8_t *, size_t, uint8_t *,
+                         size_t) = zuvaropy_most_specific;
     const size_t length = sizeof bytes, book_length = sizeof book;
     const uint64_t card_0 = (uint64_t)1 << 56 | 1;
     const uint64_t no_buffer = (uint64_t)1 << 48;
     const uint64_t no_case = (uint64_t)2 << 48 | (uint64_t)1 << 40, no_book = (uint64_t)24 << 48 | (uint64_t)4 << 40;
-    const uint8_t *next = bytes, *next_book = book;
+    const uint8_t *definitions = bytes, *next = bytes, *next_book = book;
     uint8_t *next_work = work;
 
     make_book();
     work[0] = work[ZUVAROPY_WORK_BYTES - 1] = 7;
-    CHECK_WORD(zuvaropy_most_specific(bytes, length, book, book_length, work, sizeof work), card_0, 0);
+    CHECK_WORD(zuvaropy_most_specific(NONE, bytes, length, book, book_length, work, sizeof work), card_0, 0);
     CHECK(work[0] == 0);
     CHECK(work[ZUVAROPY_WORK_BYTES - 1] == 0);
-    CHECK_WORD((zuvaropy_most_specific)(bytes, length, book, book_length, work, sizeof work), card_0, 0);
-    CHECK_WORD(function(bytes, length, book, book_length, work, sizeof work), card_0, 0);
+    CHECK_WORD((zuvaropy_most_specific)(NONE, bytes, length, book, book_length, work, sizeof work), card_0, 0);
+    CHECK_WORD(function(NONE, bytes, length, book, book_length, work, sizeof work), card_0, 0);
     CHECK_WORD(second_unit_most_specific(bytes, length, book, book_length, work, sizeof work), card_0, 0);
 
-    CHECK_WORD(zuvaropy_most_specific(bytes, length, book, book_length, NULL, 0), no_buffer, 0);
-    CHECK_WORD(zuvaropy_most_specific(NULL, 0, book, book_length, work, sizeof work), no_case, 0);
-    CHECK_WORD(zuvaropy_most_specific(bytes, length, NULL, 0, work, sizeof work), no_book, 0);
-    CHECK_WORD(zuvaropy_most_specific(NULL, 0, NULL, 0, NULL, 0), no_buffer, 0);
-    CHECK_WORD(zuvaropy_most_specific(bytes, length, book, book_length, NULL, SIZE_MAX), no_buffer, 0);
-    CHECK_WORD(zuvaropy_most_specific(NULL, SIZE_MAX, book, book_length, work, sizeof work), no_case, 0);
-    CHECK_WORD(zuvaropy_most_specific(bytes, length, NULL, SIZE_MAX, work, sizeof work), no_book, 0);
+    CHECK_WORD(zuvaropy_most_specific(NONE, bytes, length, book, book_length, NULL, 0), no_buffer, 0);
+    CHECK_WORD(zuvaropy_most_specific(NONE, NULL, 0, book, book_length, work, sizeof work), no_case, 0);
+    CHECK_WORD(zuvaropy_most_specific(NONE, bytes, length, NULL, 0, work, sizeof work), no_book, 0);
+    CHECK_WORD(zuvaropy_most_specific(NONE, NULL, 0, NULL, 0, NULL, 0), no_buffer, 0);
+    CHECK_WORD(zuvaropy_most_specific(NONE, bytes, length, book, book_length, NULL, SIZE_MAX), no_buffer, 0);
+    CHECK_WORD(zuvaropy_most_specific(NONE, NULL, SIZE_MAX, book, book_length, work, sizeof work), no_case, 0);
+    CHECK_WORD(zuvaropy_most_specific(NONE, bytes, length, NULL, SIZE_MAX, work, sizeof work), no_book, 0);
 
     /* The macro evaluates its arguments once. */
-    CHECK_WORD(zuvaropy_most_specific(next++, 0, next_book++, 0, next_work++, 0), no_buffer, 0);
+    CHECK_WORD(zuvaropy_most_specific(definitions++, 0, next++, 0, next_book++, 0, next_work++, 0), no_buffer, 0);
+    CHECK(definitions == bytes + 1);
     CHECK(next == bytes + 1);
     CHECK(next_book == book + 1);
     CHECK(next_work == work + 1);
+}
+
+/* A definitions book whose only definition is the picture. */
+static uint8_t defined[ZUVAROPY_DEFINITION_BYTES(ZUVAROPY_PICTURE_BYTES(1)) + ZUVAROPY_HEAD_BYTES];
+
+static void make_definitions(void)
+{
+    make_book();
+    memset(defined, 0, sizeof defined);
+    defined[0] = ZUVAROPY_TAG_DEFINITION;
+    defined[2] = ZUVAROPY_DEFINITION_PICTURE_AT + ZUVAROPY_PICTURE_BYTES(1);
+    memcpy(defined + ZUVAROPY_HEAD_BYTES + ZUVAROPY_DEFINITION_PICTURE_AT, bytes, sizeof bytes);
+    defined[sizeof defined - ZUVAROPY_HEAD_BYTES] = ZUVAROPY_TAG_END;
+}
+
+/* Each call under these definitions, on the picture and the book. */
+enum { NORMALIZE, SUBSUMES, VERIFY, LCS, MOST_SPECIFIC, UNDER };
+
+static uint64_t call_under(unsigned int call, const uint8_t *definitions, size_t count, uint8_t *lent, size_t room)
+{
+    static const uint8_t map[ZUVAROPY_MAP_BYTES(1)] = {ZUVAROPY_TAG_MAP, 0, 2, 0, 0, ZUVAROPY_TAG_END, 0, 0};
+    const size_t length = sizeof bytes;
+
+    switch (call) {
+    case NORMALIZE:
+        return zuvaropy_normalize(definitions, count, bytes, length, result, sizeof result);
+    case SUBSUMES:
+        return zuvaropy_subsumes(definitions, count, bytes, length, bytes, length, lent, room, evidence,
+                                 sizeof evidence);
+    case VERIFY:
+        return zuvaropy_verify(definitions, count, bytes, length, bytes, length, map, sizeof map, lent, room);
+    case LCS:
+        return zuvaropy_lcs(definitions, count, bytes, length, bytes, length, lent, room, result, sizeof result);
+    default:
+        return zuvaropy_most_specific(definitions, count, bytes, length, book, sizeof book, lent, room);
+    }
+}
+
+/* No definitions are a book of the end field alone; NULL is a buffer without bytes, which is no book. */
+static void test_definitions(void)
+{
+    static const uint8_t end[] = {0x2F, 0, 0};
+    const uint64_t no_form = (uint64_t)25 << 48 | (uint64_t)6 << 40;
+    unsigned int call;
+
+    make_definitions();
+    CHECK(memcmp(zuvaropy_no_definitions(), end, sizeof end) == 0);
+    for (call = 0; call < UNDER; call++) {
+        CHECK_WORD(call_under(call, NONE, work, sizeof work) >> 56, 1, call);
+        CHECK_WORD(call_under(call, end, sizeof end, work, sizeof work) >> 56, 1, call);
+        CHECK_WORD(call_under(call, defined, sizeof defined, work, sizeof work) >> 56, 1, call);
+        CHECK_WORD(call_under(call, end, sizeof end - 1, work, sizeof work), no_form, call);
+        CHECK_WORD(call_under(call, NULL, 0, work, sizeof work), no_form, call);
+        CHECK_WORD(call_under(call, NULL, SIZE_MAX, work, sizeof work), no_form, call);
+    }
 }
 
 /* An argument may have commas of its own: two bytes, the head of a row, cut off. They stand here in full, since a
@@ -486,23 +593,25 @@ static void make_calls(uint64_t *words)
 {
 #ifdef __cplusplus
     words[0] = zuvaropy_validate(std::array<uint8_t, 2>{{0x10, 0}}.data(), 2);
-    words[1] = zuvaropy_normalize(bytes, sizeof bytes, std::array<uint8_t, 2>{{0x10, 0}}.data(), 2);
-    words[2] = zuvaropy_subsumes(bytes, sizeof bytes, std::array<uint8_t, 2>{{0x10, 0}}.data(), 2, work, sizeof work,
-                                 evidence, sizeof evidence);
-    words[3] = zuvaropy_lcs(bytes, sizeof bytes, std::array<uint8_t, 2>{{0x10, 0}}.data(), 2, work, sizeof work, result,
-                            sizeof result);
-    words[4] = zuvaropy_verify(bytes, sizeof bytes, bytes, sizeof bytes, std::array<uint8_t, 2>{{0x10, 0}}.data(), 2,
-                               work, sizeof work);
-    words[5] = zuvaropy_most_specific(bytes, sizeof bytes, std::array<uint8_t, 2>{{0x10, 0}}.data(), 2, work,
+    words[1] = zuvaropy_normalize(NONE, bytes, sizeof bytes, std::array<uint8_t, 2>{{0x10, 0}}.data(), 2);
+    words[2] = zuvaropy_subsumes(NONE, bytes, sizeof bytes, std::array<uint8_t, 2>{{0x10, 0}}.data(), 2, work,
+                                 sizeof work, evidence, sizeof evidence);
+    words[3] = zuvaropy_lcs(NONE, bytes, sizeof bytes, std::array<uint8_t, 2>{{0x10, 0}}.data(), 2, work, sizeof work,
+                            result, sizeof result);
+    words[4] = zuvaropy_verify(NONE, bytes, sizeof bytes, bytes, sizeof bytes,
+                               std::array<uint8_t, 2>{{0x10, 0}}.data(), 2, work, sizeof work);
+    words[5] = zuvaropy_most_specific(NONE, bytes, sizeof bytes, std::array<uint8_t, 2>{{0x10, 0}}.data(), 2, work,
                                       sizeof work);
 #else
     words[0] = zuvaropy_validate((uint8_t[]){0x10, 0}, 2);
-    words[1] = zuvaropy_normalize(bytes, sizeof bytes, (uint8_t[]){0x10, 0}, 2);
-    words[2] = zuvaropy_subsumes(bytes, sizeof bytes, (uint8_t[]){0x10, 0}, 2, work, sizeof work, evidence,
+    words[1] = zuvaropy_normalize(NONE, bytes, sizeof bytes, (uint8_t[]){0x10, 0}, 2);
+    words[2] = zuvaropy_subsumes(NONE, bytes, sizeof bytes, (uint8_t[]){0x10, 0}, 2, work, sizeof work, evidence,
                                  sizeof evidence);
-    words[3] = zuvaropy_lcs(bytes, sizeof bytes, (uint8_t[]){0x10, 0}, 2, work, sizeof work, result, sizeof result);
-    words[4] = zuvaropy_verify(bytes, sizeof bytes, bytes, sizeof bytes, (uint8_t[]){0x10, 0}, 2, work, sizeof work);
-    words[5] = zuvaropy_most_specific(bytes, sizeof bytes, (uint8_t[]){0x10, 0}, 2, work, sizeof work);
+    words[3] = zuvaropy_lcs(NONE, bytes, sizeof bytes, (uint8_t[]){0x10, 0}, 2, work, sizeof work, result,
+                            sizeof result);
+    words[4] = zuvaropy_verify(NONE, bytes, sizeof bytes, bytes, sizeof bytes, (uint8_t[]){0x10, 0}, 2, work,
+                               sizeof work);
+    words[5] = zuvaropy_most_specific(NONE, bytes, sizeof bytes, (uint8_t[]){0x10, 0}, 2, work, sizeof work);
 #endif
 }
 
@@ -522,41 +631,46 @@ static void test_commas(void)
 enum { FRONT = 64, AREA = FRONT + ZUVAROPY_WORK_BYTES + FRONT };
 static uint8_t area[AREA], before[AREA];
 
-enum { FIRST, SECOND, EVIDENCE, CASE, BOOK, BUFFERS };
+/* A buffer of some call; or the definitions, of each call that has a work space. */
+enum { FIRST, SECOND, EVIDENCE, CASE, BOOK, DEFINITIONS, BUFFERS = DEFINITIONS + UNDER - SUBSUMES };
 
 /* A call with the bytes from a place of the area on as one of its buffers. */
 static uint64_t call_with(unsigned int which, size_t at, size_t length, size_t work_length)
 {
     static const uint8_t map[ZUVAROPY_MAP_BYTES(1)] = {ZUVAROPY_TAG_MAP, 0, 2, 0, 0, ZUVAROPY_TAG_END, 0, 0};
-    const uint8_t *whole = which == BOOK ? book : which == EVIDENCE ? map : bytes, *there = area + at;
+    const uint8_t *whole = which >= DEFINITIONS ? defined : which == BOOK ? book : which == EVIDENCE ? map : bytes;
+    const uint8_t *there = area + at;
     uint8_t *lent = area + FRONT;
 
     memset(area, 7, sizeof area);
     memcpy(area + at, whole, length);
     memcpy(before, area, sizeof area);
     if (which == FIRST)
-        return zuvaropy_subsumes(there, length, bytes, sizeof bytes, lent, work_length, evidence, sizeof evidence);
+        return zuvaropy_subsumes(NONE, there, length, bytes, sizeof bytes, lent, work_length, evidence,
+                                 sizeof evidence);
     if (which == SECOND)
-        return zuvaropy_lcs(bytes, sizeof bytes, there, length, lent, work_length, result, sizeof result);
+        return zuvaropy_lcs(NONE, bytes, sizeof bytes, there, length, lent, work_length, result, sizeof result);
     if (which == EVIDENCE)
-        return zuvaropy_verify(bytes, sizeof bytes, bytes, sizeof bytes, there, length, lent, work_length);
+        return zuvaropy_verify(NONE, bytes, sizeof bytes, bytes, sizeof bytes, there, length, lent, work_length);
     if (which == CASE)
-        return zuvaropy_most_specific(there, length, book, sizeof book, lent, work_length);
-    return zuvaropy_most_specific(bytes, sizeof bytes, there, length, lent, work_length);
+        return zuvaropy_most_specific(NONE, there, length, book, sizeof book, lent, work_length);
+    if (which >= DEFINITIONS)
+        return call_under(SUBSUMES + which - DEFINITIONS, there, length, lent, work_length);
+    return zuvaropy_most_specific(NONE, bytes, sizeof bytes, there, length, lent, work_length);
 }
 
 /* A work space that has a byte in common with another buffer is refused, and nothing is written; one beside it, or one
  * of which only bytes are shared that no call writes, is not. */
 static void test_apart(void)
 {
-    const size_t sizes[BUFFERS] = {sizeof bytes, sizeof bytes, ZUVAROPY_MAP_BYTES(1), sizeof bytes, sizeof book};
+    const size_t sizes[DEFINITIONS] = {sizeof bytes, sizeof bytes, ZUVAROPY_MAP_BYTES(1), sizeof bytes, sizeof book};
     const uint64_t no_buffer = (uint64_t)1 << 48;
     const size_t end = FRONT + ZUVAROPY_WORK_BYTES;
     unsigned int which;
 
-    make_book();
+    make_definitions();
     for (which = 0; which < BUFFERS; which++) {
-        const size_t size = sizes[which];
+        const size_t size = which < DEFINITIONS ? sizes[which] : sizeof defined;
         const size_t shared[] = {FRONT - size + 1, FRONT, FRONT + 1, FRONT + ZUVAROPY_SECOND_TABLE_AT, end - 1};
         size_t n;
 
@@ -580,11 +694,11 @@ static void test_result_apart(void)
     uint8_t *behind = both + room, *after = both + size;
 
     make_picture();
-    CHECK_WORD(zuvaropy_subsumes(bytes, length, bytes, length, behind, size, both, room) >> 56, 1, 0);
-    CHECK_WORD(zuvaropy_subsumes(bytes, length, bytes, length, behind, size, both, sizeof both) >> 56, 1, 0);
-    CHECK_WORD(zuvaropy_subsumes(bytes, length, bytes, length, behind - 1, size, both, room), no_buffer, 0);
-    CHECK_WORD(zuvaropy_lcs(bytes, length, bytes, length, both, size, after - 1, room), no_buffer, 0);
-    CHECK_WORD(zuvaropy_lcs(bytes, length, bytes, length, both, size, after, room) >> 56, 1, 0);
+    CHECK_WORD(zuvaropy_subsumes(NONE, bytes, length, bytes, length, behind, size, both, room) >> 56, 1, 0);
+    CHECK_WORD(zuvaropy_subsumes(NONE, bytes, length, bytes, length, behind, size, both, sizeof both) >> 56, 1, 0);
+    CHECK_WORD(zuvaropy_subsumes(NONE, bytes, length, bytes, length, behind - 1, size, both, room), no_buffer, 0);
+    CHECK_WORD(zuvaropy_lcs(NONE, bytes, length, bytes, length, both, size, after - 1, room), no_buffer, 0);
+    CHECK_WORD(zuvaropy_lcs(NONE, bytes, length, bytes, length, both, size, after, room) >> 56, 1, 0);
 }
 
 int main(void)
@@ -595,6 +709,7 @@ int main(void)
     test_codes();
     test_questions();
     test_word();
+    test_numbered();
     test_has_place();
     test_shifts();
     test_texts();
@@ -606,6 +721,7 @@ int main(void)
     test_verify();
     test_lcs();
     test_most_specific();
+    test_definitions();
     test_commas();
     test_apart();
     test_result_apart();

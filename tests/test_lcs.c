@@ -2,6 +2,7 @@
  * Common pictures by hand, and the exact bytes of one answer.
  */
 
+#include "calls.h"
 #include "check.h"
 #include "lcs.h"
 #include "rows.h"
@@ -184,7 +185,7 @@ static void test_bytes(void)
     memset(work, 0xA5, sizeof work);
     memset(result, 0xA5, sizeof result);
     make_case(0);
-    CHECK_WORD(zuvaropy_lcs(pair.first.bytes, 51, pair.second.bytes, 75, work, sizeof work, result, sizeof result),
+    CHECK_WORD(call_lcs(pair.first.bytes, 51, pair.second.bytes, 75, work, sizeof work, result, sizeof result),
                UINT64_C(0x010000000000004B), 0);
     CHECK(memcmp(result, common, sizeof common) == 0);
     for (i = sizeof common; i < sizeof result && result[i] == 0xA5; i++)
@@ -219,7 +220,7 @@ static void test_every(void)
         rows_picture(&pair.second, ROWS(ROOT(0, 0), ALL_NONE(0, R), SOME(0, R, NAME(1), 0)));
         lcs_any(&pair, i);
         table.length = zuvaropy_value(
-            zuvaropy_normalize(pair.first.bytes, pair.first.length, table.bytes, ZUVAROPY_MAX_PICTURE_BYTES));
+            call_normalize(pair.first.bytes, pair.first.length, table.bytes, ZUVAROPY_MAX_PICTURE_BYTES));
         CHECK(same(&pair.common, &table));
     }
 }

@@ -4,6 +4,7 @@
  */
 
 #include "area.h"
+#include "calls.h"
 #include "check.h"
 #include "lcs.h"
 #include "normalize.h"
@@ -80,8 +81,8 @@ static void test_halves(void)
         picture_end(&pair.second);
         memset(work, 0xA5, sizeof work);
         memset(result, 0xA5, sizeof result);
-        word = zuvaropy_lcs(pair.first.bytes, pair.first.length, pair.second.bytes, pair.second.length, work,
-                            sizeof work, result, sizeof result);
+        word = call_lcs(pair.first.bytes, pair.first.length, pair.second.bytes, pair.second.length, work,
+                        sizeof work, result, sizeof result);
         if (zuvaropy_outcome(word) == ZUVAROPY_OUTCOME_REFUSAL) {
             CHECK_WORD(word, word_second(ZUVAROPY_QUESTION_COMMON, 0), rows);
             CHECK(area_is_filled(result, sizeof result, 0xA5));
@@ -101,16 +102,16 @@ static void test_shared(void)
     const uint8_t *file = pair.first.bytes;
 
     rows_picture(&pair.first, ROWS(ROOT(0, 0), SOME(0, R, NAME(3), 0)));
-    CHECK_WORD(zuvaropy_lcs(file, pair.first.length, file, pair.first.length, work, sizeof work, result, sizeof result),
+    CHECK_WORD(call_lcs(file, pair.first.length, file, pair.first.length, work, sizeof work, result, sizeof result),
                word_length(2), 0);
     CHECK(memcmp(result, file, pair.first.length) == 0);
     normalize_check_half(work, &pair.first);
     normalize_check_half(work + 6147, &pair.first);
-    CHECK_WORD(zuvaropy_lcs(file, pair.first.length, file + ZUVAROPY_ROW_BYTES, pair.first.length - ZUVAROPY_ROW_BYTES,
-                            work, sizeof work, result, sizeof result),
+    CHECK_WORD(call_lcs(file, pair.first.length, file + ZUVAROPY_ROW_BYTES, pair.first.length - ZUVAROPY_ROW_BYTES,
+                        work, sizeof work, result, sizeof result),
                word_second(9, 0), 1);
-    CHECK_WORD(zuvaropy_lcs(file + ZUVAROPY_ROW_BYTES, pair.first.length - ZUVAROPY_ROW_BYTES, file, pair.first.length,
-                            work, sizeof work, result, sizeof result),
+    CHECK_WORD(call_lcs(file + ZUVAROPY_ROW_BYTES, pair.first.length - ZUVAROPY_ROW_BYTES, file, pair.first.length,
+                        work, sizeof work, result, sizeof result),
                word_refusal(9, 0), 2);
 }
 
@@ -120,14 +121,14 @@ static void test_nothing(void)
     const uint8_t *a = pair.first.bytes, *b = pair.second.bytes;
 
     lcs_make(&pair, LCS_WORDS - 1);
-    CHECK_WORD(zuvaropy_lcs(NULL, 0, NULL, 0, NULL, 0, NULL, 0), word_short(), 0);
-    CHECK_WORD(zuvaropy_lcs(a, pair.first.length, b, pair.second.length, NULL, 0, result, sizeof result), word_short(),
+    CHECK_WORD(call_lcs(NULL, 0, NULL, 0, NULL, 0, NULL, 0), word_short(), 0);
+    CHECK_WORD(call_lcs(a, pair.first.length, b, pair.second.length, NULL, 0, result, sizeof result), word_short(),
                1);
-    CHECK_WORD(zuvaropy_lcs(a, pair.first.length, b, pair.second.length, work, sizeof work, NULL, 0), word_short(), 2);
-    CHECK_WORD(zuvaropy_lcs(NULL, 0, NULL, 0, work, sizeof work, result, sizeof result), word_refusal(2, 0), 3);
-    CHECK_WORD(zuvaropy_lcs(NULL, 0, b, pair.second.length, work, sizeof work, result, sizeof result),
+    CHECK_WORD(call_lcs(a, pair.first.length, b, pair.second.length, work, sizeof work, NULL, 0), word_short(), 2);
+    CHECK_WORD(call_lcs(NULL, 0, NULL, 0, work, sizeof work, result, sizeof result), word_refusal(2, 0), 3);
+    CHECK_WORD(call_lcs(NULL, 0, b, pair.second.length, work, sizeof work, result, sizeof result),
                word_refusal(2, 0), 4);
-    CHECK_WORD(zuvaropy_lcs(a, pair.first.length, NULL, 0, work, sizeof work, result, sizeof result),
+    CHECK_WORD(call_lcs(a, pair.first.length, NULL, 0, work, sizeof work, result, sizeof result),
                word_second(2, 0), 5);
 }
 

@@ -4,6 +4,7 @@
  */
 
 #include "area.h"
+#include "calls.h"
 #include "check.h"
 #include "lcs.h"
 #include "pages.h"
@@ -35,8 +36,8 @@ static void check_pages(unsigned int last, size_t work_room, size_t result_room,
         pages_forbid_writing(&work);
     if (zuvaropy_outcome(wanted) == ZUVAROPY_OUTCOME_REFUSAL)
         pages_forbid_writing(&result);
-    CHECK_WORD(zuvaropy_lcs(first_at, pair.first.length, second_at, pair.second.length, work_at, work_room, result_at,
-                            result_room),
+    CHECK_WORD(call_lcs(first_at, pair.first.length, second_at, pair.second.length, work_at, work_room, result_at,
+                        result_room),
                wanted, last);
     CHECK(memcmp(result_at, pair.common.bytes, pair.common.length) == 0);
     CHECK(area_is_filled(result_at + pair.common.length, result_room - pair.common.length, PAGES_FILL));

@@ -2,6 +2,7 @@
  * Every length from nothing to past the longest picture, and no buffer at all.
  */
 
+#include "calls.h"
 #include "check.h"
 #include "picture.h"
 
@@ -40,8 +41,8 @@ static void test_nothing(void)
 {
     const uint8_t byte = ZUVAROPY_TAG_ROW;
 
-    CHECK_WORD(zuvaropy_validate(NULL, 0), word_refusal(2, 0), 0);
-    CHECK_WORD(zuvaropy_validate(&byte, 0), word_refusal(2, 0), 0);
+    CHECK_WORD(call_validate(NULL, 0), word_refusal(2, 0), 0);
+    CHECK_WORD(call_validate(&byte, 0), word_refusal(2, 0), 0);
 }
 
 int main(void)

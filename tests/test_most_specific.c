@@ -3,6 +3,7 @@
  * of one answer.
  */
 
+#include "calls.h"
 #include "check.h"
 #include "most_specific.h"
 #include "rows.h"
@@ -340,7 +341,7 @@ static void test_bytes(void)
     size_t i;
 
     memset(work, 0xA5, sizeof work);
-    CHECK_WORD(zuvaropy_most_specific(one, 51, book, 87, work, sizeof work), UINT64_C(0x0100000000000002), 0);
+    CHECK_WORD(call_most_specific(one, 51, book, 87, work, sizeof work), UINT64_C(0x0100000000000002), 0);
     for (i = 0; i < 12294 && work[i] == 0; i++)
         ;
     CHECK(i == 12294);

@@ -3,6 +3,7 @@
  * their bytes, and no buffer at all.
  */
 
+#include "calls.h"
 #include "check.h"
 #include "most_specific.h"
 #include "normalize.h"
@@ -80,13 +81,13 @@ static void test_shared(void)
 
     rows_picture(&card, ROWS(ROOT(NAME(3), 0)));
     book_copies(&lookup.book, &card, 1);
-    CHECK_WORD(zuvaropy_most_specific(file + 3, card.length, file, lookup.book.length, work, sizeof work),
+    CHECK_WORD(call_most_specific(file + 3, card.length, file, lookup.book.length, work, sizeof work),
                word_cards(1), 0);
-    CHECK_WORD(zuvaropy_most_specific(file + 3, card.length, file + 3 + card.length, 3, work, sizeof work),
+    CHECK_WORD(call_most_specific(file + 3, card.length, file + 3 + card.length, 3, work, sizeof work),
                word_cards(0), 1);
-    CHECK_WORD(zuvaropy_most_specific(file, lookup.book.length, file, lookup.book.length, work, sizeof work),
+    CHECK_WORD(call_most_specific(file, lookup.book.length, file, lookup.book.length, work, sizeof work),
                word_refusal(ZUVAROPY_QUESTION_TAG, 0), 2);
-    CHECK_WORD(zuvaropy_most_specific(file + 3, card.length, file + 3, card.length, work, sizeof work), word_book(), 3);
+    CHECK_WORD(call_most_specific(file + 3, card.length, file + 3, card.length, work, sizeof work), word_book(), 3);
 }
 
 static void test_nothing(void)
@@ -96,11 +97,11 @@ static void test_nothing(void)
     const struct book *book = &lookup.book;
 
     lookup_make(&lookup, LOOKUP_WORDS - 1);
-    CHECK_WORD(zuvaropy_most_specific(NULL, 0, NULL, 0, NULL, 0), word_short(), 0);
-    CHECK_WORD(zuvaropy_most_specific(one->bytes, one->length, book->bytes, book->length, NULL, 0), word_short(), 1);
-    CHECK_WORD(zuvaropy_most_specific(NULL, 0, NULL, 0, work, sizeof work), word_refusal(2, 0), 2);
-    CHECK_WORD(zuvaropy_most_specific(NULL, 0, book->bytes, book->length, work, sizeof work), word_refusal(2, 0), 3);
-    CHECK_WORD(zuvaropy_most_specific(one->bytes, one->length, NULL, 0, work, sizeof work), word_book(), 4);
+    CHECK_WORD(call_most_specific(NULL, 0, NULL, 0, NULL, 0), word_short(), 0);
+    CHECK_WORD(call_most_specific(one->bytes, one->length, book->bytes, book->length, NULL, 0), word_short(), 1);
+    CHECK_WORD(call_most_specific(NULL, 0, NULL, 0, work, sizeof work), word_refusal(2, 0), 2);
+    CHECK_WORD(call_most_specific(NULL, 0, book->bytes, book->length, work, sizeof work), word_refusal(2, 0), 3);
+    CHECK_WORD(call_most_specific(one->bytes, one->length, NULL, 0, work, sizeof work), word_book(), 4);
 }
 
 int main(void)

@@ -4,6 +4,7 @@
  */
 
 #include "area.h"
+#include "calls.h"
 #include "check.h"
 #include "most_specific.h"
 #include "pages.h"
@@ -27,7 +28,7 @@ static void check_pages(unsigned int last, size_t room, uint64_t wanted)
     pages_forbid_writing(&book);
     if (written == 0)
         pages_forbid_writing(&work);
-    CHECK_WORD(zuvaropy_most_specific(one_at, lookup.case_picture.length, book_at, lookup.book.length, work_at, room),
+    CHECK_WORD(call_most_specific(one_at, lookup.case_picture.length, book_at, lookup.book.length, work_at, room),
                wanted, last);
     CHECK(area_is_filled(work_at, written, 0));
     CHECK(area_is_filled(work_at + written, room - written, PAGES_FILL));

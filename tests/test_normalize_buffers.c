@@ -3,6 +3,7 @@
  * begin right after, or end right before, a page that may not be touched.
  */
 
+#include "calls.h"
 #include "check.h"
 #include "normal_reference.h"
 #include "normalize.h"
@@ -80,7 +81,7 @@ static void check_pages(uint8_t *picture, uint8_t *result, size_t room, uint64_t
     memset(result, 0xA5, room);
     if (refused)
         pages_forbid_writing(&output);
-    CHECK_WORD(zuvaropy_normalize(picture, p.length, result, room), wanted, p.length);
+    CHECK_WORD(call_normalize(picture, p.length, result, room), wanted, p.length);
     if (!refused)
         CHECK(memcmp(result, reference.bytes, reference.length) == 0);
 }
@@ -131,9 +132,9 @@ static void test_nothing(void)
     static uint8_t result[TABLE];
 
     picture_refused(&p, 0);
-    CHECK_WORD(zuvaropy_normalize(p.bytes, p.length, NULL, 0), word_short(), 0);
-    CHECK_WORD(zuvaropy_normalize(NULL, 0, NULL, 0), word_short(), 1);
-    CHECK_WORD(zuvaropy_normalize(NULL, 0, result, sizeof result), word_refusal(2, 0), 2);
+    CHECK_WORD(call_normalize(p.bytes, p.length, NULL, 0), word_short(), 0);
+    CHECK_WORD(call_normalize(NULL, 0, NULL, 0), word_short(), 1);
+    CHECK_WORD(call_normalize(NULL, 0, result, sizeof result), word_refusal(2, 0), 2);
 }
 
 int main(void)

@@ -7,6 +7,7 @@
 #include "zuvaropy_parts.h"
 #include "zuvaropy_parts.h" /* a second time: nothing may be declared twice */
 
+#include "calls.h"
 #include "check.h"
 
 /* Some successor by role 8 has names 3 and 63 and not name 8, and no successor by role 31 is there. */
@@ -96,7 +97,7 @@ static void test_writing_a_picture(void)
     CHECK(zuvaropy_write_end(&writer) == sizeof picture_bytes);
     CHECK(!writer.failed);
     CHECK(memcmp(bytes, picture_bytes, sizeof picture_bytes) == 0);
-    CHECK(zuvaropy_value(zuvaropy_validate(bytes, writer.length)) == 3);
+    CHECK(zuvaropy_value(call_validate(bytes, writer.length)) == 3);
 }
 
 static void test_writing_a_book(void)
@@ -108,7 +109,7 @@ static void test_writing_a_book(void)
     CHECK(zuvaropy_write_card(&writer, top_bytes, sizeof top_bytes) == 0);
     CHECK(zuvaropy_write_end(&writer) == ZUVAROPY_CARD_BYTES(sizeof top_bytes) + ZUVAROPY_HEAD_BYTES);
     CHECK(memcmp(bytes, book_bytes, ZUVAROPY_CARD_BYTES(sizeof top_bytes)) == 0);
-    word = zuvaropy_most_specific(picture_bytes, sizeof picture_bytes, bytes, writer.length, work, sizeof work);
+    word = call_most_specific(picture_bytes, sizeof picture_bytes, bytes, writer.length, work, sizeof work);
     CHECK(zuvaropy_outcome(word) == ZUVAROPY_OUTCOME_YES && zuvaropy_value(word) == 1);
 }
 
@@ -186,8 +187,8 @@ static void test_reading_a_work_space(void)
     uint64_t word;
 
     memcpy(work, picture_bytes, sizeof picture_bytes);
-    word = zuvaropy_subsumes(top_bytes, sizeof top_bytes, picture_bytes, sizeof picture_bytes, work, sizeof work,
-                             evidence, sizeof evidence);
+    word = call_subsumes(top_bytes, sizeof top_bytes, picture_bytes, sizeof picture_bytes, work, sizeof work,
+                         evidence, sizeof evidence);
     CHECK(zuvaropy_outcome(word) == ZUVAROPY_OUTCOME_NO);
     CHECK(zuvaropy_refutation_individuals(evidence, zuvaropy_value(word)) >= 1);
     CHECK(zuvaropy_table_rows(work, half) == 1);

@@ -7,6 +7,7 @@
 #include "zuvaropy_parts.h"
 
 #include "book.h"
+#include "calls.h"
 #include "check.h"
 #include "pages.h"
 #include "random.h"
@@ -67,7 +68,7 @@ static void test_pictures(void)
             failed++;
         } else {
             CHECK(length == p.length && memcmp(bytes, p.bytes, p.length) == 0);
-            CHECK_WORD(zuvaropy_validate(bytes, length), picture_validate(&p), turn);
+            CHECK_WORD(call_validate(bytes, length), picture_validate(&p), turn);
             written++;
         }
     }
@@ -99,8 +100,8 @@ static void test_books(void)
         CHECK(length == (count <= ZUVAROPY_MAX_CARDS ? wanted.length : 0));
         CHECK(memcmp(bytes, wanted.bytes, length) == 0);
         if (length > 0)
-            CHECK(zuvaropy_question(zuvaropy_most_specific(cards[0].bytes, cards[0].length, bytes, length, work,
-                                                           sizeof work)) != ZUVAROPY_QUESTION_BOOK);
+            CHECK(zuvaropy_question(call_most_specific(cards[0].bytes, cards[0].length, bytes, length, work,
+                                                       sizeof work)) != ZUVAROPY_QUESTION_BOOK);
     }
 }
 

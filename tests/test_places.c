@@ -5,6 +5,7 @@
  */
 
 #include "book.h"
+#include "calls.h"
 #include "check.h"
 #include "lcs.h"
 #include "rows.h"
@@ -38,19 +39,19 @@ static void check_place(uint64_t word, const struct place *place, unsigned int i
 
 static uint64_t subsumes(const struct picture *first, const struct picture *second)
 {
-    return zuvaropy_subsumes(first->bytes, first->length, second->bytes, second->length, work, sizeof work, result,
-                             sizeof result);
+    return call_subsumes(first->bytes, first->length, second->bytes, second->length, work, sizeof work, result,
+                         sizeof result);
 }
 
 static uint64_t lcs(const struct picture *first, const struct picture *second)
 {
-    return zuvaropy_lcs(first->bytes, first->length, second->bytes, second->length, work, sizeof work, result,
-                        sizeof result);
+    return call_lcs(first->bytes, first->length, second->bytes, second->length, work, sizeof work, result,
+                    sizeof result);
 }
 
 static uint64_t verify(const struct picture *first, const struct picture *second)
 {
-    return zuvaropy_verify(first->bytes, first->length, second->bytes, second->length, NULL, 0, work, sizeof work);
+    return call_verify(first->bytes, first->length, second->bytes, second->length, NULL, 0, work, sizeof work);
 }
 
 static void check_pair(const struct picture *first, const struct picture *second, const struct place *place,
@@ -63,8 +64,8 @@ static void check_pair(const struct picture *first, const struct picture *second
 
 static uint64_t most_specific(const struct picture *case_picture)
 {
-    return zuvaropy_most_specific(case_picture->bytes, case_picture->length, book.bytes, book.length, work,
-                                  sizeof work);
+    return call_most_specific(case_picture->bytes, case_picture->length, book.bytes, book.length, work,
+                              sizeof work);
 }
 
 /* A book of good cards of 1, 2, .. rows, so that each begins at a byte of its own. */
@@ -88,8 +89,8 @@ static void check_everywhere(const struct place *place, unsigned long at)
 {
     unsigned int card;
 
-    check_place(zuvaropy_validate(p.bytes, p.length), place, ZUVAROPY_INPUT_FIRST, 0, at);
-    check_place(zuvaropy_normalize(p.bytes, p.length, result, sizeof result), place, ZUVAROPY_INPUT_FIRST, 0, at);
+    check_place(call_validate(p.bytes, p.length), place, ZUVAROPY_INPUT_FIRST, 0, at);
+    check_place(call_normalize(p.bytes, p.length, result, sizeof result), place, ZUVAROPY_INPUT_FIRST, 0, at);
     check_pair(&p, &good, place, ZUVAROPY_INPUT_FIRST, at);
     check_pair(&good, &p, place, ZUVAROPY_INPUT_SECOND, at);
     check_pair(&merged, &p, place, ZUVAROPY_INPUT_SECOND, at);
@@ -180,7 +181,7 @@ static void test_every_length(void)
             check_everywhere(&parts[i].place, length);
         }
     p.length = 75;
-    CHECK_WORD(zuvaropy_validate(p.bytes, p.length), word_rows(3), 75);
+    CHECK_WORD(call_validate(p.bytes, p.length), word_rows(3), 75);
 }
 
 /* Of two pictures that are refused at different places, the place is that of the one that is refused first. */
@@ -220,15 +221,15 @@ static void test_buffers(void)
 
     make_book();
     make_refused(ZUVAROPY_QUESTION_TAG, 3);
-    check_none(zuvaropy_normalize(p.bytes, p.length, result, short_table), 1, 0, 0, 0);
-    check_none(zuvaropy_subsumes(p.bytes, p.length, p.bytes, p.length, work, sizeof work, result, sizeof result - 1),
+    check_none(call_normalize(p.bytes, p.length, result, short_table), 1, 0, 0, 0);
+    check_none(call_subsumes(p.bytes, p.length, p.bytes, p.length, work, sizeof work, result, sizeof result - 1),
                1, 0, 0, 1);
-    check_none(zuvaropy_subsumes(p.bytes, p.length, p.bytes, p.length, work, short_work, result, sizeof result), 1, 0,
+    check_none(call_subsumes(p.bytes, p.length, p.bytes, p.length, work, short_work, result, sizeof result), 1, 0,
                0, 2);
-    check_none(zuvaropy_lcs(p.bytes, p.length, p.bytes, p.length, work, sizeof work, result, short_table), 1, 0, 0, 3);
-    check_none(zuvaropy_lcs(p.bytes, p.length, p.bytes, p.length, work, short_work, result, sizeof result), 1, 0, 0, 4);
-    check_none(zuvaropy_verify(p.bytes, p.length, p.bytes, p.length, NULL, 0, work, short_work), 1, 0, 0, 5);
-    check_none(zuvaropy_most_specific(p.bytes, p.length, book.bytes, book.length, work, short_work), 1, 0, 0, 6);
+    check_none(call_lcs(p.bytes, p.length, p.bytes, p.length, work, sizeof work, result, short_table), 1, 0, 0, 3);
+    check_none(call_lcs(p.bytes, p.length, p.bytes, p.length, work, short_work, result, sizeof result), 1, 0, 0, 4);
+    check_none(call_verify(p.bytes, p.length, p.bytes, p.length, NULL, 0, work, short_work), 1, 0, 0, 5);
+    check_none(call_most_specific(p.bytes, p.length, book.bytes, book.length, work, short_work), 1, 0, 0, 6);
 }
 
 /* 14 of a picture that was read to its end, wherever it is given. */
@@ -237,7 +238,7 @@ static void test_merged(void)
     const struct place none = {ZUVAROPY_QUESTION_MERGED, 0, 0};
     unsigned int card;
 
-    check_place(zuvaropy_normalize(merged.bytes, merged.length, result, sizeof result), &none, ZUVAROPY_INPUT_FIRST, 0,
+    check_place(call_normalize(merged.bytes, merged.length, result, sizeof result), &none, ZUVAROPY_INPUT_FIRST, 0,
                 0);
     check_pair(&merged, &good, &none, ZUVAROPY_INPUT_FIRST, 1);
     check_pair(&good, &merged, &none, ZUVAROPY_INPUT_SECOND, 2);
@@ -265,8 +266,8 @@ static void test_evidence(void)
 
     for (question = ZUVAROPY_QUESTION_FORM; question <= ZUVAROPY_QUESTION_REFUTED; question++) {
         verify_make(&in, word_evidence(question));
-        check_none(zuvaropy_verify(in.first.bytes, in.first.length, in.second.bytes, in.second.length,
-                                   in.evidence.bytes, in.evidence.length, work, sizeof work),
+        check_none(call_verify(in.first.bytes, in.first.length, in.second.bytes, in.second.length,
+                               in.evidence.bytes, in.evidence.length, work, sizeof work),
                    question, ZUVAROPY_INPUT_EVIDENCE, 0, question);
     }
 }

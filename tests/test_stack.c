@@ -4,16 +4,18 @@
  * it took what has lost its paint. The recursions of the library go down the
  * pictures, so these are chains, up to the deepest: of 'some', of 'all' and of
  * both by turns. Pictures, evidence and books as large as allowed and pictures at
- * random take no more.
+ * random take no more. The same is done under definitions.
  */
 
 #define _XOPEN_SOURCE 600 /* makecontext */
 
 #include "book.h"
+#include "calls.h"
 #include "check.h"
 #include "evidence.h"
 #include "random.h"
 #include "rows.h"
+#include "under.h"
 
 #include <stdio.h>
 #include <string.h>
@@ -56,37 +58,37 @@ static size_t taken(void (*call)(void))
 
 static void validate(void)
 {
-    word = zuvaropy_validate(in.first.bytes, in.first.length);
+    word = call_validate(in.first.bytes, in.first.length);
 }
 
 static void normalize(void)
 {
     static uint8_t table[ZUVAROPY_MAX_PICTURE_BYTES];
 
-    word = zuvaropy_normalize(in.first.bytes, in.first.length, table, sizeof table);
+    word = call_normalize(in.first.bytes, in.first.length, table, sizeof table);
 }
 
 static uint8_t work[ZUVAROPY_WORK_BYTES];
 
 static void subsumes(void)
 {
-    word = zuvaropy_subsumes(in.first.bytes, in.first.length, in.second.bytes, in.second.length, work, sizeof work,
-                             in.evidence.bytes, ZUVAROPY_MAX_EVIDENCE_BYTES);
+    word = call_subsumes(in.first.bytes, in.first.length, in.second.bytes, in.second.length, work, sizeof work,
+                         in.evidence.bytes, ZUVAROPY_MAX_EVIDENCE_BYTES);
     in.evidence.length = zuvaropy_value(word);
 }
 
 static void verify(void)
 {
-    word = zuvaropy_verify(in.first.bytes, in.first.length, in.second.bytes, in.second.length, in.evidence.bytes,
-                           in.evidence.length, work, sizeof work);
+    word = call_verify(in.first.bytes, in.first.length, in.second.bytes, in.second.length, in.evidence.bytes,
+                       in.evidence.length, work, sizeof work);
 }
 
 static void lcs(void)
 {
     static uint8_t common[ZUVAROPY_MAX_PICTURE_BYTES];
 
-    word = zuvaropy_lcs(in.first.bytes, in.first.length, in.second.bytes, in.second.length, work, sizeof work, common,
-                        sizeof common);
+    word = call_lcs(in.first.bytes, in.first.length, in.second.bytes, in.second.length, work, sizeof work, common,
+                    sizeof common);
 }
 
 static struct book book;
@@ -100,22 +102,22 @@ static void make_book(void)
 
 static void most_specific(void)
 {
-    word = zuvaropy_most_specific(in.first.bytes, in.first.length, book.bytes, book.length, work, sizeof work);
+    word = call_most_specific(in.first.bytes, in.first.length, book.bytes, book.length, work, sizeof work);
 }
 
-/* The calls, what the header says of each, and the most that was measured. */
+/* The calls, what the header says of each, and the most that was measured: under no definitions, and under some. */
 enum { VALIDATE, NORMALIZE, SUBSUMES, VERIFY, LCS, MOST_SPECIFIC, CALLS };
 static struct {
     const char *name;
     void (*call)(void);
-    size_t stated, measured;
+    size_t stated, measured[2];
 } calls[CALLS] = {
-    {"zuvaropy_validate", validate, ZUVAROPY_VALIDATE_STACK_BYTES, 0},
-    {"zuvaropy_normalize", normalize, ZUVAROPY_NORMALIZE_STACK_BYTES, 0},
-    {"zuvaropy_subsumes", subsumes, ZUVAROPY_SUBSUMES_STACK_BYTES, 0},
-    {"zuvaropy_verify", verify, ZUVAROPY_VERIFY_STACK_BYTES, 0},
-    {"zuvaropy_lcs", lcs, ZUVAROPY_LCS_STACK_BYTES, 0},
-    {"zuvaropy_most_specific", most_specific, ZUVAROPY_MOST_SPECIFIC_STACK_BYTES, 0},
+    {"zuvaropy_validate", validate, ZUVAROPY_VALIDATE_STACK_BYTES, {0, 0}},
+    {"zuvaropy_normalize", normalize, ZUVAROPY_NORMALIZE_STACK_BYTES, {0, 0}},
+    {"zuvaropy_subsumes", subsumes, ZUVAROPY_SUBSUMES_STACK_BYTES, {0, 0}},
+    {"zuvaropy_verify", verify, ZUVAROPY_VERIFY_STACK_BYTES, {0, 0}},
+    {"zuvaropy_lcs", lcs, ZUVAROPY_LCS_STACK_BYTES, {0, 0}},
+    {"zuvaropy_most_specific", most_specific, ZUVAROPY_MOST_SPECIFIC_STACK_BYTES, {0, 0}},
 };
 
 /* The outcome of the call. */
@@ -123,9 +125,11 @@ static unsigned int measure(unsigned int n)
 {
     const size_t bytes = taken(calls[n].call);
 
+    const int under = calls_are_under();
+
     CHECK(bytes <= calls[n].stated);
-    if (bytes > calls[n].measured)
-        calls[n].measured = bytes;
+    if (bytes > calls[n].measured[under])
+        calls[n].measured[under] = bytes;
     return zuvaropy_outcome(word);
 }
 
@@ -252,6 +256,133 @@ static void test_random(void)
     }
 }
 
+/* Definitions */
+
+static struct book definitions;
+static struct picture defined;
+
+static void begin(void)
+{
+    book_clear(&definitions);
+}
+
+static void define(unsigned int name)
+{
+    book_definition(&definitions, name, &defined);
+}
+
+/* All calls from here on, but the plain test, are made under the definitions. */
+static void end(void)
+{
+    book_end(&definitions);
+    calls_under(definitions.bytes, definitions.length);
+}
+
+/* Chains whose upper part is the picture's own and whose lower part is defined, in one step and in many. */
+static void test_defined_chains(void)
+{
+    static const unsigned int kinds[] = {0, ~0u, 0x555, 0xAAA};
+    unsigned int own, i, n;
+
+    for (own = 0; own <= ZUVAROPY_MAX_DEPTH; own += 4)
+        for (i = 0; i < sizeof kinds / sizeof kinds[0]; i++) {
+            begin();
+            make_chain(&defined, ZUVAROPY_MAX_DEPTH - own, kinds[i], NAME(0));
+            define(5);
+            end();
+            make_chain(&in.first, own, kinds[i], NAME(5));
+            in.second = in.first;
+            check_calls(ZUVAROPY_OUTCOME_YES, ZUVAROPY_OUTCOME_YES);
+            make_chain(&in.second, ZUVAROPY_MAX_DEPTH, kinds[i], NAME(1));
+            check_calls(ZUVAROPY_OUTCOME_NO, ZUVAROPY_OUTCOME_YES);
+        }
+    begin();
+    for (n = 0; n < ZUVAROPY_MAX_DEFINITIONS; n++) {
+        make_chain(&defined, n < ZUVAROPY_MAX_DEPTH, 0, n < 31 ? NAME(32 + n) : 0);
+        define(n < 31 ? 31 + n : 62);
+    }
+    end();
+    make_chain(&in.first, 0, 0, NAME(31));
+    in.second = in.first;
+    check_calls(ZUVAROPY_OUTCOME_YES, ZUVAROPY_OUTCOME_YES);
+}
+
+/* As many rows as allowed, gained by one row and by as many as there are. */
+static void test_defined_rows(void)
+{
+    unsigned int n;
+
+    begin();
+    picture_fan(&defined, ZUVAROPY_MAX_ROWS - 1);
+    picture_end(&defined);
+    define(5);
+    rows_picture(&defined, ROWS(ROOT(0, 0), SOME(0, 0, 0, 0)));
+    define(6);
+    for (n = 10; n < 40; n++) {
+        rows_picture(&defined, ROWS(ROOT(NAME(n + 1), 0)));
+        define(n);
+    }
+    end();
+    rows_picture(&in.first, ROWS(ROOT(NAME(5) | NAME(10), 0), SOME(0, 0, 0, 0)));
+    in.second = in.first;
+    check_calls(ZUVAROPY_OUTCOME_YES, ZUVAROPY_OUTCOME_REFUSAL);
+    picture_fan(&in.first, ZUVAROPY_MAX_ROWS / 2);
+    picture_end(&in.first);
+    for (n = 0; n < ZUVAROPY_MAX_ROWS / 2; n++)
+        picture_value(&in.first, n)[ZUVAROPY_WANTED_AT + 7] = 1 << 6;
+    in.second = in.first;
+    check_calls(ZUVAROPY_OUTCOME_YES, ZUVAROPY_OUTCOME_REFUSAL);
+}
+
+/* Each refusal, by a book of as many definitions as allowed. */
+static void test_defined_refusals(void)
+{
+    unsigned int question, n;
+
+    for (question = ZUVAROPY_QUESTION_DEFINITIONS; question <= ZUVAROPY_QUESTION_UNFOLDED_DEPTH; question++) {
+        begin();
+        for (n = 0; n < ZUVAROPY_MAX_DEFINITIONS; n++) {
+            picture_fan(&defined, question == ZUVAROPY_QUESTION_UNFOLDED ? 200 : 3);
+            picture_label(&defined, NAME(n + 1), 0, 0);
+            if (question == ZUVAROPY_QUESTION_RING && n == 31)
+                picture_label(&defined, NAME(0), 0, 0);
+            if (question == ZUVAROPY_QUESTION_EXCLUDED && n == 31)
+                picture_label(&defined, 0, NAME(0), 0);
+            picture_end(&defined);
+            define(question == ZUVAROPY_QUESTION_DEFINED_TWICE && n == 31 ? 0 : n);
+        }
+        end();
+        if (question == ZUVAROPY_QUESTION_DEFINITIONS)
+            definitions.bytes[definitions.length - 1] = 1;
+        make_chain(&in.first, 1, 0, NAME(0));
+        in.second = in.first;
+        make_book();
+        for (n = NORMALIZE; n < CALLS; n++) {
+            CHECK(measure(n) == ZUVAROPY_OUTCOME_REFUSAL);
+            CHECK(zuvaropy_question(word) == question);
+        }
+    }
+}
+
+static void test_defined_random(void)
+{
+    struct defined names;
+    struct shape shape;
+    unsigned int i, n;
+
+    for (i = 0; i < PAIRS_AT_RANDOM; i++) {
+        shape = random_shape();
+        random_pair(&in.first, &in.second, &shape);
+        random_definitions(&definitions, &names, &shape);
+        random_mention(&in.first, &names, 2);
+        random_mention(&in.second, &names, 2);
+        calls_under(definitions.bytes, definitions.length);
+        make_book();
+        for (n = 0; n < CALLS; n++)
+            measure(n);
+    }
+}
+
 static void nothing(void)
 {
 }
@@ -283,8 +414,13 @@ int main(void)
     test_merged();
     test_individuals();
     test_random();
+    test_defined_chains();
+    test_defined_rows();
+    test_defined_refusals();
+    test_defined_random();
     for (n = 0; n < CALLS; n++)
-        printf("%s: %lu bytes of stack, at most %lu stated\n", calls[n].name, (unsigned long)calls[n].measured,
+        printf("%s: %lu bytes of stack, %lu under definitions, at most %lu stated\n", calls[n].name,
+               (unsigned long)calls[n].measured[0], (unsigned long)calls[n].measured[1],
                (unsigned long)calls[n].stated);
     return check_summary("stack");
 }

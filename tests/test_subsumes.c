@@ -3,6 +3,7 @@
  * and the exact bytes of one answer.
  */
 
+#include "calls.h"
 #include "check.h"
 #include "rows.h"
 #include "subsumes.h"
@@ -164,7 +165,7 @@ static void test_bytes(void)
     memset(result, 0xA5, sizeof result);
     row_list_picture(&in.first, &verdicts[0].first);
     row_list_picture(&in.second, &verdicts[0].second);
-    CHECK_WORD(zuvaropy_subsumes(in.first.bytes, 51, in.second.bytes, 75, work, sizeof work, result, sizeof result),
+    CHECK_WORD(call_subsumes(in.first.bytes, 51, in.second.bytes, 75, work, sizeof work, result, sizeof result),
                UINT64_C(0x010000000000000C), 0);
     CHECK(memcmp(result, map, sizeof map) == 0);
     for (i = sizeof map; i < sizeof result && result[i] == 0xA5; i++)

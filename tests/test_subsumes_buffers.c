@@ -3,6 +3,7 @@
  * their bytes, and no buffer at all.
  */
 
+#include "calls.h"
 #include "check.h"
 #include "normalize.h"
 #include "rows.h"
@@ -90,8 +91,8 @@ static void test_halves(void)
         picture_fan(&in.second, ZUVAROPY_MAX_ROWS + 1 - rows);
         picture_end(&in.second);
         memset(work, 0xA5, sizeof work);
-        CHECK(zuvaropy_outcome(zuvaropy_subsumes(in.first.bytes, in.first.length, in.second.bytes, in.second.length,
-                                                 work, sizeof work, result, sizeof result)) !=
+        CHECK(zuvaropy_outcome(call_subsumes(in.first.bytes, in.first.length, in.second.bytes, in.second.length,
+                                             work, sizeof work, result, sizeof result)) !=
               ZUVAROPY_OUTCOME_REFUSAL);
         normalize_check_half(work, &in.first);
         normalize_check_half(work + 6147, &in.second);
@@ -105,16 +106,16 @@ static void test_shared(void)
     const uint8_t *file = in.first.bytes;
 
     rows_picture(&in.first, ROWS(ROOT(0, 0), SOME(0, R, NAME(3), 0)));
-    CHECK_WORD(zuvaropy_subsumes(file, in.first.length, file, in.first.length, work, sizeof work, result,
-                                 sizeof result),
+    CHECK_WORD(call_subsumes(file, in.first.length, file, in.first.length, work, sizeof work, result,
+                             sizeof result),
                word_yes(2), 0);
     normalize_check_half(work, &in.first);
     normalize_check_half(work + 6147, &in.first);
-    CHECK_WORD(zuvaropy_subsumes(file, in.first.length, file + ZUVAROPY_ROW_BYTES, in.first.length - ZUVAROPY_ROW_BYTES,
-                                 work, sizeof work, result, sizeof result),
+    CHECK_WORD(call_subsumes(file, in.first.length, file + ZUVAROPY_ROW_BYTES, in.first.length - ZUVAROPY_ROW_BYTES,
+                             work, sizeof work, result, sizeof result),
                word_second(9, 0), 1);
-    CHECK_WORD(zuvaropy_subsumes(file + ZUVAROPY_ROW_BYTES, in.first.length - ZUVAROPY_ROW_BYTES, file, in.first.length,
-                                 work, sizeof work, result, sizeof result),
+    CHECK_WORD(call_subsumes(file + ZUVAROPY_ROW_BYTES, in.first.length - ZUVAROPY_ROW_BYTES, file, in.first.length,
+                             work, sizeof work, result, sizeof result),
                word_refusal(9, 0), 2);
 }
 
@@ -124,14 +125,14 @@ static void test_nothing(void)
     const uint8_t *a = in.first.bytes, *b = in.second.bytes;
 
     make_word(PICTURE_WORDS);
-    CHECK_WORD(zuvaropy_subsumes(NULL, 0, NULL, 0, NULL, 0, NULL, 0), word_short(), 0);
-    CHECK_WORD(zuvaropy_subsumes(a, in.first.length, b, in.second.length, NULL, 0, result, sizeof result), word_short(),
+    CHECK_WORD(call_subsumes(NULL, 0, NULL, 0, NULL, 0, NULL, 0), word_short(), 0);
+    CHECK_WORD(call_subsumes(a, in.first.length, b, in.second.length, NULL, 0, result, sizeof result), word_short(),
                1);
-    CHECK_WORD(zuvaropy_subsumes(a, in.first.length, b, in.second.length, work, sizeof work, NULL, 0), word_short(), 2);
-    CHECK_WORD(zuvaropy_subsumes(NULL, 0, NULL, 0, work, sizeof work, result, sizeof result), word_refusal(2, 0), 3);
-    CHECK_WORD(zuvaropy_subsumes(NULL, 0, b, in.second.length, work, sizeof work, result, sizeof result),
+    CHECK_WORD(call_subsumes(a, in.first.length, b, in.second.length, work, sizeof work, NULL, 0), word_short(), 2);
+    CHECK_WORD(call_subsumes(NULL, 0, NULL, 0, work, sizeof work, result, sizeof result), word_refusal(2, 0), 3);
+    CHECK_WORD(call_subsumes(NULL, 0, b, in.second.length, work, sizeof work, result, sizeof result),
                word_refusal(2, 0), 4);
-    CHECK_WORD(zuvaropy_subsumes(a, in.first.length, NULL, 0, work, sizeof work, result, sizeof result),
+    CHECK_WORD(call_subsumes(a, in.first.length, NULL, 0, work, sizeof work, result, sizeof result),
                word_second(2, 0), 5);
 }
 

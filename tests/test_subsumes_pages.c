@@ -4,6 +4,7 @@
  */
 
 #include "area.h"
+#include "calls.h"
 #include "check.h"
 #include "pages.h"
 #include "rows.h"
@@ -36,8 +37,8 @@ static void check_pages(unsigned int last, size_t work_room, size_t result_room,
         pages_forbid_writing(&work);
         pages_forbid_writing(&result);
     }
-    CHECK_WORD(zuvaropy_subsumes(first_at, in.first.length, second_at, in.second.length, work_at, work_room, result_at,
-                                 result_room),
+    CHECK_WORD(call_subsumes(first_at, in.first.length, second_at, in.second.length, work_at, work_room, result_at,
+                             result_room),
                verdict, last);
     CHECK(memcmp(result_at, in.evidence.bytes, in.evidence.length) == 0);
     CHECK(area_is_filled(result_at + in.evidence.length, result_room - in.evidence.length, PAGES_FILL));

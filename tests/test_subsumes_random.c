@@ -4,6 +4,7 @@
  * tests the same pictures.
  */
 
+#include "calls.h"
 #include "check.h"
 #include "random.h"
 #include "subsumes.h"
@@ -48,7 +49,7 @@ static void check_normal(const struct picture *p, unsigned long at)
 {
     static struct picture table;
 
-    table.length = zuvaropy_value(zuvaropy_normalize(p->bytes, p->length, table.bytes, ZUVAROPY_MAX_PICTURE_BYTES));
+    table.length = zuvaropy_value(call_normalize(p->bytes, p->length, table.bytes, ZUVAROPY_MAX_PICTURE_BYTES));
     if (subsumes(p, &table, at) != ZUVAROPY_OUTCOME_REFUSAL) { /* by 14, of the table */
         CHECK(subsumes(p, &table, at) == ZUVAROPY_OUTCOME_YES);
         CHECK(subsumes(&table, p, at) == ZUVAROPY_OUTCOME_YES);

@@ -3,6 +3,7 @@
  * their bytes, and no buffer at all.
  */
 
+#include "calls.h"
 #include "check.h"
 #include "normalize.h"
 #include "rows.h"
@@ -52,8 +53,8 @@ static void check_halves(uint64_t wanted)
     static uint8_t work[WORK];
 
     memset(work, 0xA5, sizeof work);
-    CHECK_WORD(zuvaropy_verify(in.first.bytes, in.first.length, in.second.bytes, in.second.length, in.evidence.bytes,
-                               in.evidence.length, work, sizeof work),
+    CHECK_WORD(call_verify(in.first.bytes, in.first.length, in.second.bytes, in.second.length, in.evidence.bytes,
+                           in.evidence.length, work, sizeof work),
                wanted, in.first.length);
     normalize_check_half(work, &in.first);
     normalize_check_half(work + 6147, &in.second);
@@ -89,15 +90,15 @@ static void test_shared(void)
 
     rows_picture(&in.first, ROWS(ROOT(0, 0), SOME(0, R, NAME(3), 0)));
     evidence_map(&in.evidence, IMAGES(0, 1));
-    CHECK_WORD(zuvaropy_verify(file, in.first.length, file, in.first.length, in.evidence.bytes, in.evidence.length,
-                               work, sizeof work),
+    CHECK_WORD(call_verify(file, in.first.length, file, in.first.length, in.evidence.bytes, in.evidence.length,
+                           work, sizeof work),
                word_map_taken(), 0);
     normalize_check_half(work, &in.first);
     normalize_check_half(work + 6147, &in.first);
-    CHECK_WORD(zuvaropy_verify(file, in.first.length, file, in.first.length, file, in.first.length, work, sizeof work),
+    CHECK_WORD(call_verify(file, in.first.length, file, in.first.length, file, in.first.length, work, sizeof work),
                word_evidence(16), 1);
-    CHECK_WORD(zuvaropy_verify(file, in.first.length, file + ZUVAROPY_ROW_BYTES, in.first.length - ZUVAROPY_ROW_BYTES,
-                               file, in.first.length, work, sizeof work),
+    CHECK_WORD(call_verify(file, in.first.length, file + ZUVAROPY_ROW_BYTES, in.first.length - ZUVAROPY_ROW_BYTES,
+                           file, in.first.length, work, sizeof work),
                word_second(9, 0), 2);
 }
 
@@ -109,13 +110,13 @@ static void test_nothing(void)
     verify_make(&in, word_map_taken());
     a = in.first.bytes;
     b = in.second.bytes;
-    CHECK_WORD(zuvaropy_verify(NULL, 0, NULL, 0, NULL, 0, NULL, 0), word_short(), 0);
-    CHECK_WORD(zuvaropy_verify(a, in.first.length, b, in.second.length, in.evidence.bytes, in.evidence.length, NULL, 0),
+    CHECK_WORD(call_verify(NULL, 0, NULL, 0, NULL, 0, NULL, 0), word_short(), 0);
+    CHECK_WORD(call_verify(a, in.first.length, b, in.second.length, in.evidence.bytes, in.evidence.length, NULL, 0),
                word_short(), 1);
-    CHECK_WORD(zuvaropy_verify(NULL, 0, NULL, 0, NULL, 0, work, sizeof work), word_refusal(2, 0), 2);
-    CHECK_WORD(zuvaropy_verify(NULL, 0, b, in.second.length, NULL, 0, work, sizeof work), word_refusal(2, 0), 3);
-    CHECK_WORD(zuvaropy_verify(a, in.first.length, NULL, 0, NULL, 0, work, sizeof work), word_second(2, 0), 4);
-    CHECK_WORD(zuvaropy_verify(a, in.first.length, b, in.second.length, NULL, 0, work, sizeof work), word_evidence(16),
+    CHECK_WORD(call_verify(NULL, 0, NULL, 0, NULL, 0, work, sizeof work), word_refusal(2, 0), 2);
+    CHECK_WORD(call_verify(NULL, 0, b, in.second.length, NULL, 0, work, sizeof work), word_refusal(2, 0), 3);
+    CHECK_WORD(call_verify(a, in.first.length, NULL, 0, NULL, 0, work, sizeof work), word_second(2, 0), 4);
+    CHECK_WORD(call_verify(a, in.first.length, b, in.second.length, NULL, 0, work, sizeof work), word_evidence(16),
                5);
 }
 

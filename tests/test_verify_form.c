@@ -3,6 +3,7 @@
  * number of its fields, or what follows its end field.
  */
 
+#include "calls.h"
 #include "check.h"
 #include "rows.h"
 #include "verify.h"
@@ -249,8 +250,8 @@ static void test_most(void)
         uint8_t *end = large + (size_t)i * ZUVAROPY_INDIVIDUAL_BYTES;
 
         memcpy(end, evidence_field(&in.evidence, 3), ZUVAROPY_HEAD_BYTES);
-        CHECK_WORD(zuvaropy_verify(in.first.bytes, in.first.length, in.second.bytes, in.second.length, large,
-                                   ZUVAROPY_REFUTATION_BYTES((size_t)i), work, sizeof work),
+        CHECK_WORD(call_verify(in.first.bytes, in.first.length, in.second.bytes, in.second.length, large,
+                               ZUVAROPY_REFUTATION_BYTES((size_t)i), work, sizeof work),
                    word_evidence(16), i);
         memcpy(end, evidence_field(&in.evidence, 2), ZUVAROPY_HEAD_BYTES);
     }

@@ -3,6 +3,7 @@
  * before, a page that may not be touched.
  */
 
+#include "calls.h"
 #include "check.h"
 #include "pages.h"
 #include "rows.h"
@@ -30,8 +31,8 @@ static void check_pages(unsigned int last, size_t room, const uint8_t *wanted_wo
     pages_forbid_writing(&evidence);
     if (room < WORK || !word_writes(wanted))
         pages_forbid_writing(&output);
-    CHECK_WORD(zuvaropy_verify(first_at, in.first.length, second_at, in.second.length, evidence_at, in.evidence.length,
-                               work, room),
+    CHECK_WORD(call_verify(first_at, in.first.length, second_at, in.second.length, evidence_at, in.evidence.length,
+                           work, room),
                wanted, last);
     CHECK(memcmp(work, wanted_work, room) == 0);
 }

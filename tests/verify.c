@@ -1,6 +1,7 @@
 #include "verify.h"
 
 #include "area.h"
+#include "calls.h"
 #include "check.h"
 #include "normalize.h"
 #include "rows.h"
@@ -21,8 +22,8 @@ static uint64_t verify_area(const struct inputs *in, unsigned long at)
     memcpy(before.first.bytes, in->first.bytes, in->first.length);
     memcpy(before.second.bytes, in->second.bytes, in->second.length);
     memcpy(before.evidence.bytes, in->evidence.bytes, in->evidence.length);
-    word = zuvaropy_verify(in->first.bytes, in->first.length, in->second.bytes, in->second.length, in->evidence.bytes,
-                           in->evidence.length, area_lent(&work), work.room);
+    word = call_verify(in->first.bytes, in->first.length, in->second.bytes, in->second.length, in->evidence.bytes,
+                       in->evidence.length, area_lent(&work), work.room);
     CHECK(memcmp(before.first.bytes, in->first.bytes, in->first.length) == 0);
     CHECK(memcmp(before.second.bytes, in->second.bytes, in->second.length) == 0);
     CHECK(memcmp(before.evidence.bytes, in->evidence.bytes, in->evidence.length) == 0);
@@ -144,5 +145,8 @@ uint64_t word_of_pictures(uint64_t first, uint64_t second)
 
 int word_writes(uint64_t word)
 {
-    return zuvaropy_outcome(word) != ZUVAROPY_OUTCOME_REFUSAL || zuvaropy_question(word) >= ZUVAROPY_QUESTION_COMMON;
+    const unsigned int question = zuvaropy_question(word);
+
+    return zuvaropy_outcome(word) != ZUVAROPY_OUTCOME_REFUSAL ||
+           (question >= ZUVAROPY_QUESTION_COMMON && question <= ZUVAROPY_QUESTION_REFUTED);
 }

@@ -1,5 +1,6 @@
 #include "verify_reference.h"
 
+#include "definitions_reference.h"
 #include "normal_reference.h"
 #include "reference.h"
 #include "rows.h"
@@ -235,7 +236,9 @@ uint64_t reference_verify(const uint8_t *first, size_t first_len, const uint8_t 
                           const uint8_t *evidence, size_t evidence_len, uint8_t *work, size_t work_len)
 {
     static struct normal_reference first_table, second_table;
+    static struct picture one, two;
     struct reference read;
+    uint64_t word;
 
     if (work_len < ZUVAROPY_WORK_BYTES)
         return refusal(ZUVAROPY_INPUT_BUFFER, ZUVAROPY_QUESTION_BUFFER);
@@ -245,18 +248,23 @@ uint64_t reference_verify(const uint8_t *first, size_t first_len, const uint8_t 
     read = reference_read(second, second_len);
     if (read.question != 0)
         return refusal(ZUVAROPY_INPUT_SECOND, read.question) | reference_place(&read);
-    normal_reference(&first_table, first, first_len);
+    word = reference_definitions_two(first, first_len, second, second_len);
+    if (word != 0)
+        return word;
+    reference_unfold(&one, first, first_len);
+    reference_unfold(&two, second, second_len);
+    normal_reference(&first_table, one.bytes, one.length);
     if (first_table.question != 0)
         return refusal(ZUVAROPY_INPUT_FIRST, first_table.question);
-    normal_reference(&second_table, second, second_len);
+    normal_reference(&second_table, two.bytes, two.length);
     if (second_table.question != 0)
         return refusal(ZUVAROPY_INPUT_SECOND, second_table.question);
 
     memset(work, 0, ZUVAROPY_WORK_BYTES);
     memcpy(work, first_table.bytes, first_table.length);
     memcpy(work + ZUVAROPY_SECOND_TABLE_AT, second_table.bytes, second_table.length);
-    read_table(&first_picture, first, first_len);
-    read_table(&second_picture, second, second_len);
+    read_table(&first_picture, one.bytes, one.length);
+    read_table(&second_picture, two.bytes, two.length);
     read_table(&first_normal, first_table.bytes, first_table.length);
     read_table(&second_normal, second_table.bytes, second_table.length);
     return ask_evidence(evidence, evidence_len);

@@ -1,7 +1,8 @@
 /*
  * A second checker of evidence to compare the library with: the questions as
  * they stand, with no regard to speed. Whether an individual is an instance is
- * found by the rows of the pictures themselves, not by their normal tables.
+ * found by the rows of the pictures themselves, unfolded, not by their normal
+ * tables. The definitions are those that the calls are made under.
  */
 
 #ifndef VERIFY_REFERENCE_H

@@ -1,5 +1,6 @@
 #include "witness.h"
 
+#include "definitions_reference.h"
 #include "normal_reference.h"
 #include "rows.h"
 
@@ -19,8 +20,10 @@ static void read_normal(struct table *table, const struct picture *p)
 {
     static const struct row nothing = ROOT(0, 0);
     static struct normal_reference normal;
+    static struct picture unfolded;
 
-    normal_reference(&normal, p->bytes, p->length);
+    reference_unfold(&unfolded, p->bytes, p->length);
+    normal_reference(&normal, unfolded.bytes, unfolded.length);
     assert(normal.question == 0);
     table->rows = (unsigned int)(normal.length / ZUVAROPY_ROW_BYTES);
     rows_read(table->row, normal.bytes, table->rows);

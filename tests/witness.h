@@ -10,7 +10,8 @@
 
 #include <stdbool.h>
 
-/* For the pictures of the inputs, which must have normal tables. True if it is a map. */
+/* For the pictures of the inputs, which must have normal tables under the
+ * definitions that the calls are made under. True if it is a map. */
 bool witness_make(struct inputs *in);
 
 #endif

@@ -26,8 +26,9 @@ struct corpus {
 /* Keeps a copy, if there is room. */
 void corpus_add(struct corpus *corpus, const uint8_t *bytes, size_t length);
 
-/* All seeds. The files are pictures, evidence and books, told apart by their
- * suffixes; each set of them that the call takes is a seed. */
+/* All seeds. The files are pictures, evidence, books and definitions, told apart
+ * by their suffixes; each set of them that the call takes is a seed, but with one
+ * of the definitions or none. */
 void corpus_seed(struct corpus *corpus, char *const *files, int count);
 
 /* A new input: one that is kept with a few changes. Its length; the bytes have

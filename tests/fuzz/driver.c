@@ -3,7 +3,7 @@
  * from them. One that shows something new is kept, and others are made from it.
  * The seed of the random numbers is fixed: every run makes the same inputs.
  *
- *   fuzz_CALL RUNS FILE..           the bounded run; the files are sample pictures, evidence and books
+ *   fuzz_CALL RUNS FILE..           the bounded run; the files are sample pictures, evidence, books and definitions
  *   fuzz_CALL --write FOLDER FILE.. the seeds as files, for libFuzzer
  *   fuzz_CALL --input FILE          one input, as libFuzzer or a run before has left it
  *

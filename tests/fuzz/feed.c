@@ -1,7 +1,9 @@
 #include "feed.h"
 
+#include "calls.h"
 #include "feed_rows.h"
 #include "rows.h"
+#include "under.h"
 
 #include <string.h>
 
@@ -78,7 +80,7 @@ static void feed_map(struct feed *feed, struct inputs *in)
     static uint8_t table[ZUVAROPY_MAX_PICTURE_BYTES];
     unsigned int images[ZUVAROPY_MAX_ROWS + 1], rows, row;
 
-    rows = zuvaropy_value(zuvaropy_normalize(in->second.bytes, in->second.length, table, sizeof table));
+    rows = zuvaropy_value(call_normalize(in->second.bytes, in->second.length, table, sizeof table));
     rows = rows / ZUVAROPY_ROW_BYTES + feed_byte(feed) / 0xF0;
     for (row = 0; row < rows; row++)
         images[row] = feed_byte(feed);
@@ -107,8 +109,8 @@ static void write_evidence(struct evidence *e, const struct picture *first, cons
 {
     static uint8_t work[ZUVAROPY_WORK_BYTES];
 
-    e->length = zuvaropy_value(zuvaropy_subsumes(first->bytes, first->length, second->bytes, second->length, work,
-                                                 sizeof work, e->bytes, ZUVAROPY_MAX_EVIDENCE_BYTES));
+    e->length = zuvaropy_value(call_subsumes(first->bytes, first->length, second->bytes, second->length, work,
+                                             sizeof work, e->bytes, ZUVAROPY_MAX_EVIDENCE_BYTES));
 }
 
 void feed_evidence(struct feed *feed, struct inputs *in)
@@ -156,4 +158,34 @@ void feed_book(struct feed *feed, struct lookup *l)
     }
     if (form >= FEED_DAMAGED)
         feed_damage(feed, l->book.bytes, &l->book.length, sizeof l->book.bytes);
+}
+
+/* A name, mostly one that there is. */
+static unsigned int feed_name(struct feed *feed)
+{
+    const unsigned int choice = feed_byte(feed);
+
+    return choice == 0xFF ? ZUVAROPY_NAMES : choice % ZUVAROPY_NAMES;
+}
+
+void feed_definitions(struct feed *feed, struct book *b)
+{
+    static struct picture picture;
+    const unsigned int form = feed_byte(feed);
+    unsigned int count, name;
+
+    book_clear(b);
+    if (form != FEED_NONE && form % FEED_FORMS == FEED_RAW) {
+        b->length = feed_raw(feed, b->bytes, sizeof b->bytes);
+    } else {
+        count = form == FEED_NONE ? 0 : feed_byte(feed) % (ZUVAROPY_MAX_DEFINITIONS + 2);
+        for (picture_clear(&picture); count > 0 && feed->left > 0; count--) {
+            name = feed_name(feed);
+            feed_picture(feed, &picture, form & FEED_FORMS ? &picture : NULL);
+            book_definition(b, name, &picture);
+        }
+        book_end(b);
+    }
+    if (form >= FEED_DAMAGED)
+        feed_damage(feed, b->bytes, &b->length, sizeof b->bytes);
 }

@@ -44,4 +44,10 @@ void feed_evidence(struct feed *feed, struct inputs *in);
 /* A book for the case that is there. */
 void feed_book(struct feed *feed, struct lookup *l);
 
+/* Definitions. The first byte of their part is FEED_NONE where there are none, so
+ * that there are none after the last choice. */
+#define FEED_NONE 0
+#define FEED_RAW_DEFINITIONS FEED_FORMS
+void feed_definitions(struct feed *feed, struct book *b);
+
 #endif

@@ -1,5 +1,6 @@
 #include "feed_rows.h"
 
+#include "calls.h"
 #include "rows.h"
 
 #include <string.h>
@@ -107,7 +108,7 @@ void feed_like(struct feed *feed, struct picture *p, const struct picture *other
 {
     unsigned int changes;
 
-    if (other == NULL || zuvaropy_outcome(zuvaropy_validate(other->bytes, other->length)) != ZUVAROPY_OUTCOME_YES) {
+    if (other == NULL || zuvaropy_outcome(call_validate(other->bytes, other->length)) != ZUVAROPY_OUTCOME_YES) {
         feed_rows(feed, p);
         return;
     }

@@ -1,12 +1,13 @@
 #include "fuzz.h"
 
+#include "calls.h"
 #include "check.h"
 
 #include <stdio.h>
 #include <stdlib.h>
 
-#define QUESTIONS (ZUVAROPY_QUESTION_BOOK + 1)
-#define INPUTS (ZUVAROPY_INPUT_CARD + 1)
+#define QUESTIONS (ZUVAROPY_QUESTION_UNFOLDED_DEPTH + 1)
+#define INPUTS (ZUVAROPY_INPUT_DEFINITION + 1)
 #define FEATURE_NUMBERS (FUZZ_COUNTERS / 8)
 
 /* libFuzzer takes the bytes of this section for counters of its own. */
@@ -27,6 +28,22 @@ void fuzz_lend(struct feed *feed, struct lent *work, struct lent *result, size_t
         lent_writable(work, &choices, ZUVAROPY_WORK_BYTES);
     if (result != NULL)
         lent_writable(result, &choices, result_needed);
+}
+
+void fuzz_definitions(struct feed *feed, struct lent *definitions)
+{
+    static struct book book;
+
+    feed_definitions(feed, &book);
+    lent_file(definitions, book.bytes, book.length);
+    calls_under(definitions->bytes, definitions->length);
+}
+
+void fuzz_return_definitions(struct lent *definitions)
+{
+    CHECK(lent_is_kept(definitions, 0));
+    calls_under_none();
+    lent_return(definitions);
 }
 
 void fuzz_met(enum feature feature, unsigned int number)
@@ -67,16 +84,18 @@ static void check_place(uint64_t word)
 
 static void check_refusal(uint64_t word)
 {
-    const unsigned int question = zuvaropy_question(word), input = zuvaropy_input(word), card = zuvaropy_card(word);
+    const unsigned int question = zuvaropy_question(word), input = zuvaropy_input(word);
+    const unsigned int number = (unsigned int)(word >> ZUVAROPY_CARD_SHIFT & 0xFF);
 
     check_place(word);
-    CHECK(card < ZUVAROPY_MAX_CARDS && (card == 0 || input == ZUVAROPY_INPUT_CARD));
+    CHECK(number < ZUVAROPY_MAX_CARDS);
+    CHECK(number == zuvaropy_card(word) + zuvaropy_definition(word)); /* one of them, or neither */
     CHECK(can_refuse(question, input));
     if (!can_refuse(question, input))
         return;
     refused[question][input]++;
     fuzz_met(FEATURE_REFUSAL, question * INPUTS + input);
-    fuzz_met(FEATURE_CARD, question * ZUVAROPY_MAX_CARDS + card);
+    fuzz_met(FEATURE_CARD, question * ZUVAROPY_MAX_CARDS + number);
 }
 
 void fuzz_check_word(uint64_t word)

@@ -16,12 +16,22 @@ struct refusable {
 
 struct target {
     const char *name;
-    const char *inputs;                /* a letter for each: picture, evidence, book */
+    const char *inputs;                /* a letter for each: picture, evidence, book, definitions */
     const struct refusable *refusable; /* all that the call can refuse; the last is {0, 0, 0} */
     unsigned int outcomes;             /* answers: ZUVAROPY_OUTCOME_YES, or NO for both */
 };
 
 extern const struct target fuzz_target;
+
+/* What definitions can be refused by, and a picture because of them. */
+#define DEFINITIONS_REFUSABLE                                                                                          \
+    {ZUVAROPY_QUESTION_DEFINITIONS, ZUVAROPY_QUESTION_DEFINED_TWICE, ZUVAROPY_INPUT_DEFINITIONS},                      \
+        {ZUVAROPY_QUESTION_RING, ZUVAROPY_QUESTION_RING, ZUVAROPY_INPUT_DEFINITIONS},                                  \
+        {ZUVAROPY_QUESTION_HEAD, ZUVAROPY_QUESTION_IMPOSSIBLE, ZUVAROPY_INPUT_DEFINITION},                             \
+        UNDER_REFUSABLE(ZUVAROPY_INPUT_DEFINITION)
+#define UNDER_REFUSABLE(input)                                                                                         \
+    {ZUVAROPY_QUESTION_EXCLUDED, ZUVAROPY_QUESTION_EXCLUDED, input},                                                   \
+        {ZUVAROPY_QUESTION_UNFOLDED, ZUVAROPY_QUESTION_UNFOLDED_DEPTH, input}
 
 int LLVMFuzzerTestOneInput(const uint8_t *data, size_t size);
 
@@ -33,6 +43,11 @@ int LLVMFuzzerTestOneInput(const uint8_t *data, size_t size);
 
 /* Takes the buffers for writing; a call that has none passes NULL. */
 void fuzz_lend(struct feed *feed, struct lent *work, struct lent *result, size_t result_needed);
+
+/* Takes the definitions. Until they are returned, calls are made under them, also
+ * those that check the first. */
+void fuzz_definitions(struct feed *feed, struct lent *definitions);
+void fuzz_return_definitions(struct lent *definitions);
 
 /* The word that was answered is one that the call can give, and nothing in it is
  * set that must not be. Counts it. */

@@ -4,6 +4,7 @@
  * picture that subsumes the other.
  */
 
+#include "calls.h"
 #include "check.h"
 #include "lcs.h"
 #include "lcs_reference.h"
@@ -16,7 +17,7 @@ static const struct refusable refusable[] = {
     {ZUVAROPY_QUESTION_COMMON, ZUVAROPY_QUESTION_COMMON, ZUVAROPY_INPUT_SECOND},
     {0, 0, 0},
 };
-const struct target fuzz_target = {"fuzz_lcs", "pp", refusable, ZUVAROPY_OUTCOME_YES};
+const struct target fuzz_target = {"fuzz_lcs", "ppd", refusable, ZUVAROPY_OUTCOME_YES};
 
 static struct pair pair;
 
@@ -38,8 +39,8 @@ static void check_other_order(uint64_t word)
     static uint8_t work[ZUVAROPY_WORK_BYTES];
     static struct picture other;
 
-    CHECK_WORD(zuvaropy_lcs(pair.second.bytes, pair.second.length, pair.first.bytes, pair.first.length, work,
-                            sizeof work, other.bytes, ZUVAROPY_MAX_PICTURE_BYTES),
+    CHECK_WORD(call_lcs(pair.second.bytes, pair.second.length, pair.first.bytes, pair.first.length, work,
+                        sizeof work, other.bytes, ZUVAROPY_MAX_PICTURE_BYTES),
                word, zuvaropy_value(word));
     other.length = zuvaropy_value(word);
     if (other.length > 0)
@@ -50,7 +51,7 @@ static void check_common(const struct lent *result, size_t length)
 {
     pair.common.length = length;
     memcpy(pair.common.bytes, result->bytes, length);
-    CHECK_WORD(zuvaropy_validate(pair.common.bytes, length), word_rows((unsigned int)(length / ZUVAROPY_ROW_BYTES)),
+    CHECK_WORD(call_validate(pair.common.bytes, length), word_rows((unsigned int)(length / ZUVAROPY_ROW_BYTES)),
                length);
     fuzz_met(FEATURE_CHECKED, (unsigned int)lcs_check_subsumes(&pair));
     if (lcs_subsumes(&pair.first, &pair.second) == ZUVAROPY_OUTCOME_YES)
@@ -76,8 +77,8 @@ int LLVMFuzzerTestOneInput(const uint8_t *data, size_t size)
     uint64_t word, wanted;
 
     pair_lend(&feed, &pair.first, &pair.second, &lent, ZUVAROPY_MAX_PICTURE_BYTES);
-    word = zuvaropy_lcs(lent.first.bytes, lent.first.length, lent.second.bytes, lent.second.length, lent.work.bytes,
-                        lent.work.length, lent.result.bytes, lent.result.length);
+    word = call_lcs(lent.first.bytes, lent.first.length, lent.second.bytes, lent.second.length, lent.work.bytes,
+                    lent.work.length, lent.result.bytes, lent.result.length);
     fuzz_check_word(word);
     wanted = pair_refusal(&pair.first, &pair.second, &lent, ZUVAROPY_MAX_PICTURE_BYTES);
     if (wanted != 0) {

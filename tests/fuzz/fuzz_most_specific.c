@@ -5,6 +5,7 @@
  */
 
 #include "area.h"
+#include "calls.h"
 #include "check.h"
 #include "fuzz.h"
 #include "most_specific_reference.h"
@@ -14,9 +15,12 @@ static const struct refusable refusable[] = {
     {ZUVAROPY_QUESTION_HEAD, ZUVAROPY_QUESTION_MERGED, ZUVAROPY_INPUT_FIRST},
     {ZUVAROPY_QUESTION_BOOK, ZUVAROPY_QUESTION_BOOK, ZUVAROPY_INPUT_BOOK},
     {ZUVAROPY_QUESTION_HEAD, ZUVAROPY_QUESTION_MERGED, ZUVAROPY_INPUT_CARD},
+    DEFINITIONS_REFUSABLE,
+    UNDER_REFUSABLE(ZUVAROPY_INPUT_FIRST),
+    UNDER_REFUSABLE(ZUVAROPY_INPUT_CARD),
     {0, 0, 0},
 };
-const struct target fuzz_target = {"fuzz_most_specific", "pb", refusable, ZUVAROPY_OUTCOME_YES};
+const struct target fuzz_target = {"fuzz_most_specific", "pbd", refusable, ZUVAROPY_OUTCOME_YES};
 
 static struct lookup in;
 
@@ -37,7 +41,7 @@ static uint64_t wanted_word(const struct lent *work)
 int LLVMFuzzerTestOneInput(const uint8_t *data, size_t size)
 {
     struct feed feed = {data, size};
-    struct lent case_picture, book, work;
+    struct lent case_picture, book, definitions, work;
     uint64_t word;
 
     fuzz_lend(&feed, &work, NULL, 0);
@@ -45,8 +49,9 @@ int LLVMFuzzerTestOneInput(const uint8_t *data, size_t size)
     feed_book(&feed, &in);
     lent_file(&case_picture, in.case_picture.bytes, in.case_picture.length);
     lent_file(&book, in.book.bytes, in.book.length);
-    word = zuvaropy_most_specific(case_picture.bytes, case_picture.length, book.bytes, book.length, work.bytes,
-                                  work.length);
+    fuzz_definitions(&feed, &definitions);
+    word = call_most_specific(case_picture.bytes, case_picture.length, book.bytes, book.length, work.bytes,
+                              work.length);
     fuzz_check_word(word);
     CHECK_WORD(word, wanted_word(&work), size);
     CHECK(lent_is_kept(&case_picture, 0));
@@ -61,6 +66,7 @@ int LLVMFuzzerTestOneInput(const uint8_t *data, size_t size)
     }
     lent_return(&case_picture);
     lent_return(&book);
+    fuzz_return_definitions(&definitions);
     lent_return(&work);
     return fuzz_end();
 }

@@ -3,6 +3,7 @@
  * one, and zuvaropy_verify takes the evidence, for this order of the pictures.
  */
 
+#include "calls.h"
 #include "check.h"
 #include "lcs.h"
 #include "pair.h"
@@ -12,7 +13,7 @@
 #include <string.h>
 
 static const struct refusable refusable[] = {PAIR_REFUSABLE, {0, 0, 0}};
-const struct target fuzz_target = {"fuzz_subsumes", "pp", refusable, ZUVAROPY_OUTCOME_NO};
+const struct target fuzz_target = {"fuzz_subsumes", "ppd", refusable, ZUVAROPY_OUTCOME_NO};
 
 static struct inputs in;
 
@@ -20,8 +21,8 @@ static uint64_t verify(const struct picture *first, const struct picture *second
 {
     static uint8_t work[ZUVAROPY_WORK_BYTES];
 
-    return zuvaropy_verify(first->bytes, first->length, second->bytes, second->length, evidence->bytes,
-                           evidence->length, work, sizeof work);
+    return call_verify(first->bytes, first->length, second->bytes, second->length, evidence->bytes,
+                       evidence->length, work, sizeof work);
 }
 
 /* A row is sent for each row of the second, by the lowest map. */
@@ -79,8 +80,8 @@ int LLVMFuzzerTestOneInput(const uint8_t *data, size_t size)
     uint64_t word, wanted;
 
     pair_lend(&feed, &in.first, &in.second, &lent, ZUVAROPY_MAX_EVIDENCE_BYTES);
-    word = zuvaropy_subsumes(lent.first.bytes, lent.first.length, lent.second.bytes, lent.second.length,
-                             lent.work.bytes, lent.work.length, lent.result.bytes, lent.result.length);
+    word = call_subsumes(lent.first.bytes, lent.first.length, lent.second.bytes, lent.second.length,
+                         lent.work.bytes, lent.work.length, lent.result.bytes, lent.result.length);
     fuzz_check_word(word);
     wanted = pair_refusal(&in.first, &in.second, &lent, ZUVAROPY_MAX_EVIDENCE_BYTES);
     if (wanted != 0) {

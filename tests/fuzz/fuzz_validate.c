@@ -3,6 +3,7 @@
  * picture that ends before it does is one.
  */
 
+#include "calls.h"
 #include "check.h"
 #include "fuzz.h"
 #include "reference.h"
@@ -18,7 +19,7 @@ static void check_cut(const struct picture *p, size_t length)
 {
     const int head = length % ZUVAROPY_ROW_BYTES < ZUVAROPY_HEAD_BYTES;
 
-    CHECK_WORD(zuvaropy_validate(p->bytes, length),
+    CHECK_WORD(call_validate(p->bytes, length),
                word_refusal(head ? ZUVAROPY_QUESTION_HEAD : ZUVAROPY_QUESTION_VALUE,
                             (unsigned int)(length / ZUVAROPY_ROW_BYTES)),
                length);
@@ -35,7 +36,7 @@ int LLVMFuzzerTestOneInput(const uint8_t *data, size_t size)
     fuzz_lend(&feed, NULL, NULL, 0);
     feed_picture(&feed, &p, NULL);
     lent_file(&lent, p.bytes, p.length);
-    word = zuvaropy_validate(lent.bytes, lent.length);
+    word = call_validate(lent.bytes, lent.length);
     fuzz_check_word(word);
     wanted = reference_read(p.bytes, p.length);
     fuzz_met(FEATURE_FIRST, wanted.rows);

@@ -3,6 +3,7 @@
  * taken says what zuvaropy_subsumes says.
  */
 
+#include "calls.h"
 #include "check.h"
 #include "lcs.h"
 #include "pair.h"
@@ -13,7 +14,7 @@ static const struct refusable refusable[] = {
     {ZUVAROPY_QUESTION_FORM, ZUVAROPY_QUESTION_REFUTED, ZUVAROPY_INPUT_EVIDENCE},
     {0, 0, 0},
 };
-const struct target fuzz_target = {"fuzz_verify", "ppe", refusable, ZUVAROPY_OUTCOME_NO};
+const struct target fuzz_target = {"fuzz_verify", "ppde", refusable, ZUVAROPY_OUTCOME_NO};
 
 static struct inputs in;
 
@@ -41,8 +42,8 @@ int LLVMFuzzerTestOneInput(const uint8_t *data, size_t size)
     pair_lend(&feed, &in.first, &in.second, &lent, 0);
     feed_evidence(&feed, &in);
     lent_file(&evidence, in.evidence.bytes, in.evidence.length);
-    word = zuvaropy_verify(lent.first.bytes, lent.first.length, lent.second.bytes, lent.second.length, evidence.bytes,
-                           evidence.length, lent.work.bytes, lent.work.length);
+    word = call_verify(lent.first.bytes, lent.first.length, lent.second.bytes, lent.second.length, evidence.bytes,
+                       evidence.length, lent.work.bytes, lent.work.length);
     fuzz_check_word(word);
     fuzz_met(FEATURE_CHECKED, (unsigned int)(in.evidence.length / ZUVAROPY_INDIVIDUAL_BYTES));
     CHECK(lent_is_kept(&evidence, 0));

@@ -27,7 +27,7 @@ struct lent {
 
 /* From here on buffers for reading are in pages, or from malloc. There are at
  * most LENT_FILES until the next begin. */
-#define LENT_FILES 3
+#define LENT_FILES 4
 void lent_begin(bool in_pages);
 
 /* A buffer for reading, with these bytes. */

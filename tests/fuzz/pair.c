@@ -1,8 +1,10 @@
 #include "pair.h"
 
+#include "calls.h"
 #include "check.h"
 #include "normalize.h"
 #include "verify.h"
+#include "verify_reference.h"
 
 void pair_lend(struct feed *feed, struct picture *first, struct picture *second, struct buffers *lent,
                size_t result_needed)
@@ -15,16 +17,27 @@ void pair_lend(struct feed *feed, struct picture *first, struct picture *second,
     feed_picture(feed, second, first);
     lent_file(&lent->first, first->bytes, first->length);
     lent_file(&lent->second, second->bytes, second->length);
+    fuzz_definitions(feed, &lent->definitions);
 }
 
 /* The refusal of a picture by itself; 0 if there is none. */
 static uint64_t refusal_of(const struct picture *p, enum feature rows)
 {
     static uint8_t table[ZUVAROPY_MAX_PICTURE_BYTES];
-    const uint64_t word = zuvaropy_normalize(p->bytes, p->length, table, sizeof table);
+    const uint64_t word = call_normalize(p->bytes, p->length, table, sizeof table);
 
     fuzz_met(rows, zuvaropy_value(word) / ZUVAROPY_ROW_BYTES);
     return zuvaropy_outcome(word) == ZUVAROPY_OUTCOME_REFUSAL ? word : 0;
+}
+
+/* What is not refused so far meets empty evidence, which question 16 refuses. */
+static uint64_t refusal_under(const struct picture *first, const struct picture *second)
+{
+    static uint8_t work[ZUVAROPY_WORK_BYTES];
+    const uint64_t word = reference_verify(first->bytes, first->length, second->bytes, second->length, work, 0, work,
+                                           sizeof work);
+
+    return word == word_evidence(ZUVAROPY_QUESTION_FORM) ? 0 : word;
 }
 
 uint64_t pair_refusal(const struct picture *first, const struct picture *second, const struct buffers *lent,
@@ -34,6 +47,8 @@ uint64_t pair_refusal(const struct picture *first, const struct picture *second,
 
     if (lent->work.length < ZUVAROPY_WORK_BYTES || lent->result.length < result_needed)
         return word_short();
+    if (calls_are_under())
+        return refusal_under(first, second);
     return word_of_pictures(refusal, refusal_of(second, FEATURE_SECOND));
 }
 
@@ -62,6 +77,7 @@ void pair_return(struct buffers *lent)
 {
     lent_return(&lent->first);
     lent_return(&lent->second);
+    fuzz_return_definitions(&lent->definitions);
     lent_return(&lent->work);
     lent_return(&lent->result);
 }

@@ -8,22 +8,24 @@
 
 #include "fuzz.h"
 
-/* Questions 2 to 14 of both pictures. */
+/* Questions 2 to 14 and 25 to 30 of both pictures. */
 #define PAIR_REFUSABLE                                                                                                 \
     {ZUVAROPY_QUESTION_BUFFER, ZUVAROPY_QUESTION_BUFFER, ZUVAROPY_INPUT_BUFFER},                                       \
         {ZUVAROPY_QUESTION_HEAD, ZUVAROPY_QUESTION_MERGED, ZUVAROPY_INPUT_FIRST},                                      \
-        {ZUVAROPY_QUESTION_HEAD, ZUVAROPY_QUESTION_MERGED, ZUVAROPY_INPUT_SECOND}
+        {ZUVAROPY_QUESTION_HEAD, ZUVAROPY_QUESTION_MERGED, ZUVAROPY_INPUT_SECOND}, DEFINITIONS_REFUSABLE,              \
+        UNDER_REFUSABLE(ZUVAROPY_INPUT_FIRST), UNDER_REFUSABLE(ZUVAROPY_INPUT_SECOND)
 
 /* A call's buffers. */
 struct buffers {
-    struct lent first, second, work, result;
+    struct lent first, second, definitions, work, result;
 };
 
-/* Takes two pictures and the buffers; without a result buffer if none is needed. */
+/* Takes two pictures, definitions and the buffers; without a result buffer if none is needed. */
 void pair_lend(struct feed *feed, struct picture *first, struct picture *second, struct buffers *lent,
                size_t result_needed);
 
-/* The word by question 1 to 14, as the calls on one picture say it; 0 if there is none. */
+/* The word by question 1 to 14, as the calls on one picture say it, or by 1 to 14
+ * and 25 to 30 as the reference says it, if there are definitions; 0 if there is none. */
 uint64_t pair_refusal(const struct picture *first, const struct picture *second, const struct buffers *lent,
                       size_t result_needed);
 

@@ -5,6 +5,7 @@
 #include "lcs.h"
 #include "most_specific.h"
 #include "random.h"
+#include "under.h"
 #include "verify.h"
 
 #include <stdio.h>
@@ -65,6 +66,8 @@ static char letter_of(const char *file)
     return strcmp(suffix, ".map") == 0 || strcmp(suffix, ".ref") == 0 ? 'e' : suffix[1];
 }
 
+static void add_files(const char *inputs);
+
 static void put_file(const char *name)
 {
     static uint8_t bytes[CORPUS_LENGTH];
@@ -78,7 +81,29 @@ static void put_file(const char *name)
     fclose(file);
 }
 
-/* Each set of files for the inputs that are left. */
+/* No definitions, and one of the files of them. */
+static void add_definitions(const char *inputs)
+{
+    static int turn;
+    const size_t before = length;
+    int i;
+
+    put(FEED_NONE);
+    add_files(inputs + 1);
+    length = before;
+    for (i = 0; i < file_count; i++)
+        if (letter_of(files[(turn + i) % file_count]) == 'd')
+            break;
+    if (i == file_count)
+        return;
+    turn = (turn + i) % file_count;
+    put_file(files[turn++]);
+    seed[before] = FEED_RAW_DEFINITIONS;
+    add_files(inputs + 1);
+    length = before;
+}
+
+/* Each set of files for the inputs that are left, but of definitions only one at a time. */
 static void add_files(const char *inputs)
 {
     const size_t before = length;
@@ -86,6 +111,10 @@ static void add_files(const char *inputs)
 
     if (*inputs == 0) {
         end();
+        return;
+    }
+    if (*inputs == 'd') {
+        add_definitions(inputs);
         return;
     }
     for (i = 0; i < file_count; i++)
@@ -103,6 +132,14 @@ static void put_picture(const struct picture *p)
     put_raw(p->bytes, p->length);
 }
 
+static void put_definitions(const struct book *definitions)
+{
+    const size_t before = length;
+
+    put_raw(definitions->bytes, definitions->length);
+    seed[before] = FEED_RAW_DEFINITIONS;
+}
+
 static void add_checked(unsigned int n)
 {
     static struct inputs in;
@@ -110,6 +147,7 @@ static void add_checked(unsigned int n)
     verify_make(&in, word_number(n));
     put_picture(&in.first);
     put_picture(&in.second);
+    put(FEED_NONE);
     put_raw(in.evidence.bytes, in.evidence.length);
 }
 
@@ -139,6 +177,24 @@ static void add_single(unsigned int n)
     put_picture(&p);
 }
 
+/* What is refused because of definitions. */
+static void add_under(unsigned int n)
+{
+    static struct under u;
+    const char *input;
+
+    under_make(&u, n);
+    for (input = fuzz_target.inputs; *input != 0; input++)
+        if (*input == 'p')
+            put_picture(input == fuzz_target.inputs ? &u.first : &u.second);
+        else if (*input == 'e')
+            put_raw(u.evidence.bytes, u.evidence.length);
+        else if (*input == 'b')
+            put_raw(u.book.bytes, u.book.length);
+        else
+            put_definitions(&u.definitions);
+}
+
 static void add_answers(void)
 {
     static const struct {
@@ -146,10 +202,15 @@ static void add_answers(void)
         void (*add)(unsigned int n);
         unsigned int words;
     } sorts[] = {
-        {"ppe", add_checked, WORDS},
-        {"pp", add_pair, LCS_WORDS},
-        {"pb", add_lookup, LOOKUP_WORDS},
         {"p", add_single, ZUVAROPY_QUESTION_MERGED},
+        {"pd", add_single, ZUVAROPY_QUESTION_MERGED},
+        {"pd", add_under, UNDER_WORDS},
+        {"ppd", add_pair, LCS_WORDS},
+        {"ppd", add_under, UNDER_WORDS},
+        {"ppde", add_checked, WORDS},
+        {"ppde", add_under, UNDER_WORDS},
+        {"pbd", add_lookup, LOOKUP_WORDS},
+        {"pbd", add_under, UNDER_WORDS},
     };
     unsigned int i, n, buffer;
 
@@ -182,8 +243,8 @@ static void add_shape(unsigned int n, unsigned int shape, unsigned int size)
 
     begin();
     for (i = 0; fuzz_target.inputs[i] != 0; i++) {
-        if (fuzz_target.inputs[i] == 'e') {
-            put(FEED_WRITTEN);
+        if (fuzz_target.inputs[i] == 'e' || fuzz_target.inputs[i] == 'd') {
+            put(fuzz_target.inputs[i] == 'e' ? FEED_WRITTEN : FEED_NONE);
             continue;
         }
         if (fuzz_target.inputs[i] == 'b') {
@@ -217,7 +278,10 @@ static void add_alike(void)
         for (size = 0; size < 256; size += 16) {
             begin();
             for (i = 0; fuzz_target.inputs[i] != 0; i++)
-                put_shape(shape, size);
+                if (fuzz_target.inputs[i] == 'd')
+                    put(FEED_NONE);
+                else
+                    put_shape(shape, size);
             end();
         }
 }
@@ -260,6 +324,55 @@ static void add_books(void)
     }
 }
 
+/* So many definitions from choices, each of which wants the next: names as set_of in feed_rows.c makes them. */
+static void put_defined(unsigned int count)
+{
+    unsigned int i;
+
+    put(FEED_ROWS);
+    put(count);
+    for (i = 0; i < count; i++) {
+        put(i);
+        put(FEED_ROWS);
+        put(2);
+        put(0x80 | (i + 1) % ZUVAROPY_NAMES);
+        put(0);
+        put_random(6);
+    }
+}
+
+/* A picture whose root wants one of them; or such a card. */
+static void put_mentioning(char input, unsigned int count)
+{
+    if (input == 'b') {
+        put(FEED_ROWS);
+        put(1);
+    }
+    put(FEED_ROWS);
+    put(3);
+    put(0x80 | random_below(count));
+    put(0);
+    put_random(6);
+}
+
+static void add_defined(void)
+{
+    const char *input;
+    unsigned int count;
+
+    for (count = 1; count <= ZUVAROPY_MAX_DEFINITIONS; count += count < 6 ? 1 : 13) {
+        begin();
+        for (input = fuzz_target.inputs; *input != 0; input++)
+            if (*input == 'e')
+                put(FEED_WRITTEN);
+            else if (*input == 'd')
+                put_defined(count);
+            else
+                put_mentioning(*input, count);
+        end();
+    }
+}
+
 void corpus_seed(struct corpus *corpus, char *const *names, int count)
 {
     made = corpus;
@@ -275,4 +388,6 @@ void corpus_seed(struct corpus *corpus, char *const *names, int count)
     add_random();
     if (strchr(fuzz_target.inputs, 'b') != NULL)
         add_books();
+    if (strchr(fuzz_target.inputs, 'd') != NULL)
+        add_defined();
 }

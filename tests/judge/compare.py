@@ -17,10 +17,15 @@ RELATED, ANY = 8, 4  # common pictures of each book: of pairs that are below a t
 
 
 class Book:
-    """Pictures as trees, as files and as KRSS; those are taken of which the merged table is not too large."""
+    """Pictures as trees, as files and as KRSS; those are taken of which the merged table is not too large.
 
-    def __init__(self, rng, roots, library, origin):
+    The definitions are trees by name. From now on the library's calls are made under them.
+    """
+
+    def __init__(self, rng, roots, library, origin, definitions):
         self.roots = roots
+        self.definitions = definitions
+        library.definitions = picture.encode_defined(rng, definitions)
         self.files = [picture.encode(rng, root) for root in roots]
         self.texts = [krss.concept(root) for root in roots]
         self.normal = [library.normalize(file) for file in self.files]
@@ -28,12 +33,18 @@ class Book:
         self.taken = [number for number in self.numbers if self.normal[number][0] != REFUSED]
         self.origin = origin
 
+    def order(self):
+        """What FaCT++ says of the pictures."""
+        return fact.classify(self.classes(), self.definitions)
+
     def classes(self):
         return {class_name(number): root for number, root in enumerate(self.roots)}
 
     def show(self, numbers):
         for number in numbers:
             print(f"  {class_name(number)}: {self.texts[number]}\n    {self.files[number].hex()}")
+        for name, root in self.definitions.items():
+            print(f"  n{name} is {krss.concept(root)}")
         print(f"  to run it again: make judge {self.origin}")
 
 
@@ -183,7 +194,7 @@ def compare_written(tally, book, answers):
     tables, common = normal_trees(tally, book), common_trees(tally, book, answers)
     written = {normal_name(number): table for number, table in tables.items()}
     written.update({common_name(*pair): root for pair, root in common.items()})
-    wider = fact.classify({**book.classes(), **written})
+    wider = fact.classify({**book.classes(), **written}, book.definitions)
     for number, table in tables.items():
         compare_normal(tally, wider, book, number, table)
     for pair, root in common.items():

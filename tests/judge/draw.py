@@ -20,6 +20,8 @@ LEVELS, BRANCHES = 4, 3
 SIZES = [  # names, roles, rows; by one role much is passed on, and some more merged tables become too large
     (2, 1, 10), (3, 2, 12), (4, 2, 16), (6, 3, 20), (12, 5, 30), (NAMES, 1, 30), (NAMES, ROLES, MAX_ROWS)]
 
+DEFINED = 3  # names, at most
+
 Vocabulary = collections.namedtuple("Vocabulary", "names roles")
 
 
@@ -185,3 +187,34 @@ def draw_book(rng, number):
         roots[-1] = draw_large(rng, vocabulary)
     rng.shuffle(roots)
     return roots
+
+
+def draw_definition(rng, vocabulary, defined):
+    """A root with a few successors, so that unfolding adds an edge at most."""
+    root = draw_node(rng, vocabulary, 0.02)
+    for _ in range(rng.randrange(3)):
+        add_edge(rng, vocabulary, root)
+    exclude_none(root, defined)
+    return root
+
+
+def exclude_none(root, names):
+    """No row excludes any of these names."""
+    for node in nodes(root):
+        node.excluded &= ~sum(1 << name for name in names)
+
+
+def draw_definitions(rng, roots):
+    """Definitions, by name, of some of the names that the pictures want; these then exclude none of them.
+
+    Each mentions names of its own and those that are defined after it, so that there is no ring.
+    """
+    rows = [node for root in roots for node in nodes(root)]
+    wanted = [name for name in range(NAMES) if any(node.wanted >> name & 1 for node in rows)]
+    roles = sorted({role for node in rows for _, role, _ in node.edges}) or [0]
+    defined = rng.sample(wanted, min(DEFINED, len(wanted)))
+    plain = rng.sample([name for name in range(NAMES) if name not in defined], 3)
+    for root in roots:
+        exclude_none(root, defined)
+    return {name: draw_definition(rng, Vocabulary(plain + defined[place + 1:], roles), defined)
+            for place, name in enumerate(defined)}

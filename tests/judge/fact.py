@@ -96,9 +96,9 @@ def run(folder):
     return taxonomy.read_text()
 
 
-def classify(classes):
-    """The order of classes, given by the roots of their pictures."""
+def classify(classes, definitions):
+    """The order of classes, given by the roots of their pictures, under definitions of names, given likewise."""
     with tempfile.TemporaryDirectory(prefix="zuvaropy-judge-") as folder:
-        pathlib.Path(folder, "classes.krss").write_text(krss.tbox(classes))
+        pathlib.Path(folder, "classes.krss").write_text(krss.tbox(classes, definitions))
         pathlib.Path(folder, "classes.conf").write_text(CONFIGURATION)
         return Order(run(folder), classes)

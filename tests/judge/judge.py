@@ -4,7 +4,7 @@
     tests/judge/judge.py SHARED [--books N] [--seed N] [--first N]
 
 SHARED is the shared library. Of each book, all ordered pairs are compared, the most specific cards, the normal tables
-and some common pictures (compare.py). Prints each difference with its pictures and how to run it again, up to ten,
+and some common pictures (compare.py), of some books also under definitions. Prints each difference with its pictures and how to run it again, up to ten,
 then a line of counts, and last 'FaCT++ as a judge: P passed, F failed'; exits 1 if F is not 0. A failure is also what
 is known and found otherwise (known.py), a wrong answer that is not reported (turned.py), and books that were not worth
 comparing (shares.py).
@@ -27,6 +27,7 @@ from library import Library
 from tally import Tally
 
 ENOUGH_BOOKS = 20  # for the shares to be asked
+DEFINED_EACH = 3  # of so many books one is compared under definitions too
 
 
 def arguments():
@@ -39,10 +40,18 @@ def arguments():
 
 
 def judge_book(tally, library, seed, number, origin):
-    """Draws a book and compares."""
+    """Draws a book and compares; and some once more, under definitions of some of the names."""
     rng = random.Random(f"{seed} {number}")
-    book = compare.Book(rng, draw.draw_book(rng, number), library, origin)
-    order = fact.classify(book.classes())
+    roots = draw.draw_book(rng, number)
+    judge_roots(tally, rng, compare.Book(rng, roots, library, origin, {}), library)
+    if number % DEFINED_EACH == 0:
+        tally.counts["defined books"] += 1
+        definitions = draw.draw_definitions(rng, roots)
+        judge_roots(tally, rng, compare.Book(rng, roots, library, origin, definitions), library)
+
+
+def judge_roots(tally, rng, book, library):
+    order = book.order()
     compare.compare_pairs(tally, order, book, compare.verdicts(library, book))
     compare.compare_cases(tally, order, book, compare.found_cards(library, book))
     pairs = compare.pairs_to_join(rng, order, book)
@@ -66,7 +75,7 @@ def judge(tally, given):
 def summary(tally, books, seconds):
     """Prints the counts and the last line; gives the number of failures."""
     counts, failed = tally.counts, len(tally.differences)
-    print(f"{books} books: {counts['pairs']} pairs, {counts['yes']} yes, {counts['telling']} of these not trivial, "
+    print(f"{books} books, {counts['defined books']} under definitions too: {counts['pairs']} pairs, {counts['yes']} yes, {counts['telling']} of these not trivial, "
           f"{counts['refused']} refused; {counts['cases']} cases, {counts['normal']} normal tables, "
           f"{counts['common']} common pictures; {failed} differ; {seconds:.1f} s")
     print(f"FaCT++ as a judge: {counts['checks'] - failed} passed, {failed} failed")

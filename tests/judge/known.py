@@ -55,6 +55,36 @@ PAIRS = [
      Node().every(R, Node().some(S, wants(1))).some(R, wants(2)), Node().some(R, wants(2).some(S, wants(1))), YES, NO),
 ]
 
+BELT, FRONT, NEVER, ABOVE = 5, 6, 7, 8
+
+DEFINITIONS = {
+    BELT: wants(3).some(R, wants(4)),
+    FRONT: wants(BELT, 10).every(S, wants(BELT)),
+    NEVER: impossible(),
+    ABOVE: Node(),
+}
+
+DEFINED_PAIRS = [
+    ("a name and what it stands for",
+     wants(BELT), wants(3).some(R, wants(4)), YES, YES),
+    ("a part of what it stands for is above it",
+     wants(BELT), Node().some(R, Node()), YES, NO),
+    ("a name that another stands for",
+     wants(FRONT), wants(BELT), YES, NO),
+    ("and what that one stands for, of a successor",
+     wants(FRONT).some(S, Node()), Node().some(S, wants(3)), YES, NO),
+    ("a name of a successor",
+     Node().some(S, wants(BELT)), Node().some(S, Node().some(R, wants(4))), YES, NO),
+    ("a name with something more",
+     wants(BELT, 12), wants(3, 12).some(R, wants(4, 9)), NO, YES),
+    ("a name for a contradiction",
+     wants(NEVER), impossible(), YES, YES),
+    ("a name for what says nothing",
+     wants(ABOVE), Node(), YES, YES),
+    ("two names that share what they stand for",
+     wants(FRONT, BELT), wants(FRONT), YES, YES),
+]
+
 TAXONOMY = f"""{fact.HEADING}
 
 "TOP" {{0:}} {{2: "C0" "n3"}}
@@ -88,10 +118,10 @@ def compare_spoilt(tally):
         tally.check(f"A taxonomy where {what}.", {"is read": is_read(text), "ought": False})
 
 
-def known_answers():
+def known_answers(pairs):
     """Pictures 2n and 2n + 1 of the known book are those of pair n."""
     known = {}
-    for place, (_, _, _, forth, back) in enumerate(PAIRS):
+    for place, (_, _, _, forth, back) in enumerate(pairs):
         first, second = 2 * place, 2 * place + 1
         known.update({(first, second): forth, (second, first): back})
     return known
@@ -100,15 +130,20 @@ def known_answers():
 def compare_known(tally, library):
     """Known answers against those of both; and wrong ones are reported."""
     turned.turn_said()
-    roots = [root for _, first, second, *_ in PAIRS for root in (first, second)]
-    book = compare.Book(random.Random(0), roots, library, "BOOKS=0")
-    order = fact.classify(book.classes())
-    answers, known = compare.verdicts(library, book), known_answers()
+    compare_pairs(tally, library, PAIRS, {})
+    compare_pairs(tally, library, DEFINED_PAIRS, DEFINITIONS)
+    turned.turn_shares(tally)
+
+
+def compare_pairs(tally, library, pairs, definitions):
+    roots = [root for _, first, second, *_ in pairs for root in (first, second)]
+    book = compare.Book(random.Random(0), roots, library, "BOOKS=0", definitions)
+    order = book.order()
+    answers, known = compare.verdicts(library, book), known_answers(pairs)
     for pair, answer in known.items():
-        about, judged = PAIRS[pair[0] // 2][0], compare.words(compare.is_below(order, *pair))
+        about, judged = pairs[pair[0] // 2][0], compare.words(compare.is_below(order, *pair))
         tally.check(f"Known, {about}:", {"known": answer, **compare.both(answers[pair], judged)}, book, pair)
     turned.turn_verdicts(tally, order, book, answers, known)
     turned.turn_cards(tally, order, book, compare.found_cards(library, book))
     turned.turn_tables(tally, book, known)
     turned.turn_common(tally, library, book, known)
-    turned.turn_shares(tally)

@@ -3,7 +3,8 @@
 A file is a list of statements, among them:
 
     (defprimconcept n3)        n3 is a name of which nothing is known
-    (defconcept C0 CONCEPT)    C0 is a name for the instances of CONCEPT, in which others may stand
+    (defconcept C0 CONCEPT)    C0 is a name for the instances of CONCEPT, in which others may stand; so is a name n3
+                               that is defined
     (defprimrole r8)           r8 is a role
     (implies_r r8 r9)          what r8 reaches r9 reaches too; not used here
 
@@ -29,9 +30,10 @@ def concept(node):
     return parts[0] if parts else "*TOP*"
 
 
-def tbox(classes):
-    """A file that declares all names and roles, and defines each class by the root of its picture."""
-    lines = [f"(defprimconcept n{name})" for name in range(NAMES)]
+def tbox(classes, definitions):
+    """A file that declares or defines all names, declares all roles, and defines each class by its picture's root."""
+    lines = [f"(defprimconcept n{name})" for name in range(NAMES) if name not in definitions]
     lines += [f"(defprimrole r{role})" for role in range(ROLES)]
+    lines += [f"(defconcept n{name} {concept(root)})" for name, root in definitions.items()]
     lines += [f"(defconcept {name} {concept(root)})" for name, root in classes.items()]
     return "\n".join(lines) + "\n"

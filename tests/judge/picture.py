@@ -5,12 +5,13 @@
     nodes           a node and all below it
     encode, decode  the file of a picture, and the tree of a file
     encode_book     the file of a book
+    encode_defined  the file of a book of definitions
 """
 
 NAMES, ROLES = 64, 32
 EXISTS, FORALL = 1, 2
 ROW_HEAD, END = b"\x10\0\x15", b"\x2f\0\0"
-CARD_TAG = b"\x51"
+CARD_TAG, DEFINITION_TAG = b"\x51", b"\x61"
 ROW_BYTES = 24
 
 
@@ -82,5 +83,15 @@ def decode(picture):
     return made[0]
 
 
+def encode_fields(tag, values):
+    return b"".join(tag + len(value).to_bytes(2, "big") + value for value in values) + END
+
+
 def encode_book(pictures):
-    return b"".join(CARD_TAG + len(picture).to_bytes(2, "big") + picture for picture in pictures) + END
+    return encode_fields(CARD_TAG, pictures)
+
+
+def encode_defined(rng, definitions):
+    """Roots by name, in any order."""
+    values = [bytes([name]) + encode(rng, root) for name, root in definitions.items()]
+    return encode_fields(DEFINITION_TAG, rng.sample(values, len(values)))

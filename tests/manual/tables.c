@@ -33,6 +33,7 @@ static void tags(void)
     printf("0x%02X ZUVAROPY_TAG_MAP %d a row\n", ZUVAROPY_TAG_MAP, ZUVAROPY_IMAGE_BYTES);
     printf("0x%02X ZUVAROPY_TAG_INDIVIDUAL %d\n", ZUVAROPY_TAG_INDIVIDUAL, ZUVAROPY_INDIVIDUAL_VALUE_BYTES);
     printf("0x%02X ZUVAROPY_TAG_CARD any\n", ZUVAROPY_TAG_CARD);
+    printf("0x%02X ZUVAROPY_TAG_DEFINITION 1 or more\n", ZUVAROPY_TAG_DEFINITION);
 }
 
 static void row(const char *section)
@@ -64,6 +65,14 @@ static void individual(const char *section)
     part(section, "names", ZUVAROPY_HEAD_BYTES + ZUVAROPY_INDIVIDUAL_NAMES_AT, ZUVAROPY_NAME_SET_BYTES);
 }
 
+static void definition(const char *section)
+{
+    tag_part(section, ZUVAROPY_TAG_DEFINITION);
+    part(section, "length", ZUVAROPY_TAG_BYTES, ZUVAROPY_LENGTH_BYTES);
+    part(section, "name", ZUVAROPY_HEAD_BYTES + ZUVAROPY_DEFINED_AT, ZUVAROPY_DEFINED_BYTES);
+    printf("%s picture %d rest -\n", section, ZUVAROPY_HEAD_BYTES + ZUVAROPY_DEFINITION_PICTURE_AT);
+}
+
 int main(void)
 {
     part("Fields", "tag", 0, ZUVAROPY_TAG_BYTES);
@@ -74,5 +83,6 @@ int main(void)
     individual("Refutations");
     tag_part("Books", ZUVAROPY_TAG_CARD);
     rest("Books", "picture");
+    definition("Definitions books");
     return 0;
 }

@@ -4,7 +4,7 @@ use super::calls::{Call, SUBSUMES};
 use super::checks::{hex, Checks};
 use super::lent::{any_length, Fill, Lent, Noise};
 use super::library;
-use super::reference::{answer, outcome, question, value, NO, WORK_BYTES, YES};
+use super::reference::{answer, outcome, question, value, Under, NO, NOTHING, WORK_BYTES, YES};
 use super::refusals::Refusals;
 use super::rng::Rng;
 
@@ -28,6 +28,8 @@ pub struct Both {
     pub result: Lent,
     /// What is being compared, for the description of a mismatch.
     pub subject: String,
+    /// The definitions that calls are made under; none at first.
+    pub definitions: Vec<u8>,
     noise: Noise,
 }
 
@@ -39,16 +41,22 @@ impl Both {
             work: Lent::default(),
             result: Lent::default(),
             subject: String::new(),
+            definitions: NOTHING.definitions.to_vec(),
             noise: Noise::new(),
         }
     }
 
+    pub fn under(&self) -> Under<'_> {
+        Under { definitions: &self.definitions }
+    }
+
     pub fn check(&mut self, ok: bool, what: &str, words: Words, files: &[&[u8]]) {
-        let subject = &self.subject;
+        let (subject, definitions) = (&self.subject, &self.definitions);
         self.checks.check(ok, || {
             let Words { expected, actual } = words;
             let files: String = files.iter().map(|file| format!("\n  file {}", hex(file))).collect();
-            format!("{what}: {subject}\n  library {actual:016x}, reference {expected:016x}{files}")
+            let under = hex(definitions);
+            format!("{what}: {subject}\n  library {actual:016x}, reference {expected:016x}\n  under {under}{files}")
         });
     }
 
@@ -70,8 +78,10 @@ impl Both {
     ) -> Words {
         self.noise.lend(&mut self.work, work, fill, rng);
         self.noise.lend(&mut self.result, result, fill, rng);
-        let expected = (call.reference)(files, &mut self.work.expected[..work], &mut self.result.expected[..result]);
-        let actual = (call.library)(files, &mut self.work.actual[..work], &mut self.result.actual[..result]);
+        let under = Under { definitions: &self.definitions };
+        let (expected_work, expected_result) = (&mut self.work.expected[..work], &mut self.result.expected[..result]);
+        let expected = (call.reference)(under, files, expected_work, expected_result);
+        let actual = (call.library)(under, files, &mut self.work.actual[..work], &mut self.result.actual[..result]);
         let words = Words { expected, actual };
         self.check(self.work.agree(), call.name, words, files);
         if call.number == SUBSUMES.number && outcome(expected) == NO {
@@ -92,9 +102,12 @@ impl Both {
     /// length is as it was, and the evidence is taken.
     fn is_refutation(&self, words: Words, files: &[&[u8]]) -> bool {
         let length = value(words.actual);
+        let taken = |evidence: &[u8]| {
+            library::verify(self.under(), files[0], files[1], evidence, &mut [0; WORK_BYTES]) == answer(NO, 0)
+        };
         words.actual == answer(NO, length)
             && length <= self.result.length
             && self.result.actual[length..] == self.result.before[length..]
-            && library::verify(files[0], files[1], &self.result.actual[..length], &mut [0; WORK_BYTES]) == answer(NO, 0)
+            && taken(&self.result.actual[..length])
     }
 }

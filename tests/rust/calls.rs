@@ -2,11 +2,11 @@
 
 use super::library;
 use super::reference::table::MAX_BYTES;
-use super::reference::Input::{self, Book, Buffer, Card, Evidence, First, Second};
-use super::reference::{self, MAX_EVIDENCE_BYTES, WORK_BYTES};
+use super::reference::Input::{self, Book, Buffer, Card, Definition, Definitions, Evidence, First, Second};
+use super::reference::{self, Under, MAX_EVIDENCE_BYTES, WORK_BYTES};
 
-/// The files that are read, the work space and the result buffer.
-type Side = fn(&[&[u8]], &mut [u8], &mut [u8]) -> u64;
+/// What the call is made under, the files that are read, the work space and the result buffer.
+type Side = fn(Under, &[&[u8]], &mut [u8], &mut [u8]) -> u64;
 
 pub struct Call {
     pub name: &'static str,
@@ -15,11 +15,24 @@ pub struct Call {
     /// The bytes that a buffer lent for writing needs; 0 where the call has none.
     pub work: usize,
     pub result: usize,
-    /// Every refusal there is: an input, and the questions from one to another that can refuse it. Which rows a
-    /// question can name is the same for all.
-    pub refusals: &'static [(Input, u8, u8)],
+    /// Every refusal there is without definitions: an input, and the questions from one to another that can refuse it.
+    /// Which rows a question can name is the same for all.
+    refusals: &'static [(Input, u8, u8)],
     pub library: Side,
     pub reference: Side,
+}
+
+impl Call {
+    /// Every refusal there is.
+    pub fn all_refusals(&self) -> Vec<(Input, u8, u8)> {
+        let mut all = self.refusals.to_vec();
+        if self.number != VALIDATE.number {
+            all.extend([(Definitions, 25, 26), (Definitions, 28, 28), (Definition, 2, 13)]);
+            let pictures = self.refusals.iter().filter(|(_, first, _)| *first == 2).map(|(input, ..)| *input);
+            all.extend(pictures.chain([Definition]).flat_map(|input| [(input, 27, 27), (input, 29, 30)]));
+        }
+        all
+    }
 }
 
 pub const VALIDATE: Call = Call {
@@ -28,8 +41,8 @@ pub const VALIDATE: Call = Call {
     work: 0,
     result: 0,
     refusals: &[(First, 2, 13)],
-    library: |files, _, _| library::validate(files[0]),
-    reference: |files, _, _| reference::validate(files[0]),
+    library: |_, files, _, _| library::validate(files[0]),
+    reference: |_, files, _, _| reference::validate(files[0]),
 };
 
 pub const NORMALIZE: Call = Call {
@@ -38,8 +51,8 @@ pub const NORMALIZE: Call = Call {
     work: 0,
     result: MAX_BYTES,
     refusals: &[(Buffer, 1, 1), (First, 2, 14)],
-    library: |files, _, result| library::normalize(files[0], result),
-    reference: |files, _, result| reference::normalize(files[0], result),
+    library: |under, files, _, result| library::normalize(under, files[0], result),
+    reference: |under, files, _, result| reference::normalize(under, files[0], result),
 };
 
 pub const SUBSUMES: Call = Call {
@@ -48,8 +61,8 @@ pub const SUBSUMES: Call = Call {
     work: WORK_BYTES,
     result: MAX_EVIDENCE_BYTES,
     refusals: &[(Buffer, 1, 1), (First, 2, 14), (Second, 2, 14)],
-    library: |files, work, result| library::subsumes(files[0], files[1], work, result),
-    reference: |files, work, result| reference::subsumes(files[0], files[1], work, result),
+    library: |under, files, work, result| library::subsumes(under, files[0], files[1], work, result),
+    reference: |under, files, work, result| reference::subsumes(under, files[0], files[1], work, result),
 };
 
 pub const LCS: Call = Call {
@@ -58,8 +71,8 @@ pub const LCS: Call = Call {
     work: WORK_BYTES,
     result: MAX_BYTES,
     refusals: &[(Buffer, 1, 1), (First, 2, 14), (Second, 2, 15)],
-    library: |files, work, result| library::lcs(files[0], files[1], work, result),
-    reference: |files, work, result| reference::lcs(files[0], files[1], work, result),
+    library: |under, files, work, result| library::lcs(under, files[0], files[1], work, result),
+    reference: |under, files, work, result| reference::lcs(under, files[0], files[1], work, result),
 };
 
 pub const VERIFY: Call = Call {
@@ -68,8 +81,8 @@ pub const VERIFY: Call = Call {
     work: WORK_BYTES,
     result: 0,
     refusals: &[(Buffer, 1, 1), (First, 2, 14), (Second, 2, 14), (Evidence, 16, 23)],
-    library: |files, work, _| library::verify(files[0], files[1], files[2], work),
-    reference: |files, work, _| reference::verify(files[0], files[1], files[2], work),
+    library: |under, files, work, _| library::verify(under, files[0], files[1], files[2], work),
+    reference: |under, files, work, _| reference::verify(under, files[0], files[1], files[2], work),
 };
 
 pub const MOST_SPECIFIC: Call = Call {
@@ -78,8 +91,8 @@ pub const MOST_SPECIFIC: Call = Call {
     work: WORK_BYTES,
     result: 0,
     refusals: &[(Buffer, 1, 1), (First, 2, 14), (Book, 24, 24), (Card, 2, 14)],
-    library: |files, work, _| library::most_specific(files[0], files[1], work),
-    reference: |files, work, _| reference::most_specific(files[0], files[1], work),
+    library: |under, files, work, _| library::most_specific(under, files[0], files[1], work),
+    reference: |under, files, work, _| reference::most_specific(under, files[0], files[1], work),
 };
 
 pub const CALLS: [&Call; 6] = [&VALIDATE, &NORMALIZE, &SUBSUMES, &LCS, &VERIFY, &MOST_SPECIFIC];

@@ -4,7 +4,7 @@
 use super::library;
 use super::reference::homomorphism::Search;
 use super::reference::table::Table;
-use super::reference::{normal, outcome, MAX_EVIDENCE_BYTES, WORK_BYTES, YES};
+use super::reference::{normal, outcome, MAX_EVIDENCE_BYTES, NOTHING, WORK_BYTES, YES};
 
 /// A card that subsumes the case.
 pub struct Card<'a> {
@@ -112,5 +112,5 @@ fn normal_table(file: &[u8]) -> Table {
 /// Does the general picture subsume the specific one?
 fn verdict(general: &[u8], specific: &[u8]) -> bool {
     let (mut work, mut result) = (vec![0; WORK_BYTES], vec![0; MAX_EVIDENCE_BYTES]);
-    outcome(library::subsumes(specific, general, &mut work, &mut result)) == YES
+    outcome(library::subsumes(NOTHING, specific, general, &mut work, &mut result)) == YES
 }

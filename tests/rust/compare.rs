@@ -78,7 +78,7 @@ impl Comparison {
         let (mut work, mut result) = (vec![0; WORK_BYTES], vec![0; MAX_EVIDENCE_BYTES]);
         let too_large = reference::refusal(Input::Second, 14);
         for specific in self.files() {
-            let word = library::subsumes(specific, common, &mut work, &mut result);
+            let word = library::subsumes(both.under(), specific, common, &mut work, &mut result);
             let words = Words { expected: answer(YES, 0), actual: word };
             both.check(word == too_large || outcome(word) == YES, "lcs subsumes", words, &self.files());
         }

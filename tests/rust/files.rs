@@ -10,7 +10,7 @@ use super::reference::most_specific::MAX_CARDS;
 use super::reference::table::{
     HEAD_BYTES, KIND_EXISTS, KIND_FORALL, KIND_ROOT, MAX_DEPTH, MAX_ROWS, ROW_BYTES, TAG_END, VALUE_BYTES,
 };
-use super::reference::{self, field, value, MAX_EVIDENCE_BYTES, ROLES, WORK_BYTES};
+use super::reference::{self, field, value, MAX_EVIDENCE_BYTES, NOTHING, ROLES, WORK_BYTES};
 use super::trees::{all, chain, encode, root, some, spread, Node, Tree};
 
 /// The questions that can refuse a picture, and those that are asked while it is read.
@@ -104,7 +104,7 @@ fn pair() -> [Vec<u8>; 2] {
 /// The evidence that the reference writes.
 fn evidence(first: &[u8], second: &[u8]) -> Vec<u8> {
     let mut result = vec![0; MAX_EVIDENCE_BYTES];
-    let word = reference::subsumes(first, second, &mut [0; WORK_BYTES], &mut result);
+    let word = reference::subsumes(NOTHING, first, second, &mut [0; WORK_BYTES], &mut result);
     result.truncate(value(word));
     result
 }

@@ -1,9 +1,20 @@
-//! The library's calls on slices.
+//! The library's calls on slices. All but `validate` are made under what `Under` has.
+
+use super::reference::Under;
 
 extern "C" {
     fn zuvaropy_validate(picture: *const u8, picture_len: usize) -> u64;
-    fn zuvaropy_normalize(picture: *const u8, picture_len: usize, result: *mut u8, result_len: usize) -> u64;
+    fn zuvaropy_normalize(
+        definitions: *const u8,
+        definitions_len: usize,
+        picture: *const u8,
+        picture_len: usize,
+        result: *mut u8,
+        result_len: usize,
+    ) -> u64;
     fn zuvaropy_subsumes(
+        definitions: *const u8,
+        definitions_len: usize,
         first: *const u8,
         first_len: usize,
         second: *const u8,
@@ -14,6 +25,8 @@ extern "C" {
         result_len: usize,
     ) -> u64;
     fn zuvaropy_verify(
+        definitions: *const u8,
+        definitions_len: usize,
         first: *const u8,
         first_len: usize,
         second: *const u8,
@@ -24,6 +37,8 @@ extern "C" {
         work_len: usize,
     ) -> u64;
     fn zuvaropy_lcs(
+        definitions: *const u8,
+        definitions_len: usize,
         first: *const u8,
         first_len: usize,
         second: *const u8,
@@ -34,6 +49,8 @@ extern "C" {
         result_len: usize,
     ) -> u64;
     fn zuvaropy_most_specific(
+        definitions: *const u8,
+        definitions_len: usize,
         case: *const u8,
         case_len: usize,
         book: *const u8,
@@ -49,13 +66,24 @@ pub fn validate(picture: &[u8]) -> u64 {
     unsafe { zuvaropy_validate(picture.as_ptr(), picture.len()) }
 }
 
-pub fn normalize(picture: &[u8], result: &mut [u8]) -> u64 {
-    unsafe { zuvaropy_normalize(picture.as_ptr(), picture.len(), result.as_mut_ptr(), result.len()) }
+pub fn normalize(under: Under, picture: &[u8], result: &mut [u8]) -> u64 {
+    unsafe {
+        zuvaropy_normalize(
+            under.definitions.as_ptr(),
+            under.definitions.len(),
+            picture.as_ptr(),
+            picture.len(),
+            result.as_mut_ptr(),
+            result.len(),
+        )
+    }
 }
 
-pub fn subsumes(first: &[u8], second: &[u8], work: &mut [u8], result: &mut [u8]) -> u64 {
+pub fn subsumes(under: Under, first: &[u8], second: &[u8], work: &mut [u8], result: &mut [u8]) -> u64 {
     unsafe {
         zuvaropy_subsumes(
+            under.definitions.as_ptr(),
+            under.definitions.len(),
             first.as_ptr(),
             first.len(),
             second.as_ptr(),
@@ -68,9 +96,11 @@ pub fn subsumes(first: &[u8], second: &[u8], work: &mut [u8], result: &mut [u8])
     }
 }
 
-pub fn verify(first: &[u8], second: &[u8], evidence: &[u8], work: &mut [u8]) -> u64 {
+pub fn verify(under: Under, first: &[u8], second: &[u8], evidence: &[u8], work: &mut [u8]) -> u64 {
     unsafe {
         zuvaropy_verify(
+            under.definitions.as_ptr(),
+            under.definitions.len(),
             first.as_ptr(),
             first.len(),
             second.as_ptr(),
@@ -83,9 +113,11 @@ pub fn verify(first: &[u8], second: &[u8], evidence: &[u8], work: &mut [u8]) -> 
     }
 }
 
-pub fn lcs(first: &[u8], second: &[u8], work: &mut [u8], result: &mut [u8]) -> u64 {
+pub fn lcs(under: Under, first: &[u8], second: &[u8], work: &mut [u8], result: &mut [u8]) -> u64 {
     unsafe {
         zuvaropy_lcs(
+            under.definitions.as_ptr(),
+            under.definitions.len(),
             first.as_ptr(),
             first.len(),
             second.as_ptr(),
@@ -98,8 +130,17 @@ pub fn lcs(first: &[u8], second: &[u8], work: &mut [u8], result: &mut [u8]) -> u
     }
 }
 
-pub fn most_specific(case: &[u8], book: &[u8], work: &mut [u8]) -> u64 {
+pub fn most_specific(under: Under, case: &[u8], book: &[u8], work: &mut [u8]) -> u64 {
     unsafe {
-        zuvaropy_most_specific(case.as_ptr(), case.len(), book.as_ptr(), book.len(), work.as_mut_ptr(), work.len())
+        zuvaropy_most_specific(
+            under.definitions.as_ptr(),
+            under.definitions.len(),
+            case.as_ptr(),
+            case.len(),
+            book.as_ptr(),
+            book.len(),
+            work.as_mut_ptr(),
+            work.len(),
+        )
     }
 }

@@ -2,37 +2,81 @@
 //!
 //! Cards are read in turn, and each is made its normal table and compared with the case at once; a card that subsumes
 //! the case is kept, so that no table is made twice. A card that cannot be read is refused before a merged table that
-//! is too large, of whichever picture: such a refusal waits until all have been read.
+//! is too large, of whichever picture: such a refusal waits until all have been read. Where there are definitions, all
+//! cards are read and unfolded first.
 
 use std::{array, iter};
 
 use super::homomorphism::Search;
 use super::normal::{self, TooLarge};
 use super::table::{Table, HEAD_BYTES, TAG_END};
-use super::{of_card, refusal, refusal_at, Input};
+use super::{of_card, refusal, refusal_at, unfold, Input, Under, NOTHING};
 
 pub const TAG_CARD: u8 = 0x51;
 pub const MAX_CARDS: usize = 32;
 
 /// The set of these cards, or the word of the refusal.
-pub fn find(case: &[u8], book: &[u8]) -> Result<u32, u64> {
+pub fn find(under: Under, case: &[u8], book: &[u8]) -> Result<u32, u64> {
     let mut picture = Table::EMPTY;
     picture.read(case).map_err(|refused| refusal_at(Input::First, refused))?;
-    let mut instance = Table::EMPTY;
-    let mut too_large = normal::normalize(&picture, &mut instance).err().map(|TooLarge| refusal(Input::First, 14));
     let (cards, count) = split(book).ok_or(refusal(Input::Book, 24))?;
-    let mut kept = Kept { tables: array::from_fn(|_| None), cards: [0; MAX_CARDS], count: 0 };
+    if under.definitions != NOTHING.definitions {
+        return find_unfolded(under, picture, &cards[..count]);
+    }
+    let mut found = Found::new(&picture);
     for (card, file) in cards[..count].iter().enumerate() {
-        picture.clear();
-        picture.read(file).map_err(|refused| of_card(card, refusal_at(Input::Card, refused)))?;
-        if too_large.is_none() {
-            let added = kept.add(card, &picture, &instance);
-            too_large = added.err().map(|TooLarge| of_card(card, refusal(Input::Card, 14)));
+        read_card(&mut picture, card, file)?;
+        found.add(card, &picture);
+    }
+    found.most_specific()
+}
+
+/// The same under definitions.
+fn find_unfolded(under: Under, case: Table, cards: &[&[u8]]) -> Result<u32, u64> {
+    let mut pictures = vec![case];
+    for (card, file) in cards.iter().enumerate() {
+        let mut picture = Table::EMPTY;
+        read_card(&mut picture, card, file)?;
+        pictures.push(picture);
+    }
+    let inputs = iter::once(refusal(Input::First, 0)).chain((0..).map(|card| of_card(card, refusal(Input::Card, 0))));
+    unfold(under, &mut pictures.iter_mut().zip(inputs).collect::<Vec<_>>())?;
+    let mut found = Found::new(&pictures[0]);
+    for (card, picture) in pictures[1..].iter().enumerate() {
+        found.add(card, picture);
+    }
+    found.most_specific()
+}
+
+fn read_card(picture: &mut Table, card: usize, file: &[u8]) -> Result<(), u64> {
+    picture.clear();
+    picture.read(file).map_err(|refused| of_card(card, refusal_at(Input::Card, refused)))
+}
+
+/// The case, the cards that were kept so far, and the first refusal by 14.
+struct Found {
+    instance: Table,
+    kept: Kept,
+    too_large: Option<u64>,
+}
+
+impl Found {
+    fn new(case: &Table) -> Found {
+        let mut instance = Table::EMPTY;
+        let too_large = normal::normalize(case, &mut instance).err().map(|TooLarge| refusal(Input::First, 14));
+        let kept = Kept { tables: array::from_fn(|_| None), cards: [0; MAX_CARDS], count: 0 };
+        Found { instance, kept, too_large }
+    }
+
+    fn add(&mut self, card: usize, picture: &Table) {
+        if self.too_large.is_none() {
+            let added = self.kept.add(card, picture, &self.instance);
+            self.too_large = added.err().map(|TooLarge| of_card(card, refusal(Input::Card, 14)));
         }
     }
-    match too_large {
-        Some(refusal) => Err(refusal),
-        None => Ok(kept.most_specific()),
+
+    fn most_specific(&self) -> Result<u32, u64> {
+        self.too_large.map_or_else(|| Ok(self.kept.most_specific()), Err)
     }
 }
 

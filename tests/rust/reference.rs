@@ -9,10 +9,13 @@
 //! | `lcs`           | length of the common picture                           |
 //! | `most_specific` | set of the most specific cards that subsume a case     |
 //!
-//! Pictures are read once, into rows linked by number. Nothing is allocated: all is in the buffers lent, or on the
-//! stack.
+//! All but `validate` are made under a book of definitions.
+//!
+//! Pictures are read once, into rows linked by number. Without definitions nothing is allocated: all is in the buffers
+//! lent, or on the stack.
 
 pub mod countermodel;
+pub mod definitions;
 pub mod evidence;
 pub mod field;
 pub mod homomorphism;
@@ -21,9 +24,10 @@ pub mod most_specific;
 pub mod normal;
 pub mod table;
 
+use definitions::Definitions;
 use evidence::Taken;
 use homomorphism::Search;
-use table::{Refused, Table, HEAD_BYTES, MAX_BYTES, MAX_DEPTH, MAX_ROWS};
+use table::{Refused, Table, HEAD_BYTES, MAX_BYTES, MAX_DEPTH, MAX_ROWS, TAG_END};
 
 pub const ROLES: u8 = 32;
 
@@ -47,9 +51,20 @@ pub enum Input {
     Evidence = 3,
     Book = 4,
     Card = 5,
+    Definitions = 6,
+    Definition = 7,
 }
 
-/// Of 1 and of 14 to 24: they name no place.
+/// What every call but `validate` takes besides its own inputs.
+#[derive(Clone, Copy)]
+pub struct Under<'a> {
+    pub definitions: &'a [u8],
+}
+
+/// No definitions: the end field alone.
+pub const NOTHING: Under<'static> = Under { definitions: &[TAG_END, 0, 0] };
+
+/// Of 1 and of 14 to 30: they name no place.
 pub fn refusal(input: Input, question: u8) -> u64 {
     u64::from(question) << 48 | (input as u64) << 40
 }
@@ -60,7 +75,7 @@ pub fn refusal_at(input: Input, refused: Refused) -> u64 {
     refusal(input, question) | (row as u64) << 16 | byte as u64
 }
 
-/// A refusal of a card, with the card's number.
+/// A refusal of a card or of a definition, with its number.
 pub fn of_card(card: usize, refusal: u64) -> u64 {
     refusal | (card as u64) << 32
 }
@@ -94,7 +109,7 @@ pub fn validate(picture: &[u8]) -> u64 {
     }
 }
 
-pub fn normalize(picture: &[u8], result: &mut [u8]) -> u64 {
+pub fn normalize(under: Under, picture: &[u8], result: &mut [u8]) -> u64 {
     if result.len() < MAX_BYTES {
         return refusal(Input::Buffer, 1);
     }
@@ -103,6 +118,9 @@ pub fn normalize(picture: &[u8], result: &mut [u8]) -> u64 {
     if let Err(refused) = table.read(picture) {
         return refusal_at(Input::First, refused);
     }
+    if let Err(refusal) = unfold(under, &mut [(&mut table, refusal(Input::First, 0))]) {
+        return refusal;
+    }
     match normal::normalize(&table, &mut normal) {
         Ok(()) => answer(YES, normal.write(result)),
         Err(normal::TooLarge) => refusal(Input::First, 14),
@@ -110,13 +128,13 @@ pub fn normalize(picture: &[u8], result: &mut [u8]) -> u64 {
 }
 
 /// The verdict with evidence: does the second picture subsume the first?
-pub fn subsumes(first: &[u8], second: &[u8], work: &mut [u8], result: &mut [u8]) -> u64 {
+pub fn subsumes(under: Under, first: &[u8], second: &[u8], work: &mut [u8], result: &mut [u8]) -> u64 {
     if work.len() < WORK_BYTES || result.len() < MAX_EVIDENCE_BYTES {
         return refusal(Input::Buffer, 1);
     }
     let mut first_normal = Table::EMPTY;
     let mut second_normal = Table::EMPTY;
-    if let Err(refusal) = prepare(first, second, &mut first_normal, &mut second_normal, work) {
+    if let Err(refusal) = prepare(under, first, second, &mut first_normal, &mut second_normal, work) {
         return refusal;
     }
     let mut search = Search::new(&first_normal, &second_normal);
@@ -127,13 +145,13 @@ pub fn subsumes(first: &[u8], second: &[u8], work: &mut [u8], result: &mut [u8])
     }
 }
 
-pub fn verify(first: &[u8], second: &[u8], evidence: &[u8], work: &mut [u8]) -> u64 {
+pub fn verify(under: Under, first: &[u8], second: &[u8], evidence: &[u8], work: &mut [u8]) -> u64 {
     if work.len() < WORK_BYTES {
         return refusal(Input::Buffer, 1);
     }
     let mut first_normal = Table::EMPTY;
     let mut second_normal = Table::EMPTY;
-    if let Err(refusal) = prepare(first, second, &mut first_normal, &mut second_normal, work) {
+    if let Err(refusal) = prepare(under, first, second, &mut first_normal, &mut second_normal, work) {
         return refusal;
     }
     match evidence::check(&first_normal, &second_normal, evidence) {
@@ -144,13 +162,13 @@ pub fn verify(first: &[u8], second: &[u8], evidence: &[u8], work: &mut [u8]) -> 
 }
 
 /// The common picture: the least common subsumer of both.
-pub fn lcs(first: &[u8], second: &[u8], work: &mut [u8], result: &mut [u8]) -> u64 {
+pub fn lcs(under: Under, first: &[u8], second: &[u8], work: &mut [u8], result: &mut [u8]) -> u64 {
     if work.len() < WORK_BYTES || result.len() < MAX_BYTES {
         return refusal(Input::Buffer, 1);
     }
     let mut first_normal = Table::EMPTY;
     let mut second_normal = Table::EMPTY;
-    if let Err(refusal) = prepare(first, second, &mut first_normal, &mut second_normal, work) {
+    if let Err(refusal) = prepare(under, first, second, &mut first_normal, &mut second_normal, work) {
         return refusal;
     }
     match lcs::write(&first_normal, &second_normal, result) {
@@ -160,11 +178,11 @@ pub fn lcs(first: &[u8], second: &[u8], work: &mut [u8], result: &mut [u8]) -> u
 }
 
 /// The most specific cards of a book that subsume the case.
-pub fn most_specific(case: &[u8], book: &[u8], work: &mut [u8]) -> u64 {
+pub fn most_specific(under: Under, case: &[u8], book: &[u8], work: &mut [u8]) -> u64 {
     if work.len() < WORK_BYTES {
         return refusal(Input::Buffer, 1);
     }
-    match most_specific::find(case, book) {
+    match most_specific::find(under, case, book) {
         Ok(cards) => {
             work[..WORK_BYTES].fill(0);
             answer(YES, cards as usize)
@@ -173,9 +191,24 @@ pub fn most_specific(case: &[u8], book: &[u8], work: &mut [u8]) -> u64 {
     }
 }
 
+/// Asks 25 to 30 of the definitions and of the pictures that are given, each with its input, and unfolds these.
+fn unfold(under: Under, given: &mut [(&mut Table, u64)]) -> Result<(), u64> {
+    let definitions = Definitions::read(under.definitions)?;
+    if definitions.are_none() {
+        return Ok(());
+    }
+    let asked: Vec<definitions::Given> = given.iter().map(|(table, input)| (&**table, *input)).collect();
+    definitions.ask(&asked)?;
+    for (table, _) in given {
+        **table = definitions.unfold(table);
+    }
+    Ok(())
+}
+
 /// Reads two pictures and leaves their normal tables, in the work space too; or gives the word of the refusal.
 /// Nothing is written before both have a normal table.
 fn prepare(
+    under: Under,
     first: &[u8],
     second: &[u8],
     first_normal: &mut Table,
@@ -186,6 +219,8 @@ fn prepare(
     let mut second_table = Table::EMPTY;
     first_table.read(first).map_err(|refused| refusal_at(Input::First, refused))?;
     second_table.read(second).map_err(|refused| refusal_at(Input::Second, refused))?;
+    let inputs = [Input::First, Input::Second].map(|input| refusal(input, 0));
+    unfold(under, &mut [(&mut first_table, inputs[0]), (&mut second_table, inputs[1])])?;
     normal::normalize(&first_table, first_normal).map_err(|_| refusal(Input::First, 14))?;
     normal::normalize(&second_table, second_normal).map_err(|_| refusal(Input::Second, 14))?;
     let (first_half, second_half) = work[..WORK_BYTES].split_at_mut(MAX_BYTES);

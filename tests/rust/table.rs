@@ -192,7 +192,7 @@ impl Table {
     }
 
     /// From the last row on, so that each row comes before those of its siblings that are linked already.
-    fn link(&mut self) {
+    pub fn link(&mut self) {
         for number in (1..self.count).rev() {
             let parent = usize::from(self.rows[number].parent);
             self.rows[number].next = self.rows[parent].first;

@@ -5,10 +5,11 @@
  * for writing hold nothing, so that valgrind also sees an answer or a byte that
  * depends on what was there.
  *
- *   heap_calls FILE..     sample pictures (.pic), evidence (.map, .ref) and books (.book)
+ *   heap_calls FILE..     sample pictures (.pic), evidence (.map, .ref), books (.book) and definitions (.defs)
  */
 
 #include "area.h"
+#include "calls.h"
 #include "check.h"
 
 #include <stdio.h>
@@ -34,42 +35,42 @@ static uint64_t validate(const struct file *const *files, uint8_t *work, size_t 
                          size_t result_len)
 {
     (void)work, (void)work_len, (void)result, (void)result_len;
-    return zuvaropy_validate(files[0]->bytes, files[0]->length);
+    return call_validate(files[0]->bytes, files[0]->length);
 }
 
 static uint64_t normalize(const struct file *const *files, uint8_t *work, size_t work_len, uint8_t *result,
                           size_t result_len)
 {
     (void)work, (void)work_len;
-    return zuvaropy_normalize(files[0]->bytes, files[0]->length, result, result_len);
+    return call_normalize(files[0]->bytes, files[0]->length, result, result_len);
 }
 
 static uint64_t subsumes(const struct file *const *files, uint8_t *work, size_t work_len, uint8_t *result,
                          size_t result_len)
 {
-    return zuvaropy_subsumes(files[0]->bytes, files[0]->length, files[1]->bytes, files[1]->length, work, work_len,
-                             result, result_len);
+    return call_subsumes(files[0]->bytes, files[0]->length, files[1]->bytes, files[1]->length, work, work_len,
+                         result, result_len);
 }
 
 static uint64_t lcs(const struct file *const *files, uint8_t *work, size_t work_len, uint8_t *result, size_t result_len)
 {
-    return zuvaropy_lcs(files[0]->bytes, files[0]->length, files[1]->bytes, files[1]->length, work, work_len, result,
-                        result_len);
+    return call_lcs(files[0]->bytes, files[0]->length, files[1]->bytes, files[1]->length, work, work_len, result,
+                    result_len);
 }
 
 static uint64_t verify(const struct file *const *files, uint8_t *work, size_t work_len, uint8_t *result,
                        size_t result_len)
 {
     (void)result, (void)result_len;
-    return zuvaropy_verify(files[0]->bytes, files[0]->length, files[1]->bytes, files[1]->length, files[2]->bytes,
-                           files[2]->length, work, work_len);
+    return call_verify(files[0]->bytes, files[0]->length, files[1]->bytes, files[1]->length, files[2]->bytes,
+                       files[2]->length, work, work_len);
 }
 
 static uint64_t most_specific(const struct file *const *files, uint8_t *work, size_t work_len, uint8_t *result,
                               size_t result_len)
 {
     (void)result, (void)result_len;
-    return zuvaropy_most_specific(files[0]->bytes, files[0]->length, files[1]->bytes, files[1]->length, work, work_len);
+    return call_most_specific(files[0]->bytes, files[0]->length, files[1]->bytes, files[1]->length, work, work_len);
 }
 
 static const struct call calls[] = {
@@ -118,7 +119,7 @@ static size_t work_written(const struct call *call, uint64_t word)
 {
     const unsigned int question = zuvaropy_question(word);
 
-    return question == 0 || (question > ZUVAROPY_QUESTION_MERGED && question != ZUVAROPY_QUESTION_BOOK)
+    return question == 0 || (question >= ZUVAROPY_QUESTION_COMMON && question <= ZUVAROPY_QUESTION_REFUTED)
                ? call->work_length
                : 0;
 }
@@ -238,17 +239,39 @@ static void check_picture(const struct file *picture)
     }
 }
 
+/* The calls under definitions, with the picture as both. */
+static void check_under(const struct file *picture, const struct file *definitions)
+{
+    const struct file *files[2] = {picture, picture};
+    int i;
+
+    calls_under(definitions->bytes, definitions->length);
+    check_only(NORMALIZE, files);
+    check_only(LCS, files);
+    check_evidence(picture, picture);
+    for (i = 0; i < count; i++)
+        if (has_suffix(&all[i], ".book")) {
+            files[1] = &all[i];
+            check_only(MOST_SPECIFIC, files);
+        }
+    calls_under_none();
+}
+
 int main(int argc, char **argv)
 {
-    int i;
+    int i, j;
 
     count = argc - 1;
     all = new_memory((size_t)argc * sizeof *all);
     for (i = 0; i < count; i++)
         read_file(&all[i], argv[i + 1]);
     for (i = 0; i < count; i++)
-        if (has_suffix(&all[i], ".pic"))
+        if (has_suffix(&all[i], ".pic")) {
             check_picture(&all[i]);
+            for (j = 0; j < count; j++)
+                if (has_suffix(&all[j], ".defs"))
+                    check_under(&all[i], &all[j]);
+        }
     for (i = 0; i < count; i++)
         free(all[i].bytes);
     free(all);
