@@ -2,7 +2,7 @@
 use picture::answer::Refusal;
 
 // A word of cards, card n as bit n, or the refusal.
-#[derive(Drop)]
+#[derive(Clone, Copy)]
 pub enum Selected {
     Cards(u32),
     Refused(Refusal),

@@ -31,14 +31,14 @@ use table::layout::Limits;
 use table::number::clear;
 
 // Of two cards whether the first covers the second, and whether the second covers the first.
-#[derive(Drop)]
+#[derive(Clone, Copy)]
 struct Order {
     over: bool,
     under: bool,
 }
 
 // Of the cards compared so far those that are passed over, and where the cached tables end.
-#[derive(Drop)]
+#[derive(Clone, Copy)]
 struct Progress {
     redundant: u32,
     at: usize,

@@ -1,3 +1,5 @@
+#![tactic(auto)]
+
 // The cards that cover the case, compared with each other.
 pub mod compare;
 pub mod spot;

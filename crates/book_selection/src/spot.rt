@@ -17,7 +17,7 @@ use table::layout::Limits;
 use unfold_tables::tables::unfolded_table;
 
 // Where a card's table stands: from a byte of the tables on if it is cached, else of the work space; and its rows.
-#[derive(Drop)]
+#[derive(Clone, Copy)]
 pub struct Spot {
     pub card: usize,
     pub cached: bool,

@@ -25,7 +25,7 @@ use table::layout::Limits;
 use unfold_tables::tables::unfolded_table;
 
 // Of the cards tested so far those that subsume the case, and where the cached tables end.
-#[derive(Drop)]
+#[derive(Clone, Copy)]
 pub struct Subsumers {
     pub word: u32,
     pub at: usize,

@@ -1,3 +1,5 @@
+#![tactic(auto)]
+
 // The picture of a definition as a part of the definitions book, and defined names one by one.
 pub mod names;
 pub mod part;

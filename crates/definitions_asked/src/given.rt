@@ -1,7 +1,7 @@
 // What a call is given.
 
 // What there is beside the first picture, in a slice of its own: nothing; a second picture; a card book.
-#[derive(Drop)]
+#[derive(Clone, Copy)]
 pub enum Rest {
     Nothing,
     Second,

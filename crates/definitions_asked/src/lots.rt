@@ -9,7 +9,7 @@ use field_places::places::Fields;
 use picture::answer::Input;
 
 // Where pictures come from. Where there is nothing beside the first, no picture comes: what is said of it is not asked.
-#[derive(Drop)]
+#[derive(Clone, Copy)]
 pub enum Source {
     First,
     Nothing,

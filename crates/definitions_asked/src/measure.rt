@@ -17,7 +17,7 @@ use unfold_rows::file::unfold_file;
 use unfold_rows::wants::wants_defined;
 
 // What is answered so far: 29, and 30 where 29 is answered yes.
-#[derive(Drop)]
+#[derive(Clone, Copy)]
 pub struct Progress {
     pub few: Asked,
     pub shallow: Asked,

@@ -10,7 +10,7 @@ use borrow.Author.Tests.{eq-eqb, eqb-true, lt-ltb, ne_eqb, not-false, not-true}
 use lib.Dec.{eqb, ltb}
 use lib.ListN.{drop, get_or, length, length-set, set, take}
 use lib.Seq.{drop-drop, get_or-set_other, get_or-set_same, take-nil}
-use mathlib.Core.Bool.{Bool, ◌&&◌, ◌||◌, false, false≢true, not, or_true, true, true≢false}
+use mathlib.Core.Bool.{Bool, ◌&&◌, ◌||◌, false, false≢true, not, or-true, true, true≢false}
 use mathlib.Core.List.{List, [], ◌∷◌}
 use mathlib.Core.Logic.{⊎_elim}
 use mathlib.Core.Path.{◌∙◌, ◌≡◌, ap, refl, subst, sym}
@@ -93,7 +93,7 @@ module _ (tbox starts : List ℕ) (defined : ℕ) (once : Bool) (k : ℕ) (so : 
         (λ j b. after (name_of tbox j) ∙ ap (λ t. t || eqb (name_of tbox j) name) (so.met j b))
         (after (name_of tbox k)
         ∙ ap (λ t. has defined (name_of tbox k) || t) (eq-eqb (name_of tbox k) name (sym is))
-        ∙ or_true (has defined (name_of tbox k)));
+        ∙ or-true (has defined (name_of tbox k)));
     meets = λ n h.
         ⊎_elim (λ e. let (j, b, same) = so.meets n e in (j, omega arith, same))
         (λ e. (k, omega arith, sym is ∙ sym (eqb-true n name e)))
@@ -177,7 +177,7 @@ module _ (tbox : List ℕ) (form : definitions_form tbox ≡ true) (index : Inde
         ap (λ t. eqb j k || not t) (ne_eqb (name_of tbox j) (name_of tbox k) (elim (dec_lt j k) [
           | yes l ↦ so.differ e j k l b
           | no u ↦ λ same. so.differ e k j (omega (arith, other)) a (sym same)
-        ])) ∙ or_true (eqb j k)
+        ])) ∙ or-true (eqb j k)
   ]
 
   is_once : index.once ≡ named_once tbox

@@ -1,3 +1,5 @@
+#![tactic(auto)]
+
 // Rings of definitions (28).
 pub mod rings;
 pub mod uses;

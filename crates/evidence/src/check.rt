@@ -1,7 +1,7 @@
 // The answer of the fifth call. Its definition is in specs/Check and specs/Call, the code in evidence_check.
 use picture::answer::Refusal;
 
-#[derive(Drop)]
+#[derive(Clone, Copy)]
 pub enum Verified {
     MapTaken,
     RefutationTaken,

@@ -17,7 +17,7 @@ pub const MAX_FIELDS: usize = 32;
 pub const PLACES: usize = MAX_FIELDS + 1;
 
 // Which book is read: it says the tag of its fields.
-#[derive(Drop)]
+#[derive(Clone, Copy)]
 pub enum BookKind {
     Cards,
     Definitions,

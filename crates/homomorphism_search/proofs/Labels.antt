@@ -6,7 +6,7 @@
 use Prim.Native.Nat.{◌%◌, ◌<◌, ◌^◌, ℕ}
 use borrow.Author.Tests.{eq-eqb, ne_eqb}
 use lib.Dec.{eqb}
-use mathlib.Core.Bool.{Bool, ◌&&◌, and-false, and_true, false, not}
+use mathlib.Core.Bool.{Bool, ◌&&◌, and-false, and-true, false, not}
 use mathlib.Core.List.{List}
 use mathlib.Core.Path.{◌∙◌, ◌≡◌, ap, sym}
 use native.Mathlib.Nat.{mod-eq_of_lt}
@@ -47,4 +47,4 @@ module _ (t : List ℕ) (w : ℕ) (label : Label) where
         r ≡ subset (set_of label.wanted) has → label_carried s t w u ≡ (r && subset (set_of label.excluded) lacks)
     carried_names has lacks r other wants excludes told =
         carried_label
-        ∙ simp (ne_eqb label.bottom 1 other, and_true, low_same has (wanted_of s u) wants, low_same lacks (excluded_of s u) excludes, told)
+        ∙ simp (ne_eqb label.bottom 1 other, and-true, low_same has (wanted_of s u) wants, low_same lacks (excluded_of s u) excludes, told)

@@ -2,7 +2,7 @@
 use picture::answer::Refusal;
 
 // The length of the common picture in bytes, or the refusal.
-#[derive(Drop)]
+#[derive(Clone, Copy)]
 pub enum Common {
     Length(usize),
     Refused(Refusal),

@@ -1,2 +1,4 @@
+#![tactic(auto)]
+
 // The fourth call.
 pub mod call;

@@ -14,7 +14,7 @@ use row_sets::rows::{
 use table::layout::{KIND_EXISTS, KIND_FOR_ALL, Limits};
 
 // Of one role: the some-successors, what hangs from A, and the merged rows of a set from which the same hangs.
-#[derive(Drop)]
+#[derive(Clone, Copy)]
 struct RoleParts {
     some: RowSet,
     below: Successors,

@@ -7,7 +7,7 @@ use Prim.Native.Nat.{◌%◌, ◌^◌, ℕ}
 use borrow.Author.Tests.{eq-eqb, ne_eqb}
 use lib.Bits.{bit_and}
 use lib.Dec.{eqb}
-use mathlib.Core.Bool.{Bool, ◌&&◌, and-false, and_true, false, not, true}
+use mathlib.Core.Bool.{Bool, ◌&&◌, and-false, and-true, false, not, true}
 use mathlib.Core.List.{List}
 use mathlib.Core.Path.{◌∙◌, ◌≡◌, refl, sym}
 use Rattle.table.proofs.NameSets.{subset_none}
@@ -52,4 +52,4 @@ module _ (t : List ℕ) (w : ℕ) (label : Label) where
       satisfies_held r o is h over other =
           satisfies_is
           ∙ rw (sym is ∙ h, ne_eqb label.bottom 1 other, subset_none (intersection (set_of label.excluded) held), over, sym (not_not (eqb (bit_and (set_of label.excluded) held) 0)))
-          (and_true (eqb (bit_and (set_of label.excluded) held) 0))
+          (and-true (eqb (bit_and (set_of label.excluded) held) 0))

@@ -1,2 +1,4 @@
+#![tactic(auto)]
+
 // The model check: whether individual 0 fits a table.
 pub mod model;

@@ -1,2 +1,4 @@
+#![tactic(auto)]
+
 // The sixth call.
 pub mod most_specific;

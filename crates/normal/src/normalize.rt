@@ -2,7 +2,7 @@
 use picture::answer::Refusal;
 
 // The length of a normal table in bytes, or the refusal.
-#[derive(Drop)]
+#[derive(Clone, Copy)]
 pub enum Normalized {
     Length(usize),
     Refused(Refusal),

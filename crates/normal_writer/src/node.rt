@@ -26,7 +26,7 @@ pub struct Branch {
 }
 
 // The edge by which a row hangs.
-#[derive(Drop)]
+#[derive(Clone, Copy)]
 pub struct Edge {
     pub parent: usize,
     pub kind: u8,

@@ -1,2 +1,4 @@
+#![tactic(auto)]
+
 // The second call.
 pub mod normalize;

@@ -7,7 +7,7 @@ use table::layout::place;
 
 // Which input a refusal concerns. The cards of a card book are numbered from 0, and so are the definitions of a
 // definitions book.
-#[derive(Drop)]
+#[derive(Clone, Copy)]
 pub enum Input {
     Buffer,
     First,
@@ -21,7 +21,7 @@ pub enum Input {
 
 // The number of the question that was answered no, and the input it concerns; where a field of a picture is refused (2
 // to 13), the rows before it and the byte where it begins, from the picture's first, else 0 and 0.
-#[derive(Drop)]
+#[derive(Clone, Copy)]
 pub struct Refusal {
     pub number: u8,
     pub input: Input,
@@ -30,14 +30,14 @@ pub struct Refusal {
 }
 
 // Questions in their order: all answered yes, or the first that is answered no.
-#[derive(Drop)]
+#[derive(Clone, Copy)]
 pub enum Asked {
     Yes,
     No(Refusal),
 }
 
 // A picture's row count, or the refusal.
-#[derive(Drop)]
+#[derive(Clone, Copy)]
 pub enum Answer {
     Rows(usize),
     Refused(Refusal),

@@ -2,7 +2,7 @@
 
 // What reading a picture gives, whichever input it is: its row count, or the number of the question answered no, and
 // how many rows were read before its field.
-#[derive(Drop)]
+#[derive(Clone, Copy)]
 pub enum Reading {
     Rows(usize),
     Failed(u8, usize),

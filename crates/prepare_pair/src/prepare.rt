@@ -21,14 +21,14 @@ use table::layout::{END_SIZE, Limits, place};
 use table_rows::row::ends_at;
 
 // The rows of the two normal tables.
-#[derive(Drop)]
+#[derive(Clone, Copy)]
 pub struct Pair {
     pub first: usize,
     pub second: usize,
 }
 
 // Both tables, or the first refusal.
-#[derive(Drop)]
+#[derive(Clone, Copy)]
 pub enum Prepared {
     Tables(Pair),
     Refused(Refusal),

@@ -1,2 +1,4 @@
+#![tactic(auto)]
+
 // The product of two tables, made depth first along both.
 pub mod graft;

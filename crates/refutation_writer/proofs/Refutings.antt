@@ -19,7 +19,7 @@ use Prim.Native.Nat.{◌%◌, ◌<◌, ◌^◌, suc, ℕ}
 use borrow.Author.Tests.{eq-eqb, ne_eqb}
 use lib.Dec.{T, eqb}
 use lib.ListN.{get_or}
-use mathlib.Core.Bool.{Bool, and-false, and_true, false, not, true}
+use mathlib.Core.Bool.{Bool, and-false, and-true, false, not, true}
 use mathlib.Core.List.{List, [], ◌∷◌}
 use mathlib.Core.Logic.{⊎_elim}
 use mathlib.Core.Path.{◌∙◌, ◌≡◌, ap, ap₂, refl, sym}
@@ -72,7 +72,7 @@ module _ (t : List ℕ) (w set mark : ℕ) (is : mark ≡ impossible_of t w) whe
   pub within_names : (mark ≡ 1 → ⊥) → (wants : ℕ) → Read wants (wanted_of t w) → wanted_within t w set ≡ subset wants set
   unfolding wanted_within
   within_names other wants wants_is =
-      rw (sym is, ne_eqb mark 1 other, low_same wants (wanted_of t w) wants_is) (and_true (subset wants set))
+      rw (sym is, ne_eqb mark 1 other, low_same wants (wanted_of t w) wants_is) (and-true (subset wants set))
 
 -- ---- row u's individual, against row w
 

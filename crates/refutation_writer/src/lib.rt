@@ -1,3 +1,5 @@
+#![tactic(auto)]
+
 // The refutation that is written.
 pub mod refute;
 pub mod writer;

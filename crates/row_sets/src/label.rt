@@ -9,7 +9,7 @@ ghost use Rattle.row_sets.specs.Labels.{Joined};
 use table::names::Names;
 use table_rows::row::{excluded, impossible, wanted};
 
-#[derive(Drop)]
+#[derive(Clone, Copy)]
 pub struct Label {
     pub wanted: Names,
     pub excluded: Names,

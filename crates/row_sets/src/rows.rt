@@ -27,7 +27,7 @@ pub const MASKS: usize = 2 * ROLE_BITS * WORDS;
 pub const LINKS: usize = 2 * MAX_ROWS;
 
 // Row j is bit j % WORD_ROWS of word j / WORD_ROWS.
-#[derive(Drop)]
+#[derive(Clone, Copy)]
 pub struct RowSet {
     a: u64,
     b: u64,
@@ -36,7 +36,7 @@ pub struct RowSet {
 }
 
 // The rows that hang from a set, and their roles: role r is bit r.
-#[derive(Drop)]
+#[derive(Clone, Copy)]
 pub struct Successors {
     pub set: RowSet,
     pub roles: u64,

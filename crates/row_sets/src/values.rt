@@ -12,7 +12,7 @@ use crate::label::{Label, join};
 use crate::rows::{LINKS, RowSet, Successors};
 
 // `first` is a row of the set; the number of rows if there is none.
-#[derive(Drop)]
+#[derive(Clone, Copy)]
 pub struct Values {
     pub label: Label,
     pub successors: Successors,

@@ -1,3 +1,5 @@
+#![tactic(auto)]
+
 // The third call.
 pub mod subsumes;
 pub mod verdict;

@@ -2,7 +2,7 @@
 use picture::answer::Refusal;
 
 // Yes or no, with the length of the evidence.
-#[derive(Drop)]
+#[derive(Clone, Copy)]
 pub enum Verdict {
     Yes(usize),
     No(usize),

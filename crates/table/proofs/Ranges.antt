@@ -5,7 +5,7 @@
 --   each_at, at_each                 a test of all succeeds exactly when f holds of every number of the range
 --   some_same, each_same             functions that agree on the range give the same
 use mathlib.Core.Path.{◌≡◌, refl, ◌∙◌}
-use mathlib.Core.Bool.{Bool, true, false, ◌&&◌, false≢true, or_true}
+use mathlib.Core.Bool.{Bool, true, false, ◌&&◌, false≢true, or-true}
 use mathlib.Core.Logic.{⊎_elim}
 use Prim.Native.Nat.{ℕ, zero, suc, ◌+◌, ◌-◌, ◌≤◌, ◌<◌}
 use native.Mathlib.Nat.{eq-or-lt_of_le}
@@ -52,7 +52,7 @@ at_some f zero j k l u t = absurd (omega arith)
 at_some f (suc n) j k l u t =
     ⊎_elim
     (λ (e : j ≡ k). rw (e, t))
-    (λ (s : j < k). rw (at_some f n (j + 1) k (omega arith) (omega arith) t) (or_true (f j)))
+    (λ (s : j < k). rw (at_some f n (j + 1) k (omega arith) (omega arith) t) (or-true (f j)))
     (eq-or-lt_of_le l)
 
 pub each_at : (f : ℕ → Bool) (n j : ℕ) → each f n j ≡ true → (k : ℕ) → j ≤ k → k < j + n → f k ≡ true

@@ -64,7 +64,7 @@ pub const CLIP_ROWS: usize = 64;
 pub const CLIP_DEPTH: usize = 6;
 
 // How many rows a picture may have, and how many edges from the root.
-#[derive(Drop)]
+#[derive(Clone, Copy)]
 pub struct Limits {
     pub rows: usize,
     pub depth: usize,
@@ -83,7 +83,7 @@ impl Limits {
 }
 
 // What a caller's profile number names.
-#[derive(Drop)]
+#[derive(Clone, Copy)]
 pub enum Profile {
     Known(Limits),
     Unknown,

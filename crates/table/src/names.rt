@@ -9,7 +9,7 @@ ghost use Rattle.table.specs.NameValues.{set_of, overlap};
 use crate::layout::NAME_BYTES;
 use crate::number::{copy_in, load64};
 
-#[derive(Drop)]
+#[derive(Clone, Copy)]
 pub struct Names {
     word: u64,
 }

@@ -2,7 +2,7 @@
 use crate::names::Names;
 
 // A row by value: what a table under construction takes.
-#[derive(Drop)]
+#[derive(Clone, Copy)]
 pub struct Row {
     pub parent: usize,
     pub kind: u8,

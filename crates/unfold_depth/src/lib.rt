@@ -1,2 +1,4 @@
+#![tactic(auto)]
+
 // 30: the depth of an unfolded picture.
 pub mod depth;

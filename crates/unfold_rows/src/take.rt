@@ -15,7 +15,7 @@ use table::names::Names;
 use table_rows::row::{excluded, impossible, wanted};
 
 // A label, and the names of the definitions that were taken in.
-#[derive(Drop)]
+#[derive(Clone, Copy)]
 pub struct Taking {
     pub wanted: Names,
     pub excluded: Names,

@@ -1,3 +1,5 @@
+#![tactic(auto)]
+
 // The verdict program's other answers, on pairs of sample pictures, one after the other.
 use verdict_tool::run;
 

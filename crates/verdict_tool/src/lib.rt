@@ -1,3 +1,5 @@
+#![tactic(auto)]
+
 // The verdict program: reads two pictures, and prints whether the second covers the first. It is a library, so that
 // programs with files of their own can run it.
 mod load;

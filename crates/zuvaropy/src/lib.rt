@@ -1,3 +1,5 @@
+#![tactic(auto)]
+
 // The C interface: each call takes numbers and byte buffers and gives one 64-bit word, which
 // interface/specs/Word.antt lays down. Every call has paper 01's limits. Every call but the plain test takes a
 // definitions book, in front of its other buffers.

@@ -1,0 +1,16 @@
+-- At the loop's head every individual before k passes.
+use Prim.Native.Nat.{◌≤◌, ◌-◌}
+use mathlib.Core.Path.{◌∙◌, ◌≡◌, sym}
+use native.Mathlib.Nat.{sub-zero}
+use native.Mathlib.Omega.{arith}
+use borrow.Author.Tests.{not-false, not-true}
+use Rattle.table.proofs.Ranges.{each_done, each_fails, each_on}
+use Rattle.table.specs.Range.{each}
+use Rattle.countermodel.specs.Individual.{individual_ok}
+use Rattle.refutation_reader.proofs.individual.individuals_ok.Given as goal
+
+abbrev pub invariant-loop-k : goal.invariant-loop-k
+invariant-loop-k l = (l.k ≤ l.n) × (each (individual_ok l.e) l.n 0 ≡ each (individual_ok l.e) (l.n - l.k) l.k)
+
+abbrev pub decreases-loop-k : goal.decreases-loop-k
+decreases-loop-k l = l.n - l.k

@@ -1,0 +1,7 @@
+-- The set at the place that `place` gives.
+use mathlib.Core.Path.{◌∙◌}
+use borrow.Author.Rules.{rules}
+use Rattle.table_rows.proofs.row.names.Goals as goal
+
+pub returns : goal.returns
+returns c = (c.load.ensures.0 ∙ rw c.place.ensures, c.load.ensures.1)
