@@ -73,6 +73,11 @@ class Turn:
                 break
             at = p.parent
         if at is None:
+            if first == "requires" and self.entry.of["stem"]:
+                if rest[:1] == ["0"]:
+                    return "plain", place, "MEASURE"
+                if rest[:1] == ["1"]:
+                    rest = rest[1:]
             return "plain", place, ".".join(["c", first, *rest])
         if p.arm:
             new, count, parts = p.arm
@@ -150,7 +155,9 @@ class Turn:
                 if found[0] in ("place", "prefix"):
                     self.left.append(f"{it[0]} is a {found[0]}")
                 out.append(found[2] if found[0] != "prefix" else it[0])
-        return "".join(out) + text[at:]
+        text = "".join(out) + text[at:]
+        # the measure's equation is among the facts that omega reads
+        return text.replace("(arith, MEASURE)", "arith").replace(", MEASURE", "")
 
 
 def declarations(text):
@@ -204,13 +211,13 @@ def equation(name, body):
 class Helper:
     """A lemma or a value over a place: what is known there stands in each answer that cites it."""
 
-    def __init__(self, name, kind, unfolding, body):
-        binder = re.match(rf"\(({N}) : ({N})\.({N})[^()]*\)\s*", kind)
-        self.name, self.unfolding, self.place = name, unfolding, binder[3]
+    def __init__(self, name, kind, unfolding, body, cycle):
+        binder = re.match(rf"\(({N}) : ({N})\.({N})[^()]*(?:\([^()]*\)[^()]*)*\)\s*", kind)
+        self.name, self.unfolding, self.place, self.cycle = name, unfolding, binder[3], cycle
         self.type = re.sub(r"^→\s*", "", kind[binder.end() :])
-        self.is_place = re.match(r"tie\.", self.type) is not None
+        self.is_place = re.match(rf"{re.escape(binder[2])}\.", self.type) is not None
         eq = equation(name, body)
-        self.param, *self.more = eq[1].split()
+        self.param, *self.more = eq[1].split()[cycle:]
         self.body = body[eq.end() :].strip()
 
 
@@ -227,7 +234,7 @@ def argument(text, at):
             if depth == 0:
                 return start, at
     it = PATH.match(text, at)
-    return (start, it.end()) if it else None
+    return (start, it.end()) if it and it[0] not in ("=", ":", "λ", "×", "→") else None
 
 
 def without_places(text, helpers):
@@ -281,24 +288,42 @@ def whole(term, helpers, entry, place, head, left):
     return "\n    ".join(out + [Turn(entry, place, head, left).term(term)]), unfolding
 
 
-def turn(text, entry, prefix, crate, place):
-    for old, new in entry.of.get("args") or []:
-        if old.startswith(".args "):
-            text = re.sub(rf"{re.escape(old.split()[1])}(?![^\s(){{}}.;,@\"«»])", new.split()[1], text)
+def turn(text, entries, crate, place):
+    """entries has, for each name of a module of places, the function's names; of a function in no cycle it is `tie`."""
+    cycle = "tie" not in entries
+    for entry in entries.values():
+        for old, new in entry.of.get("args") or []:
+            if old.startswith(".args "):
+                text = re.sub(rf"{re.escape(old.split()[1])}(?![^\s(){{}}.;,@\"«»])", new.split()[1], text)
     head, uses, chunks = declarations(text)
     invariants, answers, said = [], [], []
     helpers = {}
+    params = {}
+    for entry in entries.values():
+        for fn, names in entry.of["params"].items():
+            params[fn.split("::")[-1]] = names
     for name, comment, lines in chunks:
         sig, unfolding, body = split(lines)
         kind = sig.split(" : ", 1)[1] if " : " in sig else ""
-        if re.match(rf"\({N} : tie\.{N}[^()]*\)", kind) and equation(name, body):
-            helpers[name] = Helper(name, kind, unfolding, body)
+        kind = re.sub(r"^\(t : ℕ\) (→ )?(?=\(\w+ : )", "", kind)
+        if (it := re.match(rf"\({N} : ({N})\.(?:{N})[^()]*(?:\([^()]*\)[^()]*)*\)", kind)) and it[1] in entries and equation(name, body):
+            helpers[name] = Helper(name, kind, unfolding, body, cycle)
     for name, comment, lines in chunks:
         sig, unfolding, body = split(lines)
         kind = sig.split(" : ", 1)[1] if " : " in sig else ""
         it = re.match(rf"(?:\(t : ℕ\) → )?({N})\.(Need-)?({N})", kind)
-        if it and it[1] == "tie" and (it[2] or it[3].startswith(("invariant-", "decreases-"))):
+        if cycle and kind.startswith("Measures "):
+            eq = equation(name, body)
+            k, fn = re.search(rf"({N})-kinds\.ps", kind)[1], None
+            fn = next(e.of["stem"][:-1] for a, e in entries.items() if a == k + "-lts")
+            var = eq[1].split()[1]
+            count = lambda m: "l." + params[fn][len(re.findall(r"\.1", m[0]))]
+            term = re.sub(rf"(?<![\w.]){var}(?:\.1)*\.0(?!\.)", count, body[eq.end() :])
+            invariants += comment + [f"abbrev pub decreases-{fn} : goal.decreases-{fn}", f"decreases-{fn} l = {term.strip()}", ""]
+        elif it and it[1] in entries and (it[2] or it[3].startswith(("invariant-", "decreases-"))):
             what = it[3]
+            entry = entries[it[1]]
+            stem = entry.of["stem"]
             if it[2]:
                 found = entry.need(what)
                 if not found:
@@ -309,16 +334,19 @@ def turn(text, entry, prefix, crate, place):
                 if not eq:
                     answers += comment + [f"-- LEFT {name}: its equation"] + ["-- " + l for l in lines] + [""]
                     continue
-                params = eq[1].split()
+                first = eq[1].split()[:1]
+                bound = [b for b in eq[1].split()[cycle:] if b != "κs"]
+                arg = " ".join((first if cycle else []) + ["c"] + bound[1:])
                 term = body[eq.end() :]
                 if term.strip() in ("search rules", "omega arith"):
                     continue
                 left = []
-                now, more = whole(term, helpers, entry, at, params[0], left)
+                now, more = whole(term, helpers, entry, at, bound[0], left)
+                new = stem + new
                 unfolding = unfolding + [u for u in more if u not in unfolding]
                 answers += comment + [f"-- LEFT {l}" for l in left]
                 sep = "\n    " if "\n" in now.strip() or now.strip().startswith("let ") else " "
-                answers += [f"pub {new} : goal.{new}", *unfolding, f"{new} c ={sep}{now.strip()}", ""]
+                answers += [f"pub {new} : goal.{new}", *unfolding, f"{new} {arg} ={sep}{now.strip()}", ""]
             else:
                 word, loop = what.split("-", 1)
                 found = entry.loop(loop)
@@ -328,11 +356,12 @@ def turn(text, entry, prefix, crate, place):
                     continue
                 new, variables, changed = found
                 eq = equation(name, body)
-                params = eq[1].split()
+                bound = eq[1].split()
+                new = stem + new
                 order = [("initial." if c else "") + v for v, c in zip(variables, changed)] + [v for v, c in zip(variables, changed) if c]
-                if len(order) != len(params):
-                    said.append(f"{what}: {params} against {order}")
-                table = dict(zip(params, order))
+                if len(order) != len(bound):
+                    said.append(f"{what}: {bound} against {order}")
+                table = dict(zip(bound, order))
                 def sub(m):
                     if m[1] in table:
                         return "l." + table[m[1]] + m[2]
@@ -342,13 +371,15 @@ def turn(text, entry, prefix, crate, place):
                 invariants += comment + [f"abbrev pub {word}-{new} : goal.{word}-{new}", *unfolding, f"{word}-{new} l ={sep}{term.strip()}", ""]
         elif it and it[1] == "statement" or "statement M" in kind or name.endswith(("-spec", "_spec")):
             continue
+        elif cycle and (kind.startswith("ℕ → In ") or kind.startswith("ℕ → ") and ".Claims" in kind or name.startswith("+")):
+            continue
         elif name in helpers:
             continue
         else:
-            if "tie." in "\n".join(lines):
+            if re.search(rf"(?:{'|'.join(map(re.escape, entries))})\.", "\n".join(lines)):
                 answers += ["-- LEFT a helper of places"]
             answers += comment + lines + [""]
-    keep = [u for u in uses if not re.search(r"\.(Statement|Tie|Lts\S*|Reads|Kinds)(\.|\s|$)", u)]
+    keep = [u for u in uses if not re.search(r"\.(Statement|Tie|Lts\S*|Reads|Kinds)(\.|\s|$)|\.\{statement\}|borrow\.Fn\.(Kinds|PlainCycle)", u)]
     out = {}
     path = ".".join(place)
     if invariants:
@@ -373,11 +404,16 @@ def main(argv):
             continue
         place = folder.split(os.sep)[1:]
         key = f"Rattle-{crate}-proofs." + ".".join(place) + ".Lts"
-        if key not in listed:
+        entries = {"tie": key} if key in listed else {}
+        if place[-1].startswith("+"):
+            for it in listed:
+                if it.startswith(key + "-"):
+                    entries[it[len(key) + 1 :].replace("_", "-") + "-lts"] = it
+        if not entries:
             print("no names for", folder)
             continue
         text = subprocess.run(["git", "show", f"{begun}:./{file}"], capture_output=True, text=True, check=True).stdout
-        out, said = turn(text, Entry(listed[key]), "", crate, place)
+        out, said = turn(text, {a: Entry(listed[k]) for a, k in entries.items()}, crate, place)
         for it in ("Proof.antt", "Answers.antt", "Invariants.antt"):
             if os.path.exists(os.path.join(folder, it)):
                 os.remove(os.path.join(folder, it))

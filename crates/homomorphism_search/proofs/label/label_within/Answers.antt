@@ -11,12 +11,12 @@ use Rattle.homomorphism_search.proofs.Labels.{carried_marked, carried_names}
 use Rattle.homomorphism_search.proofs.label.label_within.Goals as goal
 
 pub returns-then-label-eq1 : goal.returns-then-label-eq1
-returns-then-label-eq1 c =
+returns-then-label-eq1 c t w stands =
     let a = c.args in
     sym (carried_marked t w a.label a.s.now a.u stands c.if-label-eq1.true)
 
 pub returns-then-subset : goal.returns-then-subset
-returns-then-subset c =
+returns-then-subset c t w stands =
     let by_names : (t : List ℕ) (w : ℕ) → let a = c.args in RowLabel t w a.label → label_carried a.s.now t w a.u ≡ (c.subset.result && subset (set_of a.label.excluded) (set_of c.excluded-lacks.result)) = λ t w stands. let a = c.args in
     let has = c.wanted-has in
     let lacks = c.excluded-lacks in
@@ -25,7 +25,7 @@ returns-then-subset c =
     c.subset-then-subset.ensures ∙ sym (by_names t w stands ∙ rw c.if-subset.true)
 
 pub returns-else-subset : goal.returns-else-subset
-returns-else-subset c =
+returns-else-subset c t w stands =
     let by_names : (t : List ℕ) (w : ℕ) → let a = c.args in RowLabel t w a.label → label_carried a.s.now t w a.u ≡ (c.subset.result && subset (set_of a.label.excluded) (set_of c.excluded-lacks.result)) = λ t w stands. let a = c.args in
     let has = c.wanted-has in
     let lacks = c.excluded-lacks in

@@ -1,0 +1,14 @@
+-- At the loop's head k rows have been pushed.
+use Prim.Native.Nat.{◌-◌, ◌≤◌}
+use native.Mathlib.Omega.{arith}
+use borrow.Author.Rules.{rules}
+use mathlib.Core.Path.{◌∙◌, ◌≡◌, subst}
+use Rattle.unfold_rows.specs.Copies.{Added, copy_bytes}
+use Rattle.unfold_rows.proofs.Copying.{added_none, added_own}
+use Rattle.unfold_rows.proofs.copy.copy_rows.Given as goal
+
+abbrev pub invariant-loop-k : goal.invariant-loop-k
+invariant-loop-k l = (l.table.rows ≡ l.k) × (l.k ≤ l.rows) × Added l.initial.out l.out (copy_bytes l.s (λ p. p) 0 l.k) 0 l.k
+
+abbrev pub decreases-loop-k : goal.decreases-loop-k
+decreases-loop-k l = l.rows - l.k

@@ -1,0 +1,18 @@
+-- At the loop's head rows 1 to k - 1 of the definition have been pushed.
+use Prim.Native.Nat.{◌+◌, ◌-◌, ◌<◌, ◌≤◌}
+use native.Mathlib.Omega.{arith}
+use mathlib.Core.Path.{◌∙◌, ◌≡◌, ap, refl, subst}
+use Rattle.ale.specs.PictureSignature.{picture_signature}
+use Rattle.tbox.specs.Unfold.{parent_in}
+use Rattle.picture.specs.Readable.{row_count}
+use Rattle.unfold_rows.specs.Copies.{Added, copy_bytes}
+use Rattle.unfold_rows.proofs.Copying.{added_hung, added_none}
+use Rattle.unfold_rows.proofs.copy.hang.Given as goal
+
+abbrev pub invariant-loop-k : goal.invariant-loop-k
+invariant-loop-k l =
+    (l.grown.rows + 1 ≡ l.first + l.k) × (0 < l.k) × (l.k ≤ l.rows)
+    × Added l.initial.out l.out (copy_bytes l.s (parent_in picture_signature l.i l.first) 1 (l.k - 1)) l.first (l.k - 1)
+
+abbrev pub decreases-loop-k : goal.decreases-loop-k
+decreases-loop-k l = l.rows - l.k

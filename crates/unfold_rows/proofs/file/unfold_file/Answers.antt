@@ -1,0 +1,43 @@
+-- The end field is written behind the rows, if they are within the limit.
+use native.Mathlib.Omega.{arith}
+use Rattle.table.specs.NameValues.{set_of}
+use Rattle.unfold_rows.proofs.Filing.{filed, filed_large}
+use Rattle.unfold_rows.proofs.file.unfold_file.Goals as goal
+
+pub unfold-count-requires : goal.unfold-count-requires
+unfold-count-requires c = c.requires.0
+
+-- LEFT c.before.before.before.before is a place
+pub finish-requires : goal.finish-requires
+finish-requires c =
+    let rows = c.«unfold» in (
+      omega (arith, c.if-count-limit.true, c.requires.0.small),
+      omega (arith, c.if-count-limit.true, c.requires.1, rows.ensures.same_length),
+    )
+
+-- LEFT c.before.before.before.before.before.before.before is a place
+pub returns-then-count-limit : goal.returns-then-count-limit
+returns-then-count-limit c =
+    let a = c.args in
+    let rows = c.«unfold» in
+    filed a.picture.now a.tbox.now a.starts.now (set_of a.defined) a.limit rows.result
+    a.out.now _
+    rows.ensures _
+    (omega (arith, c.if-count-limit.true, c.requires.1, rows.ensures.same_length))
+    c.finish.ensures.1
+
+-- LEFT c is a place
+pub shape_of-out-then-count-limit : goal.shape_of-out-then-count-limit
+shape_of-out-then-count-limit c = (returns c).same_length
+
+-- LEFT c.before.before.before is a place
+pub returns-else-count-limit : goal.returns-else-count-limit
+returns-else-count-limit c =
+    let a = c.args in
+    let rows = c.«unfold» in
+    filed_large a.picture.now a.tbox.now a.starts.now (set_of a.defined) a.limit rows.result
+    a.out.now _ rows.ensures (omega (arith, c.if-count-limit.false))
+
+-- LEFT c.before.before.before is a place
+pub shape_of-out-else-count-limit : goal.shape_of-out-else-count-limit
+shape_of-out-else-count-limit c = c.«unfold».ensures.same_length

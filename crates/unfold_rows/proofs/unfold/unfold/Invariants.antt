@@ -1,0 +1,16 @@
+-- At the loop's head: the table has the rows after i of them have come up, or more than the limit (`Grows`).
+use Prim.Native.Nat.{◌-◌, ◌≤◌}
+use lib.ListN.{length}
+use native.Mathlib.Omega.{arith}
+use mathlib.Core.Path.{◌∙◌, ◌≡◌, refl, subst, sym}
+use Rattle.table.specs.NameValues.{set_of}
+use Rattle.unfold_rows.specs.Copies.{Source}
+use Rattle.unfold_rows.proofs.Attaching.{readable_source}
+use Rattle.unfold_rows.proofs.Unfolding.{Grows, grows_end, grows_next, grows_start, grows_stop}
+use Rattle.unfold_rows.proofs.unfold.unfold.Given as goal
+
+abbrev pub invariant-loop-i : goal.invariant-loop-i
+invariant-loop-i l = (l.i ≤ l.limit) × (length l.out ≡ length l.initial.out) × Grows l.picture l.tbox l.starts (set_of l.defined) l.limit l.table.rows l.out l.i
+
+abbrev pub decreases-loop-i : goal.decreases-loop-i
+decreases-loop-i l = l.limit - l.i
