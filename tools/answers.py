@@ -30,8 +30,8 @@ class Place:
 
 
 class Entry:
-    def __init__(self, of):
-        self.of = of
+    def __init__(self, of, fn):
+        self.of, self.fn, self.cycle = of, fn, fn is not None
         arms = of.get("arms") or [None] * len(of["places"])
         self.places = {}
         for row, arm, typed in zip(of["places"], arms, of["typed"] or [[]] * len(arms)):
@@ -66,14 +66,20 @@ class Turn:
         if not fields:
             return "place", place, "c"
         first, rest = fields[0], fields[1:]
-        at = place
-        while at is not None:
-            p = self.entry.places[at]
-            if p.old and alike(first) == alike(p.old):
+        for name in (first, re.sub(r"\d+$", "", first)):
+            at = place
+            while at is not None:
+                p = self.entry.places[at]
+                if p.old and alike(name) == alike(p.old):
+                    break
+                at = p.parent
+            if at is not None:
+                first = name
                 break
-            at = p.parent
         if at is None:
-            if first == "requires" and self.entry.of["stem"]:
+            if first == "pre":
+                first = "requires"
+            if first == "requires" and self.entry.cycle:
                 if rest[:1] == ["0"]:
                     return "plain", place, "MEASURE"
                 if rest[:1] == ["1"]:
@@ -142,7 +148,7 @@ class Turn:
                     elif bind[1] in self.env:
                         del self.env[bind[1]]
                     new = found[2] if found else bind[3]
-                    out.append(f"let {bind[1]}{bind[2] or ''} = {new} in")
+                    out.append(f"let {bind[1]}{self.term(bind[2]) if bind[2] else ''} = {new} in")
                     at += re.match(rf"\s+{re.escape(bind[1])}(?:\s*:[^=]*?)?\s*=\s*{N}(?:\.{N})*\s+in", text[at:]).end()
                     continue
             found = self.path(head, fields)
@@ -162,6 +168,7 @@ class Turn:
 
 def declarations(text):
     """The comment and use lines at the head, and the declarations: (signature, unfolding lines, equations)."""
+    text = re.sub(r"(?m)^((?:pub )?use [^\n{]*\{)([^}]*)\}", lambda m: m[1] + " ".join(m[2].split()).rstrip(", ") + "}", text)
     lines = text.rstrip("\n").split("\n")
     head, uses, rest = [], [], []
     i = 0
@@ -240,6 +247,8 @@ def argument(text, at):
 def without_places(text, helpers):
     """Drops the helpers that only lead back: `(entry c).args` is `c.args`, since a step is found by its name."""
     names = [h.name for h in helpers.values() if h.is_place]
+    if names:
+        text = re.sub(rf"(?<=[\s(])\(({N}(?:\.{N})*)\)", r"\1", text)
     for name in names:
         text = re.sub(rf"\({re.escape(name)} ({N}(?:\.{N})*)\)", r"\1", text)
     for name in names:
@@ -315,7 +324,7 @@ def turn(text, entries, crate, place):
         if cycle and kind.startswith("Measures "):
             eq = equation(name, body)
             k, fn = re.search(rf"({N})-kinds\.ps", kind)[1], None
-            fn = next(e.of["stem"][:-1] for a, e in entries.items() if a == k + "-lts")
+            fn = next(e.fn for a, e in entries.items() if a == k + "-lts")
             var = eq[1].split()[1]
             count = lambda m: "l." + params[fn][len(re.findall(r"\.1", m[0]))]
             term = re.sub(rf"(?<![\w.]){var}(?:\.1)*\.0(?!\.)", count, body[eq.end() :])
@@ -413,7 +422,7 @@ def main(argv):
             print("no names for", folder)
             continue
         text = subprocess.run(["git", "show", f"{begun}:./{file}"], capture_output=True, text=True, check=True).stdout
-        out, said = turn(text, {a: Entry(listed[k]) for a, k in entries.items()}, crate, place)
+        out, said = turn(text, {a: Entry(listed[k], None if a == "tie" else k.split(".Lts-")[1]) for a, k in entries.items()}, crate, place)
         for it in ("Proof.antt", "Answers.antt", "Invariants.antt"):
             if os.path.exists(os.path.join(folder, it)):
                 os.remove(os.path.join(folder, it))

@@ -10,9 +10,8 @@ loop-j-init c = key_none _ _ _ _ c.requires
 
 pub above-requires : goal.above-requires
 above-requires c =
-    let inside : c.loop-j.j < 256 = omega (arith, c.requires.checked.most, c.loop-j-test.true) in
     let later : Later c.args.s.now c.args.rows c.loop-j.j = let some = c.loop-j.invariant.some in
-    record { checked = c.requires.checked; later λ z. omega arith; inside c.loop-j-test.true } in
+    record { checked = c.requires.checked; later = λ z. omega arith; inside = c.loop-j-test.true } in
     later
 
 pub offset_bounds-keys-above : goal.offset_bounds-keys-above
@@ -53,9 +52,8 @@ bounds-somes-key c = c.key_below-key.ensures.1
 
 pub some_count-requires : goal.some_count-requires
 some_count-requires c =
-    let inside : c.loop-j.j < 256 = omega (arith, c.requires.checked.most, c.loop-j-test.true) in
     let later : Later c.args.s.now c.args.rows c.loop-j.j = let some = c.loop-j.invariant.some in
-    record { checked = c.requires.checked; later λ z. omega arith; inside c.loop-j-test.true } in
+    record { checked = c.requires.checked; later = λ z. omega arith; inside = c.loop-j-test.true } in
     later
 
 pub overflow_add-somes : goal.overflow_add-somes

@@ -18,7 +18,7 @@ pub above-parent-requires : goal.above-parent-requires
 above-parent-requires c =
     let inside : c.loop-j.j - 1 < c.args.rows = omega (arith, c.loop-j.invariant.most, c.loop-j-test.true) in
     let later : Later c.args.s.now c.args.rows (c.loop-j.j - 1) = let more = c.loop-j-test.true in
-    record { checked = c.requires.checked; later λ z. omega (arith, more); inside inside } in
+    record { checked = c.requires.checked; later = λ z. omega (arith, more); inside = inside } in
     later
 
 pub bounds-below-j : goal.bounds-below-j
@@ -31,7 +31,7 @@ pub times-requires : goal.times-requires
 times-requires c =
     let inside : c.loop-j.j - 1 < c.args.rows = omega (arith, c.loop-j.invariant.most, c.loop-j-test.true) in
     let later : Later c.args.s.now c.args.rows (c.loop-j.j - 1) = let more = c.loop-j-test.true in
-    record { checked = c.requires.checked; later λ z. omega (arith, more); inside inside } in
+    record { checked = c.requires.checked; later = λ z. omega (arith, more); inside = inside } in
     (later, c.requires.filled.keyed.key_below _ (inside))
 
 pub overflow_mul-share : goal.overflow_mul-share

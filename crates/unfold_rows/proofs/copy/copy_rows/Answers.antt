@@ -53,9 +53,6 @@ loop-k-preserved c =
           (omega (arith, c.requires.1)) parent.ensures.0 copied.ensures push.ensures.1,
     )
 
-pub shape_of-out : goal.shape_of-out
-shape_of-out c = c.loop-k.invariant.2.same_length
-
 pub returns : goal.returns
 returns c =
     let l = c.loop-k in

@@ -94,9 +94,6 @@ loop-k-preserved c =
           parent.ensures.0) copied.ensures push.ensures.1,
     )
 
-pub shape_of-out : goal.shape_of-out
-shape_of-out c = c.loop-k.invariant.3.same_length
-
 pub returns : goal.returns
 unfolding row_count
 returns c =

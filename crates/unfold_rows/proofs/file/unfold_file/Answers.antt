@@ -26,10 +26,6 @@ returns-then-count-limit c =
     (omega (arith, c.if-count-limit.true, c.requires.1, rows.ensures.same_length))
     c.finish.ensures.1
 
--- LEFT c is a place
-pub shape_of-out-then-count-limit : goal.shape_of-out-then-count-limit
-shape_of-out-then-count-limit c = (returns c).same_length
-
 -- LEFT c.before.before.before is a place
 pub returns-else-count-limit : goal.returns-else-count-limit
 returns-else-count-limit c =
@@ -37,7 +33,3 @@ returns-else-count-limit c =
     let rows = c.«unfold» in
     filed_large a.picture.now a.tbox.now a.starts.now (set_of a.defined) a.limit rows.result
     a.out.now _ rows.ensures (omega (arith, c.if-count-limit.false))
-
--- LEFT c.before.before.before is a place
-pub shape_of-out-else-count-limit : goal.shape_of-out-else-count-limit
-shape_of-out-else-count-limit c = c.«unfold».ensures.same_length

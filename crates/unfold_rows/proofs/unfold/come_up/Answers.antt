@@ -13,9 +13,6 @@ use Rattle.unfold_rows.proofs.unfold.come_up.Goals as goal
 pub wanted-names-requires : goal.wanted-names-requires
 wanted-names-requires c = has_row _ _ _ _ _ _ _ c.requires
 
-pub shape_of-out-then-not-overlaps : goal.shape_of-out-then-not-overlaps
-shape_of-out-then-not-overlaps c = refl
-
 pub returns-then-not-overlaps : goal.returns-then-not-overlaps
 returns-then-not-overlaps c =
     let a = c.args in
@@ -52,14 +49,6 @@ hang_all-requires c =
       small = c.requires.small;
       room = omega (arith, c.requires.room, same);
     }
-
-pub shape_of-out : goal.shape_of-out
-shape_of-out c =
-    let a = c.args in
-    let take_in = c.take_in-s in
-    c.hang_all.ensures.same_length
-    ∙ anew_length a.out.now _ a.i take_in.result (set_of a.defined) (has_row _ _ _ _ _ _ _ c.requires)
-    c.relabel.ensures
 
 -- LEFT c is a place
 pub returns : goal.returns

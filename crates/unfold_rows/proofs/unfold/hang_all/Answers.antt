@@ -85,9 +85,6 @@ loop-name-preserved c =
           (c.pre.opened.readable l.name (named)) (named) l.inv.3 names h,
     )
 
-pub shape_of-out : goal.shape_of-out
-shape_of-out c = c.loop-name.invariant.1
-
 pub returns : goal.returns
 returns c =
     let l = c.loop-name in

@@ -28,11 +28,6 @@ loop-i-init c =
           copy.ensures.1 pre.within,
     )
 
-pub shape_of-out-then-limit-table : goal.shape_of-out-then-limit-table
-shape_of-out-then-limit-table c =
-    let kept : length c.loop-i.out ≡ length c.args.out.now = c.loop-i.invariant.1 ∙ c.copy_rows-table.ensures.1.same_length in
-    kept
-
 pub returns-then-limit-table : goal.returns-then-limit-table
 returns-then-limit-table c =
     let kept : length c.loop-i.out ≡ length c.args.out.now = c.loop-i.invariant.1 ∙ c.copy_rows-table.ensures.1.same_length in
@@ -71,11 +66,6 @@ loop-i-preserved c =
       grows_next a.picture.now a.tbox.now a.starts.now (set_of a.defined) a.limit l.table.rows
           up.result.rows l.i l.out _ l.invariant.2 (omega (arith, few)) up.ensures,
     )
-
-pub shape_of-out : goal.shape_of-out
-shape_of-out c =
-    let kept : length c.loop-i.out ≡ length c.args.out.now = c.loop-i.invariant.1 ∙ c.copy_rows-table.ensures.1.same_length in
-    kept
 
 pub returns : goal.returns
 returns c =

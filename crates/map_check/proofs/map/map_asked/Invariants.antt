@@ -1,0 +1,15 @@
+-- At the loop's head the questions of the rows before row i are answered yes, so their images are rows of the first.
+-- The first row with a no decides; else all are answered yes.
+use Prim.Native.Nat.{◌-◌, ◌≤◌}
+use borrow.Author.Rules.{rules}
+use mathlib.Core.Path.{◌∙◌, sym}
+use native.Mathlib.Omega.{arith}
+use Rattle.map_check.proofs.MapLaws.{asks, images_inside, map_rows}
+use Rattle.picture.proofs.Orders.{YesTo, to_no, to_yes, yes_on}
+use Rattle.map_check.proofs.map.map_asked.Given as goal
+
+abbrev pub invariant-loop-i : goal.invariant-loop-i
+invariant-loop-i l = (l.i ≤ l.m) × YesTo (asks l.first l.second l.e) l.i
+
+abbrev pub decreases-loop-i : goal.decreases-loop-i
+decreases-loop-i l = l.m - l.i

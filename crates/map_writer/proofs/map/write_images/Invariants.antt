@@ -1,0 +1,18 @@
+-- At the loop's head the images of the rows below i stand in the file, and all else is as it was. The measure is how many rows are left.
+use Prim.Native.Nat.{ℕ, ◌-◌, ◌<◌, ◌≤◌}
+use borrow.Author.Rules.{rules}
+use lib.ListN.{length}
+use mathlib.Core.Path.{◌≡◌, ◌∙◌, ap, refl}
+use native.Mathlib.Omega.{arith}
+use Rattle.table.specs.Put.{put}
+use Rattle.homomorphism.specs.Layout.{image_of, «image_place»}
+use Rattle.homomorphism.specs.Map.{image_bytes}
+use Rattle.map_writer.proofs.Maps.{image_below, image_row}
+use Rattle.homomorphism.proofs.MapFiles.{images_none, images_read, images_turn}
+use Rattle.map_writer.proofs.map.write_images.Given as goal
+
+abbrev pub invariant-loop-i : goal.invariant-loop-i
+invariant-loop-i l = (l.i ≤ l.m) × ((l.out ≡ put l.initial.out (image_place 0) (image_bytes (image_row l.first l.second) l.i)) × (length l.out ≡ length l.initial.out))
+
+abbrev pub decreases-loop-i : goal.decreases-loop-i
+decreases-loop-i l = l.m - l.i

@@ -1,0 +1,25 @@
+-- An individual, and then what hangs from it; there the walk along the links writes the some-successors one after the other, so what was written and
+-- what is ahead are always the whole. A successor's tree is less deep.
+use Prim.Native.Nat.{ℕ, ◌*◌, ◌+◌, ◌-◌, ◌<◌}
+use mathlib.Core.Logic.{⊎_elim}
+use native.Mathlib.Omega.{arith}
+use borrow.Author.Rules.{rules}
+use lib.Dec.{eqb}
+use Rattle.table.specs.NameValues.{set_of}
+use Rattle.table.specs.Pick.{pick}
+use Rattle.refutation_writer.proofs.Canonicals.{canonical_end, canonical_here, canonical_next, canonical_none, canonical_room, canonical_skip, canonical_split, canonical_start, canonical_turn, canonical_written, canonical_rows}
+use Rattle.homomorphism_search.proofs.Searches.{checked_has}
+use Rattle.refutation_writer.proofs.Walks.{WalkAt, walk_shorter}
+use Rattle.refutation_writer.proofs.writer.+write_canonical_write_canonical_below.Given as goal
+
+abbrev pub decreases-write_canonical : goal.decreases-write_canonical
+decreases-write_canonical l = 2 * l.depth + 1
+
+abbrev pub decreases-write_canonical_below : goal.decreases-write_canonical_below
+decreases-write_canonical_below l = 2 * l.depth
+
+abbrev pub invariant-write_canonical_below-loop-v : goal.invariant-write_canonical_below-loop-v
+invariant-write_canonical_below-loop-v l = WalkAt (canonical_rows l.first (l.depth - 1)) l.first l.n l.u l.parent l.initial.out l.k l.v l.next l.out
+
+abbrev pub decreases-write_canonical_below-loop-v : goal.decreases-write_canonical_below-loop-v
+decreases-write_canonical_below-loop-v l = pick (eqb l.v 0) 0 (l.n + 1 - l.v)
