@@ -4,7 +4,7 @@ use table::layout::NAMES;
 use table::names::Names;
 
 // The places of the cards; the defined names, and for each where its picture begins.
-#[derive(Drop)]
+#[derive(Clone, Copy)]
 pub struct Books {
     pub cards: Fields,
     pub starts: [usize; NAMES],

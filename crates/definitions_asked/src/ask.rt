@@ -20,7 +20,7 @@ use table::names::Names;
 use table_rows::row::ends_at;
 
 // What is answered; where it is yes, the defined names, and for each where its picture begins.
-#[derive(Drop)]
+#[derive(Clone, Copy)]
 pub struct Opening {
     pub asked: Asked,
     pub starts: [usize; NAMES],

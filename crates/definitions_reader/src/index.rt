@@ -10,7 +10,7 @@ use field_places::places::Fields;
 use table::layout::{HEAD_SIZE, NAMES};
 use table::names::Names;
 
-#[derive(Drop)]
+#[derive(Clone, Copy)]
 pub struct Index {
     // By name.
     pub starts: [usize; NAMES],

@@ -24,7 +24,7 @@ pub enum BookKind {
 }
 
 // The fields of a book: their places, and how many there are. It goes from call to call by value.
-#[derive(Drop)]
+#[derive(Clone, Copy)]
 pub struct Fields {
     pub places: [usize; PLACES],
     pub count: usize,

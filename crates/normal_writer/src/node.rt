@@ -18,7 +18,7 @@ use table::row::Row;
 use table_rows::builder::Builder;
 
 // Successors written so far: the table with them, the merged rows counted, and whether a some-successor is ⊥.
-#[derive(Drop)]
+#[derive(Clone, Copy)]
 pub struct Branch {
     pub table: Builder,
     pub merged: usize,

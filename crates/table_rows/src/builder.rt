@@ -11,7 +11,7 @@ use table::layout::{END_SIZE, EXCLUDED_AT, ROW_LENGTH, ROW_TAG, WANTED_AT, place
 use table::number::copy_in;
 use table::row::Row;
 
-#[derive(Drop)]
+#[derive(Clone, Copy)]
 pub struct Builder {
     pub rows: usize,
 }
