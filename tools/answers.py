@@ -114,6 +114,7 @@ class Turn:
 
     def path(self, head, fields):
         kind = self.env.get(head)
+        fields = [f.strip("«»") for f in fields]
         if kind is None:
             return None
         if kind[0] == "place":
@@ -127,7 +128,7 @@ class Turn:
 
     def term(self, text):
         out, at = [], 0
-        text = SPACED.sub(r"\1", text)
+        text = re.sub(r"\.«(\w+)»", r".\1", SPACED.sub(r"\1", text))
         # a test of `!x` says now what `x` is
         text = re.sub(rf"not-(?:true|false) _ ({N}(?:\.{N})*\.(?:true|false))", r"\1", text)
         while it := PATH.search(text, at):

@@ -7,29 +7,26 @@ use Rattle.unfold_rows.proofs.file.unfold_file.Goals as goal
 pub unfold-count-requires : goal.unfold-count-requires
 unfold-count-requires c = c.requires.0
 
--- LEFT c.before.before.before.before is a place
 pub finish-requires : goal.finish-requires
 finish-requires c =
-    let rows = c.«unfold» in (
+    let rows = c.unfold-count in (
       omega (arith, c.if-count-limit.true, c.requires.0.small),
       omega (arith, c.if-count-limit.true, c.requires.1, rows.ensures.same_length),
     )
 
--- LEFT c.before.before.before.before.before.before.before is a place
 pub returns-then-count-limit : goal.returns-then-count-limit
 returns-then-count-limit c =
     let a = c.args in
-    let rows = c.«unfold» in
+    let rows = c.unfold-count in
     filed a.picture.now a.tbox.now a.starts.now (set_of a.defined) a.limit rows.result
     a.out.now _
     rows.ensures _
     (omega (arith, c.if-count-limit.true, c.requires.1, rows.ensures.same_length))
     c.finish.ensures.1
 
--- LEFT c.before.before.before is a place
 pub returns-else-count-limit : goal.returns-else-count-limit
 returns-else-count-limit c =
     let a = c.args in
-    let rows = c.«unfold» in
+    let rows = c.unfold-count in
     filed_large a.picture.now a.tbox.now a.starts.now (set_of a.defined) a.limit rows.result
     a.out.now _ rows.ensures (omega (arith, c.if-count-limit.false))

@@ -8,21 +8,8 @@ use Rattle.table.specs.NameValues.{set_of}
 use Rattle.table_rows.specs.Rows.{HasRow}
 use Rattle.definition_parts.proofs.Parts.{opened_has, opened_some}
 use Rattle.unfold_rows.specs.Takings.{Took}
-use Rattle.unfold_rows.proofs.TakingLaws.{
+use Rattle.unfold_rows.proofs.TakingLaws.{Onward, known_next, known_none, name_below, name_defined, onward_done, onward_next, onward_stop, taken_below}
 use Rattle.unfold_rows.proofs.take.take_in.Goals as goal
-
-  Onward,
-  known_next,
-  known_none,
-  name_below,
-  name_defined,
-  onward_done,
-  onward_next,
-  onward_stop,
-  taken_below,
-}
-use Rattle.unfold_rows.proofs.take.take_in.Statement.{statement}
-use Rattle.unfold_rows.proofs.take.take_in.Tie as tie
 
 pub loop-left-init : goal.loop-left-init
 loop-left-init c =

@@ -50,14 +50,13 @@ hang_all-requires c =
       room = omega (arith, c.requires.room, same);
     }
 
--- LEFT c is a place
 pub returns : goal.returns
 returns c =
     let a = c.args in
     let take_in = c.take_in-s in
     let label = c.label_of in
     record {
-      same_length = same-length-2 c;
+      same_length = c.hang_all.ensures.same_length ∙ anew_length a.out.now _ a.i take_in.result (set_of a.defined) (has_row _ _ _ _ _ _ _ c.requires) c.relabel.ensures;
       capped = λ D p v agrees standing.
           risen_anew D a.tbox.now a.starts.now (set_of a.defined) agrees a.i a.table.rows a.limit
           a.out.now v p standing c.requires.here label.result take_in.result c.requires.within

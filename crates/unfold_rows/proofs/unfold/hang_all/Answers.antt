@@ -10,21 +10,8 @@ use Rattle.table.specs.NameValues.{set_of}
 use Rattle.picture.specs.Readable.{row_count}
 use Rattle.definition_parts.proofs.NameWalks.{Walk, walk_held, walk_later, walk_next, walk_start}
 use Rattle.unfold_rows.specs.Copies.{Source}
-use Rattle.unfold_rows.proofs.Attaching.{
+use Rattle.unfold_rows.proofs.Attaching.{Onward, hung_most, hung_of, names_after, names_first, onward_end, onward_next, onward_start, readable_source}
 use Rattle.unfold_rows.proofs.unfold.hang_all.Goals as goal
-
-  Onward,
-  hung_most,
-  hung_of,
-  names_after,
-  names_first,
-  onward_end,
-  onward_next,
-  onward_start,
-  readable_source,
-}
-use Rattle.unfold_rows.proofs.unfold.hang_all.Statement.{statement}
-use Rattle.unfold_rows.proofs.unfold.hang_all.Tie as tie
 
 pub loop-name-init : goal.loop-name-init
 loop-name-init c =
@@ -63,7 +50,7 @@ pub loop-name-smaller : goal.loop-name-smaller
 loop-name-smaller c =
     let l = c.loop-name in
     let low = c.loop-name-test.true in
-    omega (arith, low, walk_later _ _ _ _ _ l.inv.2 low c.without-left.ensures c.first-name-in-loop-name.ensures)
+    omega (arith, low, walk_later _ _ _ _ _ l.invariant.2 low c.without-left.ensures c.first-name-in-loop-name.ensures)
 
 pub loop-name-preserved : goal.loop-name-preserved
 loop-name-preserved c =
@@ -76,13 +63,13 @@ loop-name-preserved c =
     hang.ensures in
     let struck = c.without-left.ensures in
     let low = c.loop-name-test.true in
-    let names = names_after _ _ _ _ _ l.inv.2 low struck c.first-name-in-loop-name.ensures in (
+    let names = names_after _ _ _ _ _ l.invariant.2 low struck c.first-name-in-loop-name.ensures in (
       hung_most _ a.i a.limit l.grown.rows _ hang.result.rows _ h,
-      h.same_length ∙ l.inv.1,
-      walk_next _ _ _ _ _ l.inv.2 low struck c.first-name-in-loop-name.ensures,
+      h.same_length ∙ l.invariant.1,
+      walk_next _ _ _ _ _ l.invariant.2 low struck c.first-name-in-loop-name.ensures,
       onward_next a.tbox.now a.starts.now (set_of a.taken) a.i a.limit a.table.rows a.out.now
-          l.grown.rows l.name c.first-name-in-loop-name.result hang.result.rows _ _ c.pre.opened.limits
-          (c.pre.opened.readable l.name (named)) (named) l.inv.3 names h,
+          l.grown.rows l.name c.first-name-in-loop-name.result hang.result.rows _ _ c.requires.opened.limits
+          (c.requires.opened.readable l.name (named)) (named) l.invariant.3 names h,
     )
 
 pub returns : goal.returns

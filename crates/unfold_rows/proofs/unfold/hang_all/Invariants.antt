@@ -11,7 +11,7 @@ use Rattle.table.specs.NameValues.{set_of}
 use Rattle.picture.specs.Readable.{row_count}
 use Rattle.definition_parts.proofs.NameWalks.{Walk, walk_held, walk_later, walk_next, walk_start}
 use Rattle.unfold_rows.specs.Copies.{Source}
-use Rattle.unfold_rows.proofs.Attaching.{
+use Rattle.unfold_rows.proofs.Attaching.{Onward, hung_most, hung_of, names_after, names_first, onward_end, onward_next, onward_start, readable_source}
 use Rattle.unfold_rows.proofs.unfold.hang_all.Given as goal
 
 abbrev pub invariant-loop-name : goal.invariant-loop-name

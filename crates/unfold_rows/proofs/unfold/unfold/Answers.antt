@@ -40,7 +40,7 @@ returns-then-limit-table c =
 pub come_up-table-requires : goal.come_up-table-requires
 come_up-table-requires c =
     let l = c.loop-i in
-    let pre = c.pre in
+    let pre = c.requires in
     record {
       opened = pre.opened;
       here = c.loop-i-test.true;

@@ -1,0 +1,33 @@
+-- 25 says that there is a name byte; the rest of the value is the picture.
+use Prim.Native.Nat.{◌-◌, ◌≤◌}
+use native.Mathlib.Omega.{arith}
+use borrow.Author.Rules.{rules}
+use lib.ListN.{drop, length, length-drop}
+use lib.Seq.{take_all}
+use mathlib.Core.Path.{◌∙◌, ap}
+use Rattle.definitions.specs.Form.{definition_file}
+use Rattle.definitions.proofs.Coverings.{name_byte}
+use Rattle.definitions_form.proofs.form.picture_of.Goals as goal
+
+pub slice_bounds-result-count : goal.slice_bounds-result-count
+slice_bounds-result-count c =
+    let has_name : 1 ≤ length c.value-definition.result.now = let formed = c.requires.0 in
+    let has = name_byte c.args.tbox.now formed.form c.args.k
+    (omega (arith, c.requires.1, formed.placed.counted)) in
+    omega (arith, has, ap length c.value-definition.ensures) in
+    omega (arith, has_name)
+
+pub slice_bounds-result-start : goal.slice_bounds-result-start
+slice_bounds-result-start c =
+    let has_name : 1 ≤ length c.value-definition.result.now = let formed = c.requires.0 in
+    let has = name_byte c.args.tbox.now formed.form c.args.k
+    (omega (arith, c.requires.1, formed.placed.counted)) in
+    omega (arith, has, ap length c.value-definition.ensures) in
+    omega (arith, has_name)
+
+pub returns : goal.returns
+unfolding definition_file
+returns c =
+    let v = c.value-definition.result.now in
+    let rest : length (drop 1 v) ≤ length v - 1 = rw length-drop (omega arith) in
+    take_all (length v - 1) (drop 1 v) rest ∙ ap (drop 1) c.value-definition.ensures
