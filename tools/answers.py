@@ -101,6 +101,8 @@ class Turn:
 
     def step(self, place, text, rest):
         p = self.entry.places[place]
+        if rest and rest[0] == "inv":
+            rest = ["invariant", *rest[1:]]
         if rest and rest[0] == "new" and p.fn and p.fn in self.entry.of["params"]:
             params = self.entry.of["params"][p.fn]
             i, rest2 = 0, rest[1:]

@@ -26,7 +26,7 @@ loop-k-preserved c =
     let s = c.args.picture.now in
     let l = c.loop-k in
     let row = c.wanted in
-    let e : set_of c.union.result ≡ union (set_of l.wants) (set_of row.result) = c.union-wants.ensures in (
+    let e : set_of c.union-wants.result ≡ union (set_of l.wants) (set_of row.result) = c.union-wants.ensures in (
       omega (arith, c.loop-k-test.true),
       rw e (wants_more s _ _ _ l.invariant.1 row.ensures.0 row.ensures.1),
     )
