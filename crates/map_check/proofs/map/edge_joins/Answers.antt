@@ -1,5 +1,4 @@
 -- Row 0 hangs from none, and another row from its parent alone; of such a row kind and role decide.
-use borrow.Author.Rules.{rules}
 use mathlib.Core.Path.{◌∙◌, sym}
 use Rattle.map_check.proofs.MapLaws.{edge_elsewhere, edge_joined, edge_root}
 use Rattle.map_check.proofs.map.edge_joins.Goals as goal

@@ -1,5 +1,4 @@
 -- A marked image takes every row; else the row's label is to be within the image's.
-use borrow.Author.Rules.{rules}
 use mathlib.Core.Path.{◌∙◌, sym}
 use Rattle.map_check.proofs.MapLaws.{label_else, label_marked}
 use Rattle.map_check.proofs.map.label_agrees.Goals as goal

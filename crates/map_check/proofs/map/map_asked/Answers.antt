@@ -1,9 +1,7 @@
-use Prim.Native.Nat.{◌-◌, ◌≤◌}
-use borrow.Author.Rules.{rules}
 use mathlib.Core.Path.{◌∙◌, sym}
 use native.Mathlib.Omega.{arith}
 use Rattle.map_check.proofs.MapLaws.{asks, images_inside, map_rows}
-use Rattle.picture.proofs.Orders.{YesTo, to_no, to_yes, yes_on}
+use Rattle.picture.proofs.Orders.{to_no, to_yes, yes_on}
 use Rattle.map_check.proofs.map.map_asked.Goals as goal
 
 pub loop-i-init : goal.loop-i-init

@@ -1,11 +1,8 @@
 -- At the loop's head the questions of the rows before row i are answered yes, so their images are rows of the first.
 -- The first row with a no decides; else all are answered yes.
 use Prim.Native.Nat.{◌-◌, ◌≤◌}
-use borrow.Author.Rules.{rules}
-use mathlib.Core.Path.{◌∙◌, sym}
-use native.Mathlib.Omega.{arith}
-use Rattle.map_check.proofs.MapLaws.{asks, images_inside, map_rows}
-use Rattle.picture.proofs.Orders.{YesTo, to_no, to_yes, yes_on}
+use Rattle.map_check.proofs.MapLaws.{asks}
+use Rattle.picture.proofs.Orders.{YesTo}
 use Rattle.map_check.proofs.map.map_asked.Given as goal
 
 abbrev pub invariant-loop-i : goal.invariant-loop-i

@@ -1,8 +1,7 @@
-use Prim.Native.Nat.{◌-◌, ◌<◌}
+use Prim.Native.Nat.{◌<◌}
 use native.Mathlib.Omega.{arith}
-use borrow.Author.Rules.{rules}
 use Rattle.merged_count.specs.Weighing.{Later}
-use Rattle.merged_count.proofs.Keyings.{KeyedTo, key_done, key_next, key_none, key_room}
+use Rattle.merged_count.proofs.Keyings.{key_done, key_next, key_none, key_room}
 use Rattle.merged_count.proofs.bound.fill_keys.Goals as goal
 
 pub loop-j-init : goal.loop-j-init

@@ -1,9 +1,6 @@
 -- At the loop's head the rows before j have their keys, and their some-rows are tallied.
-use Prim.Native.Nat.{◌-◌, ◌<◌}
-use native.Mathlib.Omega.{arith}
-use borrow.Author.Rules.{rules}
-use Rattle.merged_count.specs.Weighing.{Later}
-use Rattle.merged_count.proofs.Keyings.{KeyedTo, key_done, key_next, key_none, key_room}
+use Prim.Native.Nat.{◌-◌}
+use Rattle.merged_count.proofs.Keyings.{KeyedTo}
 use Rattle.merged_count.proofs.bound.fill_keys.Given as goal
 
 abbrev pub invariant-loop-j : goal.invariant-loop-j

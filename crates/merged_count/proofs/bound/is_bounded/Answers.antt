@@ -1,6 +1,5 @@
 -- The bound is within the limit, and the merged rows within the bound.
 use native.Mathlib.Omega.{arith}
-use borrow.Author.Rules.{rules}
 use borrow.Author.Tests.{leb-true}
 use mathlib.Core.Path.{refl}
 use Rattle.table_rows.proofs.Stores.{blank}

@@ -1,6 +1,5 @@
 -- The remainder is the key, the role being read as a number.
 use native.Mathlib.Omega.{arith}
-use borrow.Author.Rules.{rules}
 use mathlib.Core.Path.{ap}
 use Rattle.merged_count.specs.Bound.{below_key}
 use Rattle.merged_count.proofs.bound.key_below.Goals as goal

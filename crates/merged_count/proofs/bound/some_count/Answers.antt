@@ -1,7 +1,6 @@
 -- Row j is a some-row or an all-row, and the lowest bit of its kind tells which.
 use Prim.Native.Nat.{◌%◌, ℕ}
 use native.Mathlib.Omega.{arith}
-use borrow.Author.Rules.{rules}
 use lib.Dec.{eqb}
 use mathlib.Core.Logic.{◌⊎◌, inl, inr}
 use mathlib.Core.Path.{◌∙◌, ◌≡◌, ap}

@@ -1,11 +1,10 @@
 use Prim.Native.Nat.{◌*◌, ◌-◌, ◌<◌, ◌≤◌}
 use native.Mathlib.Omega.{arith}
-use borrow.Author.Rules.{rules}
 use mathlib.Core.Path.{refl}
 use Rattle.table_rows.proofs.Stores.{blank}
 use Rattle.merged_count.proofs.Bounds.{weighed_most}
 use Rattle.merged_count.specs.Weighing.{Later}
-use Rattle.merged_count.proofs.Weighings.{WeighedFrom, small, weigh_done, weigh_next, weigh_none}
+use Rattle.merged_count.proofs.Weighings.{small, weigh_done, weigh_next, weigh_none}
 use Rattle.merged_count.proofs.bound.weigh.Goals as goal
 
 pub loop-j-init : goal.loop-j-init

@@ -1,12 +1,5 @@
 -- At the loop's head each row has the weight of those rows from j on that hang from it.
-use Prim.Native.Nat.{◌*◌, ◌-◌, ◌<◌, ◌≤◌}
-use native.Mathlib.Omega.{arith}
-use borrow.Author.Rules.{rules}
-use mathlib.Core.Path.{refl}
-use Rattle.table_rows.proofs.Stores.{blank}
-use Rattle.merged_count.proofs.Bounds.{weighed_most}
-use Rattle.merged_count.specs.Weighing.{Later}
-use Rattle.merged_count.proofs.Weighings.{WeighedFrom, small, weigh_done, weigh_next, weigh_none}
+use Rattle.merged_count.proofs.Weighings.{WeighedFrom}
 use Rattle.merged_count.proofs.bound.weigh.Given as goal
 
 abbrev pub invariant-loop-j : goal.invariant-loop-j

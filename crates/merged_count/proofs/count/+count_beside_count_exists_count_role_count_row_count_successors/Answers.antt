@@ -1,28 +1,22 @@
-use mathlib.Core.Logic.{◌⊎◌, inl, inr, ⊎_elim}
+use mathlib.Core.Logic.{◌⊎◌, inl, inr}
 use mathlib.Core.Path.{◌≡◌, ap, refl}
 use native.Mathlib.Omega.{arith}
-use Rattle.table.specs.Layout.{kind_exists, kind_for_all, roles}
+use Rattle.table.specs.Layout.{kind_exists, kind_for_all}
 use Rattle.ale.specs.PictureSignature.{picture_signature}
 use Rattle.ale.specs.Tree.{sizes}
-use Rattle.row_sets.specs.Parts.{capped, roles_at, value_part_at}
+use Rattle.row_sets.specs.Parts.{capped, value_part_at}
 use Rattle.row_sets.specs.Rows.{holds, of_role}
 use Rattle.row_sets.proofs.LabelLaws.{known_with}
 use Rattle.row_sets.proofs.Masks.{edge_row}
 use Rattle.row_sets.proofs.PartLaws.{successors_leaf}
 use Rattle.merged_count.specs.Count.{Counts, beside_size}
-use Rattle.merged_count.proofs.Counts.{Turning, beside_on, counting_on, leaf_size, role_beside, role_end}
+use Rattle.merged_count.proofs.Counts.{beside_on, counting_on, leaf_size, role_beside, role_end}
 use Rattle.merged_count.proofs.Counts.{role_full, role_parts_counted, role_start, role_turn}
 use Rattle.merged_count.proofs.Counts.{turn_end, turn_full, turn_on, turn_start, value_turn}
 use Rattle.merged_count.proofs.Hangings.{beside_leaf, beside_more}
-use Prim.Native.Nat.{ℕ, ◌*◌, ◌+◌, ◌-◌, ◌<◌, ◌≤◌, min}
-use Rattle.merged_count.proofs.count.+count_beside_count_exists_count_role_count_row_count_successors.{
+use Prim.Native.Nat.{◌+◌, ◌<◌, ◌≤◌}
+use Rattle.merged_count.proofs.count.+count_beside_count_exists_count_role_count_row_count_successors.Goals.{count_role-then-first-rows, count_role-else-first-rows}
 use Rattle.merged_count.proofs.count.+count_beside_count_exists_count_role_count_row_count_successors.Goals as goal
-
-  statement,
-}
-use Rattle.merged_count.proofs.count.+count_beside_count_exists_count_role_count_row_count_successors.Tie.{
-  close,
-}
 
 pub count_beside-bounds-links-c : goal.count_beside-bounds-links-c
 count_beside-bounds-links-c t c = omega (arith, c.requires.1, c.requires.0.counting.surveyed.checked.most)
@@ -51,7 +45,6 @@ count_beside-overflow_add-counted t c = omega (arith, c.requires.0.counting.coun
 pub count_beside-overflow_add-result : goal.count_beside-overflow_add-result
 count_beside-overflow_add-result t c = omega (arith, c.requires.0.counting.limit_most)
 
--- LEFT c.before is a place
 pub count_beside-returns-then-limit-counted : goal.count_beside-returns-then-limit-counted
 count_beside-returns-then-limit-counted t c =
     let leaf-counted : let a = c.args in capped a.limit (a.merged + a.parts.each) ≡ capped a.limit (a.merged + beside_size a.s.now a.rows a.depth a.c a.parts.below) = let a = c.args in
@@ -59,9 +52,8 @@ count_beside-returns-then-limit-counted t c =
     let leaf = beside_leaf a.s.now a.rows a.links.now a.parts.below a.c
     beside.counting.surveyed.linked c.requires.1 c.if-links-c-ne0.false a.depth in
     omega (arith, leaf, beside.each_is) in
-    omega (arith, leaf-counted c, c.if-limit-counted.true)
+    omega (arith, leaf-counted, c.if-limit-counted.true)
 
--- LEFT c.before is a place
 pub count_beside-returns-else-limit-counted : goal.count_beside-returns-else-limit-counted
 count_beside-returns-else-limit-counted t c =
     let leaf-counted : let a = c.args in capped a.limit (a.merged + a.parts.each) ≡ capped a.limit (a.merged + beside_size a.s.now a.rows a.depth a.c a.parts.below) = let a = c.args in
@@ -69,7 +61,7 @@ count_beside-returns-else-limit-counted t c =
     let leaf = beside_leaf a.s.now a.rows a.links.now a.parts.below a.c
     beside.counting.surveyed.linked c.requires.1 c.if-links-c-ne0.false a.depth in
     omega (arith, leaf, beside.each_is) in
-    omega (arith, leaf-counted c, c.if-limit-counted.false)
+    omega (arith, leaf-counted, c.if-limit-counted.false)
 
 pub count_exists-next-j-requires : goal.count_exists-next-j-requires
 count_exists-next-j-requires t c = c.requires.counting.surveyed.checked.most
@@ -148,7 +140,6 @@ count_role-count_row-whole-requires t c = (omega arith, (c.requires.0, c.hung-be
 pub count_role-overflow_sub-each : goal.count_role-overflow_sub-each
 count_role-overflow_sub-each t c = omega (arith, c.count_row-whole.ensures, c.requires.0.counted)
 
--- LEFT c is a place
 pub count_role-count_exists-requires : goal.count_role-count_exists-requires
 count_role-count_exists-requires t c =
     let value-counted : let a = c.args in let all = c.of_edge-all.result in let value = value_part_at a.s.now a.rows a.depth a.role (holds all) c.next-first.result in Counts a.limit a.merged value c.if-first-rows.counted = let a = c.args in
@@ -160,15 +151,19 @@ count_role-count_exists-requires t c =
     let counted = c.if-first-rows.counted in
     value_turn a.s.now a.rows a.depth all.result hung.result a.limit a.merged whole.result
     hung.ensures counting.counted whole.ensures first counted a.role counting.surveyed.checked
-    (⊎_elim {C = ((first < a.rows) × (counted ≡ whole.result)) ⊎ ((a.rows ≤ first) × (counted ≡ a.merged))}
-    (λ w. inl (w.0.taken, w.1)) (λ w. inr (w.0.left, w.1)) c.if-first-rows.branch) in
+    (let which : ((first < a.rows) × (counted ≡ whole.result)) ⊎ ((a.rows ≤ first) × (counted ≡ a.merged)) =
+    elim c.if-first-rows.branch [
+      | count_role-then-first-rows w ↦ inl (w.if-first-rows.true, w.counted-is)
+      | count_role-else-first-rows w ↦ inr (w.if-first-rows.false, w.counted-is)
+    ] in
+    which) in
     let a = c.args in
     let counting = c.requires.0 in
     let all = c.of_edge-all in
     let hung = c.hung-below in
     let whole = c.count_row-whole in
     let some = c.of_edge-some in
-    let value = value-counted c in
+    let value = value-counted in
     let counted = c.if-first-rows.counted in
     let on = counting_on a.s.now a.rows _ _ a.limit a.merged counted counting (omega (arith, value)) in (
       omega arith,
@@ -177,7 +172,6 @@ count_role-count_exists-requires t c =
           (omega (arith, value, counting.counted)) on,
     )
 
--- LEFT joined is a place
 pub count_role-returns : goal.count_role-returns
 count_role-returns t c =
     let value-counted : let a = c.args in let all = c.of_edge-all.result in let value = value_part_at a.s.now a.rows a.depth a.role (holds all) c.next-first.result in Counts a.limit a.merged value c.if-first-rows.counted = let a = c.args in
@@ -189,8 +183,12 @@ count_role-returns t c =
     let counted = c.if-first-rows.counted in
     value_turn a.s.now a.rows a.depth all.result hung.result a.limit a.merged whole.result
     hung.ensures counting.counted whole.ensures first counted a.role counting.surveyed.checked
-    (⊎_elim {C = ((first < a.rows) × (counted ≡ whole.result)) ⊎ ((a.rows ≤ first) × (counted ≡ a.merged))}
-    (λ w. inl (w.0.taken, w.1)) (λ w. inr (w.0.left, w.1)) c.if-first-rows.branch) in
+    (let which : ((first < a.rows) × (counted ≡ whole.result)) ⊎ ((a.rows ≤ first) × (counted ≡ a.merged)) =
+    elim c.if-first-rows.branch [
+      | count_role-then-first-rows w ↦ inl (w.if-first-rows.true, w.counted-is)
+      | count_role-else-first-rows w ↦ inr (w.if-first-rows.false, w.counted-is)
+    ] in
+    which) in
     let a = c.args in
     let surveyed = c.requires.0.surveyed in
     let all = c.of_edge-all in
@@ -204,7 +202,7 @@ count_role-returns t c =
     surveyed.masked c.requires.1.role_below (inr refl) c.requires.1.rootless all.ensures)
     (edge_row a.s.now a.rows a.masks.now some.result a.set kind_exists a.role surveyed.checked
     surveyed.masked c.requires.1.role_below (inl refl) c.requires.1.rootless some.ensures)
-    (value-counted c) (rest.ensures (holds all.result) a.role c.hung-below.ensures)
+    value-counted (rest.ensures (holds all.result) a.role c.hung-below.ensures)
 
 pub count_row-overflow_add-result : goal.count_row-overflow_add-result
 count_row-overflow_add-result t c = omega (arith, c.requires.0.limit_most)

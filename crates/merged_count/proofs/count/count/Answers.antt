@@ -2,7 +2,6 @@
 use mathlib.Core.Bool.{false}
 use mathlib.Core.Path.{refl}
 use native.Mathlib.Omega.{arith}
-use borrow.Author.Rules.{rules}
 use Rattle.row_sets.specs.Rows.{also}
 use Rattle.table_rows.proofs.Stores.{blank}
 use Rattle.merged_count.specs.Count.{HungFrom}

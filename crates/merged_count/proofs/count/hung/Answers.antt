@@ -1,11 +1,4 @@
-use mathlib.Core.Bool.{◌&&◌, true}
-use mathlib.Core.Path.{◌≡◌}
-use Prim.Native.Nat.{◌-◌, ◌<◌}
-use lib.Dec.{ltb}
 use native.Mathlib.Omega.{arith}
-use borrow.Author.Rules.{rules}
-use Rattle.row_sets.specs.Rows.{holds}
-use Rattle.merged_count.specs.Count.{HungFrom}
 use Rattle.merged_count.proofs.Hangings.{walk_end, walk_next, walk_start}
 use Rattle.merged_count.proofs.count.hung.Goals as goal
 

@@ -1,14 +1,10 @@
-use mathlib.Core.Logic.{⊎_elim}
 use mathlib.Core.Path.{refl, sym}
-use Prim.Native.Nat.{ℕ, ◌*◌, ◌+◌, ◌-◌, ◌<◌}
 use native.Mathlib.Omega.{arith}
-use borrow.Author.Rules.{rules}
-use borrow.Author.Tests.{not-true, not-false}
 use lib.Dec.{eqb}
 use Rattle.table.specs.Layout.{kind_for_all}
-use Rattle.table.specs.Pick.{pick}
-use Rattle.model_check.proofs.Models.{BelowAt, MeetsAt, agrees, below_end, below_fails, below_less, below_next, below_start, decided, fits_satisfied, fits_unsatisfied, meets_end, meets_found, meets_less, meets_next, meets_start, other_role_is, refutation_has}
+use Rattle.model_check.proofs.Models.{agrees, below_end, below_fails, below_less, below_next, below_start, decided, fits_satisfied, fits_unsatisfied, meets_end, meets_found, meets_less, meets_next, meets_start, other_role_is, refutation_has}
 use Rattle.homomorphism_search.proofs.Searches.{checked_has}
+use Rattle.model_check.proofs.model.+below_fits_restricted.Goals.{restricted-then-role-by+else-fits-every, restricted-else-role-by}
 use Rattle.model_check.proofs.model.+below_fits_restricted.Goals as goal
 
 pub below-bounds-links-w : goal.below-bounds-links-w
@@ -178,7 +174,7 @@ restricted-returns-then-fits-every t c =
     let z = c.loop-j-test.true in
     let every = eqb c.kind-every.result kind_for_all in
     let m = c.role in
-    let f = c.fits2 in
+    let f = c.fits in
     let u = c.role-by in
     sym (meets_found every a.t.now a.e.now a.reached.now a.n a.c a.i pre.0 l.j z l.invariant (decided every a.t.now a.e.now a.reached.now a.n a.c a.i pre.0 l.j z l.invariant m.result u.result f.result m.ensures u.ensures c.if-role-by.true f.ensures c.if-fits-every.true))
 
@@ -225,10 +221,12 @@ restricted-loop-j-preserved t c =
     let m = c.role in
     let u = c.role-by in
     meets_next every a.t.now a.e.now a.reached.now a.n a.c a.i pre.0 l.j z l.invariant c.index-j-in-loop-j.result c.index-j-in-loop-j.ensures.0
-    (⊎_elim
-    (λ v. agrees every a.t.now a.e.now a.reached.now a.n a.c a.i pre.0 l.j z l.invariant v.1.result v.1.ensures v.2.left)
-    (λ v. other_role_is every a.t.now a.e.now a.reached.now a.n a.c a.i pre.0 l.j z l.invariant m.result u.result m.ensures u.ensures v.left)
-    c.if-role-by.branch)
+    (elim c.if-role-by.branch [
+      | restricted-then-role-by+else-fits-every w ↦
+          agrees every a.t.now a.e.now a.reached.now a.n a.c a.i pre.0 l.j z l.invariant w.fits.result w.fits.ensures w.if-fits-every.false
+      | restricted-else-role-by w ↦
+          other_role_is every a.t.now a.e.now a.reached.now a.n a.c a.i pre.0 l.j z l.invariant m.result u.result m.ensures u.ensures w.if-role-by.false
+    ])
 
 pub restricted-returns : goal.restricted-returns
 restricted-returns t c =

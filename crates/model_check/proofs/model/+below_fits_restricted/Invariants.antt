@@ -1,17 +1,10 @@
 -- Both loops go along links: what is left of the chain decides, as the definition at a shorter list. A successor has a greater row number than
 -- its row, so the rows that are left fall from `below` to `restricted`, which then tries individuals against that successor: its label by
 -- `satisfies`, and what hangs from it by `below`.
-use mathlib.Core.Logic.{⊎_elim}
-use mathlib.Core.Path.{refl, sym}
-use Prim.Native.Nat.{ℕ, ◌*◌, ◌+◌, ◌-◌, ◌<◌}
-use native.Mathlib.Omega.{arith}
-use borrow.Author.Rules.{rules}
-use borrow.Author.Tests.{not-true, not-false}
+use Prim.Native.Nat.{◌*◌, ◌+◌, ◌-◌}
 use lib.Dec.{eqb}
-use Rattle.table.specs.Layout.{kind_for_all}
 use Rattle.table.specs.Pick.{pick}
-use Rattle.model_check.proofs.Models.{BelowAt, MeetsAt, agrees, below_end, below_fails, below_less, below_next, below_start, decided, fits_satisfied, fits_unsatisfied, meets_end, meets_found, meets_less, meets_next, meets_start, other_role_is, refutation_has}
-use Rattle.homomorphism_search.proofs.Searches.{checked_has}
+use Rattle.model_check.proofs.Models.{BelowAt, MeetsAt}
 use Rattle.model_check.proofs.model.+below_fits_restricted.Given as goal
 
 abbrev pub decreases-below : goal.decreases-below

@@ -1,7 +1,5 @@
 -- The links of the table are filled once; then individual 0 is tried against row 0: its label, and what hangs from it.
 use mathlib.Core.Path.{refl, sym}
-use borrow.Author.Tests.{not-true, not-false}
-use borrow.Author.Rules.{rules}
 use Rattle.table_rows.proofs.Stores.{blank}
 use Rattle.model_check.proofs.Models.{fits_satisfied, fits_unsatisfied}
 use Rattle.model_check.proofs.model.fits_table.Goals as goal

@@ -2,7 +2,6 @@
 use mathlib.Core.Path.{sym, ◌∙◌}
 use Rattle.table.specs.NameValues.{set_of}
 use Rattle.model_check.proofs.LabelTests.{satisfies_bottom, satisfies_held, satisfies_lacks}
-use borrow.Author.Rules.{rules}
 use Rattle.model_check.proofs.model.satisfies.Goals as goal
 
 pub returns-then-label-eq1 : goal.returns-then-label-eq1
