@@ -1,22 +1,17 @@
 use mathlib.Core.List.{[], ◌∷◌}
-use mathlib.Core.Logic.{inl, inr, ⊎_elim}
 use mathlib.Core.Path.{◌∙◌, refl, sym}
 use native.Mathlib.Omega.{arith}
-use borrow.Author.Rules.{rules}
-use borrow.Author.Tests.{eqb-false, eqb-true, not-false, not-true}
-use lib.Dec.{eqb}
 use Rattle.table.specs.Fields.{role_of}
 use Rattle.table.specs.NameValues.{set_of}
-use Rattle.table.specs.Pick.{pick}
 use Rattle.ale.specs.Tree.{nil}
 use Rattle.refutation_writer.specs.Refuting.{against_top, against_tree, against_value, canonical_below, canonical_tree, falsified_below, realized_below, realized_rows}
 use Rattle.refutation_writer.proofs.Misses.{falsified_canonical, missed_chain, missed_reached, missed_row, missed_value, some_kind}
 use Rattle.homomorphism_search.proofs.Searches.{checked_has}
 use Rattle.refutation_writer.proofs.Refutings.{against_carried, falsified_realized, falsified_value, realized_all, realized_other, realized_same, realized_split, value_row_is, value_top}
 use Rattle.refutation_writer.proofs.RefutingTurns.{begun_below, begun_holds, begun_lacks, edge_room, edge_written, edges_room, edges_written, forest_room, forest_written, realized_end, realized_start, tree_here, tree_room, tree_written}
-use Rattle.refutation_writer.proofs.Walks.{WalkAt, walk_next, walk_room, walk_shorter}
+use Rattle.refutation_writer.proofs.Walks.{walk_next, walk_room, walk_shorter}
 use Rattle.refutation_writer.proofs.Writings.{written_none}
-use Prim.Native.Nat.{ℕ, ◌<◌, ◌*◌, ◌+◌, ◌-◌}
+use Prim.Native.Nat.{◌-◌}
 use Rattle.refutation_writer.proofs.refute.+write_against_write_against_value_write_falsified_write_reached_write_realized.Goals as goal
 
 pub write_against-wanted-has-requires : goal.write_against-wanted-has-requires
@@ -153,10 +148,10 @@ write_against-write_falsified-requires t c =
     let subset = c.subset in
     let left2 = c.if-not-subset.false in
     let one = begun_below first second a.depth a.w a.u a.out.now a.k a.parent a.role pre.1.1.1.1 write-individual3.new.out
-    (set_of wanted.result) wanted.ensures wanted-within.result wanted-within.ensures (not-false _ left1)
-    (set_of excluded.result) (set_of excluded2.result) excluded.ensures excluded2.ensures subset.result subset.ensures (not-false _ left2) write-individual3.ensures in
-    let carried = against_carried first second a.depth a.w a.u (set_of wanted.result) wanted.ensures wanted-within.result wanted-within.ensures (not-false _ left1)
-    (set_of excluded.result) (set_of excluded2.result) excluded.ensures excluded2.ensures subset.result subset.ensures (not-false _ left2) in
+    (set_of wanted.result) wanted.ensures wanted-within.result wanted-within.ensures left1
+    (set_of excluded.result) (set_of excluded2.result) excluded.ensures excluded2.ensures subset.result subset.ensures left2 write-individual3.ensures in
+    let carried = against_carried first second a.depth a.w a.u (set_of wanted.result) wanted.ensures wanted-within.result wanted-within.ensures left1
+    (set_of excluded.result) (set_of excluded2.result) excluded.ensures excluded2.ensures subset.result subset.ensures left2 in
     (omega arith, (pre.0, (pre.1.0, (pre.1.1.0, ((pre.1.1.1.0, carried), one.room)))))
 
 pub write_against-returns : goal.write_against-returns
@@ -252,7 +247,7 @@ write_falsified-write_canonical_below-requires t c =
     let second = a.second.now in
     let wide = c.wide-c in
     let same = falsified_canonical first second a.missed.now a.m a.depth a.w a.u wide.result pre.1.0.checked
-    pre.1.1.1.0.0 pre.1.1.1.0.1 wide.ensures.0 (⊎_elim (λ w. inl w.taken) (λ w. inr (w.0.left, eqb-true wide.result 0 w.1.taken)) c.then-depth-eq0.branch) in
+    pre.1.1.1.0.0 pre.1.1.1.0.1 wide.ensures.0 c.then-depth-eq0.either in
     let room = forest_room a.out.now a.k a.parent (falsified_below first second a.depth a.w a.u) (canonical_below first a.depth a.u) same pre.1.1.1.1 in
     (pre.0, (pre.1.1.0.1, room))
 
@@ -265,7 +260,7 @@ write_falsified-returns-then-depth-eq0 t c =
     let wide = c.wide-c in
     let write-canonical-below = c.write_canonical_below in
     let same = falsified_canonical first second a.missed.now a.m a.depth a.w a.u wide.result pre.1.0.checked
-    pre.1.1.1.0.0 pre.1.1.1.0.1 wide.ensures.0 (⊎_elim (λ w. inl w.taken) (λ w. inr (w.0.left, eqb-true wide.result 0 w.1.taken)) c.then-depth-eq0.branch) in
+    pre.1.1.1.0.0 pre.1.1.1.0.1 wide.ensures.0 c.then-depth-eq0.either in
     forest_written a.out.now a.k a.parent (falsified_below first second a.depth a.w a.u) (canonical_below first a.depth a.u) same write-canonical-below.result write-canonical-below.new.out write-canonical-below.ensures
 
 pub write_falsified-kind-requires : goal.write_falsified-kind-requires
@@ -293,7 +288,7 @@ write_falsified-write_against_value-next-requires t c =
     let taken3 = c.if-kind-eq-KIND_FOR_ALL.true in
     let row = missed_row first second a.missed.now a.m a.depth (a.depth - 1) a.w a.u wide.result pre.1.0.checked
     (omega (arith, left1)) pre.1.1.1.0.0 pre.1.1.1.0.1 wide.ensures.0 in
-    let below = falsified_value first second (a.depth - 1) a.u a.depth a.w wide.result (omega (arith, left1)) row.found (eqb-false wide.result 0 c.if-c-eq0.false) kind.result kind.ensures taken3 in
+    let below = falsified_value first second (a.depth - 1) a.u a.depth a.w wide.result (omega (arith, left1)) row.found c.if-c-eq0.false kind.result kind.ensures taken3 in
     let room = edge_room a.out.now a.k a.parent (role_of second wide.result) (falsified_below first second a.depth a.w a.u)
     (against_value first second (a.depth - 1) wide.result a.u) (canonical_below first a.depth a.u) below pre.1.1.1.1 in
     (omega (arith, left1), (pre.0, (pre.1.0, ((row.inside, pre.1.1.0.1), ((sym kind.ensures ∙ taken3, row.below), room)))))
@@ -310,7 +305,7 @@ write_falsified-write_canonical_below-requires-then-kind-eq-KIND_FOR_ALL t c =
     let write-against-value = c.write_against_value-next in
     let row = missed_row first second a.missed.now a.m a.depth (a.depth - 1) a.w a.u wide.result pre.1.0.checked
     (omega (arith, left1)) pre.1.1.1.0.0 pre.1.1.1.0.1 wide.ensures.0 in
-    let below = falsified_value first second (a.depth - 1) a.u a.depth a.w wide.result (omega (arith, left1)) row.found (eqb-false wide.result 0 c.if-c-eq0.false) kind.result kind.ensures c.if-kind-eq-KIND_FOR_ALL.true in
+    let below = falsified_value first second (a.depth - 1) a.u a.depth a.w wide.result (omega (arith, left1)) row.found c.if-c-eq0.false kind.result kind.ensures c.if-kind-eq-KIND_FOR_ALL.true in
     let room = edges_room a.out.now a.k a.parent (role_of second wide.result) (falsified_below first second a.depth a.w a.u)
     (against_value first second (a.depth - 1) wide.result a.u) (canonical_below first a.depth a.u) below pre.1.1.1.1
     write-against-value.result write-against-value.new.out write-against-value.ensures in
@@ -329,7 +324,7 @@ write_falsified-returns-then-kind-eq-KIND_FOR_ALL t c =
     let write-canonical-below2 = c.write_canonical_below-then-kind-eq-KIND_FOR_ALL in
     let row = missed_row first second a.missed.now a.m a.depth (a.depth - 1) a.w a.u wide.result pre.1.0.checked
     (omega (arith, left1)) pre.1.1.1.0.0 pre.1.1.1.0.1 wide.ensures.0 in
-    let below = falsified_value first second (a.depth - 1) a.u a.depth a.w wide.result (omega (arith, left1)) row.found (eqb-false wide.result 0 c.if-c-eq0.false) kind.result kind.ensures c.if-kind-eq-KIND_FOR_ALL.true in
+    let below = falsified_value first second (a.depth - 1) a.u a.depth a.w wide.result (omega (arith, left1)) row.found c.if-c-eq0.false kind.result kind.ensures c.if-kind-eq-KIND_FOR_ALL.true in
     edges_written a.out.now a.k a.parent (role_of second wide.result) (falsified_below first second a.depth a.w a.u)
     (against_value first second (a.depth - 1) wide.result a.u) (canonical_below first a.depth a.u) below pre.1.1.1.1 write-against-value.result write-against-value.new.out write-against-value.ensures
     write-canonical-below2.result write-canonical-below2.new.out write-canonical-below2.ensures
@@ -350,9 +345,9 @@ write_falsified-write_realized-requires t c =
     let left3 = c.if-kind-eq-KIND_FOR_ALL.false in
     let row = missed_row first second a.missed.now a.m a.depth (a.depth - 1) a.w a.u wide.result pre.1.0.checked
     (omega (arith, left1)) pre.1.1.1.0.0 pre.1.1.1.0.1 wide.ensures.0 in
-    let below = falsified_realized first second (a.depth - 1) a.u a.depth a.w wide.result (omega (arith, left1)) row.found (eqb-false wide.result 0 left2) kind.result kind.ensures left3 in
+    let below = falsified_realized first second (a.depth - 1) a.u a.depth a.w wide.result (omega (arith, left1)) row.found left2 kind.result kind.ensures left3 in
     let room = forest_room a.out.now a.k a.parent (falsified_below first second a.depth a.w a.u) (realized_below first second (a.depth - 1) wide.result a.u) below pre.1.1.1.1 in
-    let some = some_kind second a.m wide.result kind.result pre.1.0.checked (eqb-false wide.result 0 left2) row.inside kind.ensures left3 in
+    let some = some_kind second a.m wide.result kind.result pre.1.0.checked left2 row.inside kind.ensures left3 in
     (omega (arith, left1), (pre.0, (pre.1.0, ((row.inside, pre.1.1.0.1), ((some, row.below), room)))))
 
 pub write_falsified-returns : goal.write_falsified-returns
@@ -367,7 +362,7 @@ write_falsified-returns t c =
     let write-realized = c.write_realized in
     let row = missed_row first second a.missed.now a.m a.depth (a.depth - 1) a.w a.u wide.result pre.1.0.checked
     (omega (arith, left1)) pre.1.1.1.0.0 pre.1.1.1.0.1 wide.ensures.0 in
-    let below = falsified_realized first second (a.depth - 1) a.u a.depth a.w wide.result (omega (arith, left1)) row.found (eqb-false wide.result 0 c.if-c-eq0.false) kind.result kind.ensures c.if-kind-eq-KIND_FOR_ALL.false in
+    let below = falsified_realized first second (a.depth - 1) a.u a.depth a.w wide.result (omega (arith, left1)) row.found c.if-c-eq0.false kind.result kind.ensures c.if-kind-eq-KIND_FOR_ALL.false in
     forest_written a.out.now a.k a.parent (falsified_below first second a.depth a.w a.u) (realized_below first second (a.depth - 1) wide.result a.u) below write-realized.result write-realized.new.out write-realized.ensures
 
 pub write_reached-kind-requires : goal.write_reached-kind-requires
@@ -515,9 +510,6 @@ write_realized-loop-v-preserved t c =
     let write-reached = c.write_reached-next in
     walk_next (realized_rows first second a.depth a.c) (realized_split first second a.depth a.c)
     first a.links.now a.n a.u a.parent pre.0 a.out.now a.k loop.v loop.next loop.out c.loop-v-test.true loop.invariant wide2.result write-reached.result write-reached.new.out wide2.ensures.0 write-reached.ensures
-
-pub write_realized-shape_of-out : goal.write_realized-shape_of-out
-write_realized-shape_of-out t c = c.loop-v.invariant.kept
 
 pub write_realized-returns : goal.write_realized-returns
 write_realized-returns t c =

@@ -1,13 +1,10 @@
-use mathlib.Core.Logic.{inl, inr, ⊎_elim}
+use mathlib.Core.Logic.{inl, inr}
 use mathlib.Core.Path.{◌∙◌, sym}
-use Prim.Native.Nat.{◌+◌, ◌-◌}
 use native.Mathlib.Omega.{arith}
-use borrow.Author.Rules.{rules}
-use lib.Dec.{eqb}
-use Rattle.table.specs.Pick.{pick}
 use Rattle.homomorphism_search.proofs.Searches.{checked_has}
-use Rattle.refutation_writer.proofs.RefutingTurns.{ValueAt, value_end, value_found, value_less, value_next, value_start}
+use Rattle.refutation_writer.proofs.RefutingTurns.{value_end, value_found, value_less, value_next, value_start}
 use Rattle.refutation_writer.proofs.refute.value_row.Goals as goal
+use Rattle.refutation_writer.proofs.refute.value_row.Goals.{then-kind-eq-KIND_FOR_ALL+else-role, else-kind-eq-KIND_FOR_ALL}
 
 pub bounds-links-u : goal.bounds-links-u
 bounds-links-u c = omega (arith, c.requires.1, c.requires.0.checked.most)
@@ -60,7 +57,10 @@ loop-v-preserved c =
     let z = c.loop-v-test.true in
     let k = c.kind in
     value_next a.first.now a.links.now a.n a.u a.role c.requires.0 l.v z l.invariant c.wide-v-in-loop-v.result c.wide-v-in-loop-v.ensures.0
-    (⊎_elim (λ w. inr (λ e. w.2.left (w.1.ensures ∙ e))) (λ w. inl (λ e. w.left (k.ensures ∙ e))) c.if-kind-eq-KIND_FOR_ALL.branch)
+    (elim c.if-kind-eq-KIND_FOR_ALL.branch [
+      | then-kind-eq-KIND_FOR_ALL+else-role w ↦ inr (λ e. w.if-role.false (w.role.ensures ∙ e))
+      | else-kind-eq-KIND_FOR_ALL w ↦ inl (λ e. w.if-kind-eq-KIND_FOR_ALL.false (k.ensures ∙ e))
+    ])
 
 pub returns : goal.returns
 returns c =

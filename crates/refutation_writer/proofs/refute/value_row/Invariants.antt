@@ -1,13 +1,8 @@
 -- The loop goes along the rows that hang from row u, and the first all-successor of the role is the answer.
-use mathlib.Core.Logic.{inl, inr, ⊎_elim}
-use mathlib.Core.Path.{◌∙◌, sym}
 use Prim.Native.Nat.{◌+◌, ◌-◌}
-use native.Mathlib.Omega.{arith}
-use borrow.Author.Rules.{rules}
 use lib.Dec.{eqb}
 use Rattle.table.specs.Pick.{pick}
-use Rattle.homomorphism_search.proofs.Searches.{checked_has}
-use Rattle.refutation_writer.proofs.RefutingTurns.{ValueAt, value_end, value_found, value_less, value_next, value_start}
+use Rattle.refutation_writer.proofs.RefutingTurns.{ValueAt}
 use Rattle.refutation_writer.proofs.refute.value_row.Given as goal
 
 abbrev pub invariant-loop-v : goal.invariant-loop-v

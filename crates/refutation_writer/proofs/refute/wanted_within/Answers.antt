@@ -1,5 +1,4 @@
 -- A marked row is within none; of one that is not marked the wanted names decide.
-use borrow.Author.Rules.{rules}
 use mathlib.Core.Path.{◌∙◌, sym}
 use Rattle.table.specs.NameValues.{set_of}
 use Rattle.refutation_writer.proofs.Refutings.{within_marked, within_names}

@@ -1,5 +1,4 @@
 -- The three sets in turn.
-use borrow.Author.Rules.{rules}
 use mathlib.Core.Path.{◌∙◌, ap₂}
 use Rattle.table.specs.NameSet.{intersection}
 use Rattle.refutation_writer.proofs.refute.widened.Goals as goal

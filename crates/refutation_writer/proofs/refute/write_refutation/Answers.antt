@@ -1,5 +1,4 @@
 -- The individuals of the countermodel of the two roots, from the first byte on, and the end field after them.
-use borrow.Author.Rules.{rules}
 use Rattle.refutation_writer.specs.Refuting.{against_tree}
 use Rattle.refutation_writer.proofs.RefutingTurns.{refutation_end, refutation_room}
 use Rattle.refutation_writer.proofs.refute.write_refutation.Goals as goal

@@ -1,14 +1,11 @@
-use Prim.Native.Nat.{ℕ, ◌*◌, ◌+◌, ◌-◌, ◌<◌}
-use mathlib.Core.Logic.{⊎_elim}
+use Prim.Native.Nat.{◌-◌}
 use native.Mathlib.Omega.{arith}
-use borrow.Author.Rules.{rules}
-use lib.Dec.{eqb}
 use Rattle.table.specs.NameValues.{set_of}
-use Rattle.table.specs.Pick.{pick}
 use Rattle.refutation_writer.proofs.Canonicals.{canonical_end, canonical_here, canonical_next, canonical_none, canonical_room, canonical_skip, canonical_split, canonical_start, canonical_turn, canonical_written, canonical_rows}
 use Rattle.homomorphism_search.proofs.Searches.{checked_has}
-use Rattle.refutation_writer.proofs.Walks.{WalkAt, walk_shorter}
+use Rattle.refutation_writer.proofs.Walks.{walk_shorter}
 use Rattle.refutation_writer.proofs.writer.+write_canonical_write_canonical_below.Goals as goal
+use Rattle.refutation_writer.proofs.writer.+write_canonical_write_canonical_below.Goals.{write_canonical_below-then-kind-eq-KIND_EXISTS, write_canonical_below-else-kind-eq-KIND_EXISTS}
 
 pub write_canonical-wanted-requires : goal.write_canonical-wanted-requires
 write_canonical-wanted-requires t c =
@@ -150,20 +147,19 @@ write_canonical_below-loop-v-preserved t c =
     let l = c.loop-v in
     let z = c.loop-v-test.true in
     let kind = c.kind in
-    ⊎_elim
-    (λ w. rw (w.6, w.7)
-    (canonical_next a.first.now a.links.now a.n a.u a.parent pre.0 a.out.now a.k a.depth
-    c.if-depth-eq0.false l.v l.next l.out z l.invariant kind.result kind.ensures
-    c.wide-v-in-loop-v.result w.1.result w.3.result w.3.last.1.1.1.1.1.1.1.0 c.wide-v-in-loop-v.ensures.0 w.1.ensures w.0.taken
-    w.3.ensures))
-    (λ w. rw (w.1, w.2)
-    (canonical_skip a.first.now a.links.now a.n a.u a.parent pre.0 a.out.now a.k a.depth
-    c.if-depth-eq0.false l.v l.next l.out z l.invariant kind.result kind.ensures
-    c.wide-v-in-loop-v.result c.wide-v-in-loop-v.ensures.0 w.0.left))
-    c.if-kind-eq-KIND_EXISTS.branch
-
-pub write_canonical_below-shape_of-out : goal.write_canonical_below-shape_of-out
-write_canonical_below-shape_of-out t c = c.loop-v.invariant.kept
+    elim c.if-kind-eq-KIND_EXISTS.branch [
+      | write_canonical_below-then-kind-eq-KIND_EXISTS w ↦
+          rw (w.out-is, w.next-is)
+          (canonical_next a.first.now a.links.now a.n a.u a.parent pre.0 a.out.now a.k a.depth
+          c.if-depth-eq0.false l.v l.next l.out z l.invariant kind.result kind.ensures
+          c.wide-v-in-loop-v.result w.role.result w.write_canonical-next.result w.write_canonical-next.new.out c.wide-v-in-loop-v.ensures.0
+          w.role.ensures w.if-kind-eq-KIND_EXISTS.true w.write_canonical-next.ensures)
+      | write_canonical_below-else-kind-eq-KIND_EXISTS w ↦
+          rw (w.out-is, w.next-is)
+          (canonical_skip a.first.now a.links.now a.n a.u a.parent pre.0 a.out.now a.k a.depth
+          c.if-depth-eq0.false l.v l.next l.out z l.invariant kind.result kind.ensures
+          c.wide-v-in-loop-v.result c.wide-v-in-loop-v.ensures.0 w.if-kind-eq-KIND_EXISTS.false)
+    ]
 
 pub write_canonical_below-returns : goal.write_canonical_below-returns
 write_canonical_below-returns t c =

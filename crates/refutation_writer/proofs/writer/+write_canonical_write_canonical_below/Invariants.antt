@@ -1,15 +1,10 @@
 -- An individual, and then what hangs from it; there the walk along the links writes the some-successors one after the other, so what was written and
 -- what is ahead are always the whole. A successor's tree is less deep.
-use Prim.Native.Nat.{ℕ, ◌*◌, ◌+◌, ◌-◌, ◌<◌}
-use mathlib.Core.Logic.{⊎_elim}
-use native.Mathlib.Omega.{arith}
-use borrow.Author.Rules.{rules}
+use Prim.Native.Nat.{◌*◌, ◌+◌, ◌-◌}
 use lib.Dec.{eqb}
-use Rattle.table.specs.NameValues.{set_of}
 use Rattle.table.specs.Pick.{pick}
-use Rattle.refutation_writer.proofs.Canonicals.{canonical_end, canonical_here, canonical_next, canonical_none, canonical_room, canonical_skip, canonical_split, canonical_start, canonical_turn, canonical_written, canonical_rows}
-use Rattle.homomorphism_search.proofs.Searches.{checked_has}
-use Rattle.refutation_writer.proofs.Walks.{WalkAt, walk_shorter}
+use Rattle.refutation_writer.proofs.Canonicals.{canonical_rows}
+use Rattle.refutation_writer.proofs.Walks.{WalkAt}
 use Rattle.refutation_writer.proofs.writer.+write_canonical_write_canonical_below.Given as goal
 
 abbrev pub decreases-write_canonical : goal.decreases-write_canonical

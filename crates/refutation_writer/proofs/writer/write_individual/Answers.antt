@@ -1,6 +1,4 @@
 -- The head and the names are put one after the other, which is putting the individual: `put-individual`.
-use borrow.Author.Rules.{rules}
-use native.Mathlib.Omega.{arith}
 use Rattle.table.specs.NameValues.{set_of}
 use Rattle.refutation_writer.proofs.Writings.{put_individual}
 use Rattle.refutation_writer.proofs.writer.write_individual.Goals as goal
