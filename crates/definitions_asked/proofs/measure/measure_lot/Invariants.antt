@@ -1,0 +1,17 @@
+-- At the loop's head 29 and 30 are asked of the pictures before picture k.
+use Prim.Native.Nat.{◌-◌, ◌<◌, ◌≤◌}
+use native.Mathlib.Omega.{arith}
+use borrow.Author.Rules.{rules}
+use mathlib.Core.Path.{◌≡◌, subst, sym}
+use Rattle.picture.specs.Readable.{Readable}
+use Rattle.fields.specs.Form.{listed}
+use Rattle.definitions_asked.specs.Lots.{count_in, picture_in}
+use Rattle.definitions_asked.specs.Measures.{Measured}
+use Rattle.definitions_asked.proofs.Sizes.{measured_as, measured_next, measured_none}
+use Rattle.definitions_asked.proofs.measure.measure_lot.Given as goal
+
+abbrev pub invariant-loop-k : goal.invariant-loop-k
+invariant-loop-k l = (l.k ≤ l.count) × Measured l.limits l.tbox (listed (picture_in l.source l.file) l.k 0) l.initial.progress l.progress
+
+abbrev pub decreases-loop-k : goal.decreases-loop-k
+decreases-loop-k l = l.count - l.k
