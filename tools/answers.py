@@ -66,7 +66,7 @@ class Turn:
         if not fields:
             return "place", place, "c"
         first, rest = fields[0], fields[1:]
-        for name in (first, re.sub(r"\d+$", "", first)):
+        for name in (first, re.sub(r"\d+$", "", first), re.sub(r"_is$", "", first)):
             at = place
             while at is not None:
                 p = self.entry.places[at]
@@ -155,7 +155,7 @@ class Turn:
                     at += re.match(rf"\s+{re.escape(bind[1])}(?:\s*:[^=]*?)?\s*=\s*{N}(?:\.{N})*\s+in", text[at:]).end()
                     continue
             found = self.path(head, fields)
-            if found is None:
+            if found is None or not fields and re.match(r"\s*=\s", text[at:]):
                 out.append(it[0])
             elif found[0] == "bad":
                 self.left.append(f"{it[0]}")
