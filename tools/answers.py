@@ -66,7 +66,7 @@ class Turn:
         if not fields:
             return "place", place, "c"
         first, rest = fields[0], fields[1:]
-        for name in (first, re.sub(r"\d+$", "", first)):
+        for name in (first, re.sub(r"\d+$", "", first), re.sub(r"_is$", "", first)):
             at = place
             while at is not None:
                 p = self.entry.places[at]
@@ -84,6 +84,11 @@ class Turn:
                     return "plain", place, "MEASURE"
                 if rest[:1] == ["1"]:
                     rest = rest[1:]
+            # no parameter is called `result` any more
+            if first == "args" and rest[:1] == ["result"]:
+                rest = ["res", *rest[1:]]
+            if first == "args" and not rest:
+                return "args", place, "c.args"
             return "plain", place, ".".join(["c", first, *rest])
         if p.arm:
             new, count, parts = p.arm
@@ -123,6 +128,10 @@ class Turn:
             return self.fields(kind[1], fields)
         if kind[0] == "prefix":
             return self.fields(kind[1], kind[2] + fields)
+        if kind[0] == "args":
+            if fields[:1] == ["result"]:
+                fields = ["res", *fields[1:]]
+            return "plain", kind[1], ".".join([head, *fields])
         if kind[0] == "step":
             if not fields:
                 return "step", kind[1], head
@@ -132,7 +141,7 @@ class Turn:
         out, at = [], 0
         text = re.sub(r"\.«(\w+)»", r".\1", SPACED.sub(r"\1", text))
         # a test of `!x` says now what `x` is
-        text = re.sub(rf"not-(?:true|false) _ ({N}(?:\.{N})*\.(?:true|false))", r"\1", text)
+        text = re.sub(rf"not-(?:true|false) (?:_|{N}(?:\.{N})*) ({N}(?:\.{N})*\.(?:true|false))", r"\1", text)
         while it := PATH.search(text, at):
             head, fields = it[1], [f for f in it[2].split(".") if f]
             out.append(text[at : it.start()])
@@ -146,8 +155,8 @@ class Turn:
                         self.env[bind[1]] = found
                         at += bind.end()
                         continue
-                    if found and found[0] == "step":
-                        self.env[bind[1]] = ("step", found[1])
+                    if found and found[0] in ("step", "args"):
+                        self.env[bind[1]] = (found[0], found[1])
                     elif bind[1] in self.env:
                         del self.env[bind[1]]
                     new = found[2] if found else bind[3]
@@ -155,7 +164,7 @@ class Turn:
                     at += re.match(rf"\s+{re.escape(bind[1])}(?:\s*:[^=]*?)?\s*=\s*{N}(?:\.{N})*\s+in", text[at:]).end()
                     continue
             found = self.path(head, fields)
-            if found is None:
+            if found is None or not fields and re.match(r"\s*=\s", text[at:]):
                 out.append(it[0])
             elif found[0] == "bad":
                 self.left.append(f"{it[0]}")

@@ -36,7 +36,6 @@ read_definitions-requires c =
     } in
     (c.requires.bounded, formed)
 
--- LEFT reads is a place
 pub open_read-requires : goal.open_read-requires
 open_read-requires c =
     let formed : Formed c.args.tbox.now c.find_fields-fields.result = record {
@@ -46,7 +45,7 @@ open_read-requires c =
     record {
       given = c.requires;
       formed = formed;
-      c = sym c.read_definitions.ensures ∙ c.in-Yes.is;
+      reads = sym c.read_definitions.ensures ∙ c.in-Yes.is;
     }
 
 pub returns-in-No : goal.returns-in-No

@@ -20,14 +20,14 @@ returns-then-not-index c =
     let reading = c.requires in
     opens_refused a.limits a.tbox.now (given) (refusal 26 Definitions)
     (refused_names a.limits a.tbox.now (given) reading.formed.form reading.reads
-    (sym c.index_of-index.ensures.single ∙ c.if-not-index.true))
+    (sym c.index_of-index.ensures.single ∙ not-true _ c.if-not-index.true))
     c.bare.result (subst (λ q. Bare (No q) c.bare.result) c.refuse.ensures c.bare.ensures)
 
 pub ask_pictures-asked-requires : goal.ask_pictures-asked-requires
 ask_pictures-asked-requires c =
     let a = c.args in
     let indexed = c.index_of-index.ensures in
-    let once = c.if-not-index.false in
+    let once = not-false _ c.if-not-index.false in
     record {
       reading = c.requires;
       opened = indexed.opened once a.limits c.requires.given.bounded
@@ -35,19 +35,18 @@ ask_pictures-asked-requires c =
       agrees = indexed.agrees once;
     }
 
--- LEFT found is a place
 pub returns : goal.returns
 returns c =
     let given : List Picture = given_of c.args.first.now c.args.other.now c.args.rest c.args.cards in
     let a = c.args in
     let reading = c.requires in
     let indexed = c.index_of-index.ensures in
-    let once = c.if-not-index.false in
+    let once = not-false _ c.if-not-index.false in
     let is = c.ask_pictures-asked.ensures
     ∙ sym (pictures_left a.limits a.tbox.now (given) reading.formed.form reading.reads
     (sym indexed.single ∙ once)) in
     record {
       asked_is = is;
-      c = λ e. found_ready a.limits a.tbox.now (given) reading.given.bounded
+      found = λ e. found_ready a.limits a.tbox.now (given) reading.given.bounded
           c.index_of-index.result indexed once (sym is ∙ e);
     }

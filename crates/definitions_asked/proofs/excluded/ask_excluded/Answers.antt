@@ -53,7 +53,7 @@ loop-k-preserved c =
           c.loop-k.asked c.and_then-asked.result (c.loop-k.invariant.1 tbox names)
           (excluded_one tbox (set_of a.defined) names (picture_in a.source a.file.now k)
           c.picture_in-picture.result.now c.picture_in-picture.ensures
-          c.excludes_none_is.result c.excludes_none_is.ensures
+          c.excludes_none-passes.result c.excludes_none-passes.ensures
           c.input_in.result c.input_in.ensures
           c.loop-k.asked c.question.result c.and_then-asked.result
           c.question.ensures c.and_then-asked.ensures),
