@@ -33,7 +33,7 @@ is_unfolded_within-requires c =
 pub overflow_cast-k : goal.overflow_cast-k
 overflow_cast-k c =
     let most = c.requires.places_are.located.most in
-    omega (arith, c.loop-k-test.taken, most)
+    omega (arith, c.loop-k-test.true, most)
 
 pub returns-then-not-is_unfolded_within : goal.returns-then-not-is_unfolded_within
 returns-then-not-is_unfolded_within c =
@@ -53,10 +53,10 @@ returns-then-not-is_unfolded_within c =
 pub overflow_add-k : goal.overflow_add-k
 overflow_add-k c =
     let most = c.requires.places_are.located.most in
-    omega (arith, c.loop-k-test.taken, most)
+    omega (arith, c.loop-k-test.true, most)
 
 pub loop-k-smaller : goal.loop-k-smaller
-loop-k-smaller c = omega (arith, c.loop-k-test.taken)
+loop-k-smaller c = omega (arith, c.loop-k-test.true)
 
 pub loop-k-preserved : goal.loop-k-preserved
 loop-k-preserved c =

@@ -137,10 +137,10 @@ add_card-subsumers-requires c =
     c.half_size-half.ensures (tabled) pre.placed.located.most
 
 pub overflow_add-k : goal.overflow_add-k
-overflow_add-k c = omega (arith, c.loop-k-test.taken, c.requires.placed.located.most)
+overflow_add-k c = omega (arith, c.loop-k-test.true, c.requires.placed.located.most)
 
 pub loop-k-smaller : goal.loop-k-smaller
-loop-k-smaller c = omega (arith, c.loop-k-test.taken)
+loop-k-smaller c = omega (arith, c.loop-k-test.true)
 
 pub loop-k-preserved : goal.loop-k-preserved
 loop-k-preserved c =
@@ -156,11 +156,11 @@ loop-k-preserved c =
     c.card-own.ensures c.unfolded_table-m.ensures in
     let pre = c.requires in
     let added = c.add_card-subsumers in (
-      test_next c.loop-k.invariant.0 c.loop-k-test.taken pre.ready.bounded (few) pre.lower
+      test_next c.loop-k.invariant.0 c.loop-k-test.true pre.ready.bounded (few) pre.lower
           c.half_size-half.ensures (tabled)
           c.covers_case-covers.ensures added.ensures.0
           added.ensures.1,
-      added.auto.1.1.1.1.1.0 ∙ c.loop-k.invariant.1,
+      added.auto.tables ∙ c.loop-k.invariant.1,
     )
 
 pub shape_of-work : goal.shape_of-work
