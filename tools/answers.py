@@ -108,7 +108,9 @@ class Turn:
         p = self.entry.places[place]
         if rest and rest[0] == "inv":
             rest = ["invariant", *rest[1:]]
-        if rest and rest[0] == "new" and p.fn and p.fn in self.entry.of["params"]:
+        if rest == ["taken"]:
+            rest = ["true"]
+        if rest and rest[0] in ("new", "auto") and p.fn and p.fn in self.entry.of["params"]:
             params = self.entry.of["params"][p.fn]
             i, rest2 = 0, rest[1:]
             while rest2 and rest2[0] == "1":
@@ -116,7 +118,7 @@ class Turn:
             if rest2 and rest2[0] == "0":
                 rest2 = rest2[1:]
             if i < len(params):
-                rest = ["new", params[i], *rest2]
+                rest = [rest[0], params[i], *rest2]
         return ".".join([text, *rest])
 
     def path(self, head, fields):
@@ -224,7 +226,7 @@ def split(lines):
 
 
 def equation(name, body):
-    return re.match(rf"{re.escape(name)}((?: (?!=\s){N})*) =\s*", body)
+    return re.match(rf"{re.escape(name)}((?:\s+(?!=\s){N})*)\s+=\s*", body)
 
 
 class Helper:
@@ -262,9 +264,9 @@ def without_places(text, helpers):
     if names:
         text = re.sub(rf"(?<=[\s(])\(({N}(?:\.{N})*)\)", r"\1", text)
     for name in names:
-        text = re.sub(rf"\({re.escape(name)} ({N}(?:\.{N})*)\)", r"\1", text)
+        text = re.sub(rf"\({re.escape(name)} ((?!=){N}(?:\.{N})*)\)", r"\1", text)
     for name in names:
-        text = re.sub(rf"(?<![^\s(){{}};,]){re.escape(name)} ({N}(?:\.{N})*)", r"\1", text)
+        text = re.sub(rf"(?<![^\s(){{}};,]){re.escape(name)} ((?!=){N}(?:\.{N})*)", r"\1", text)
     return text
 
 

@@ -1,0 +1,43 @@
+-- 1, the case, and then the book.
+use Prim.Native.Nat.{◌≤◌}
+use native.Mathlib.Omega.{arith}
+use borrow.Author.Rules.{rules}
+use lib.ListN.{length}
+use Rattle.workspace.specs.Prepare.{work_size}
+use Rattle.most_specific.proofs.Calls.{case_passed, case_readable, case_refused, short_call}
+use Rattle.most_specific.proofs.most_specific.most_specific.Goals as goal
+
+pub returns-then-work-half : goal.returns-then-work-half
+returns-then-work-half c =
+    let a = c.args in
+    rw c.short_buffer.ensures
+    (short_call a.limits c.requires a.tbox.now a.case.now a.book.now a.work.now
+    (omega (arith, c.half_size-half.ensures, c.if-work-half.true)))
+
+pub ask_book-requires : goal.ask_book-requires
+ask_book-requires c =
+    let long : work_size c.args.limits ≤ length c.args.work.now = omega (arith, c.half_size-half.ensures, c.if-work-half.false) in
+    let a = c.args in
+    record {
+      bounded = c.requires;
+      readable =
+          case_readable a.limits c.requires a.tbox.now a.case.now a.book.now a.work.now
+          (long) c.read.result c.read.ensures c.in-Rows.field-0 c.in-Rows.is;
+      room = long;
+    }
+
+pub returns-in-Rows : goal.returns-in-Rows
+returns-in-Rows c =
+    let long : work_size c.args.limits ≤ length c.args.work.now = omega (arith, c.half_size-half.ensures, c.if-work-half.false) in
+    let a = c.args in
+    let asked = c.ask_book in
+    case_passed a.limits c.requires a.tbox.now a.case.now a.book.now a.work.now
+    (long) c.read.result c.read.ensures c.in-Rows.field-0 c.in-Rows.is asked.result
+    asked.new.work asked.ensures
+
+pub returns-in-Refused : goal.returns-in-Refused
+returns-in-Refused c =
+    let long : work_size c.args.limits ≤ length c.args.work.now = omega (arith, c.half_size-half.ensures, c.if-work-half.false) in
+    let a = c.args in
+    case_refused a.limits c.requires a.tbox.now a.case.now a.book.now a.work.now
+    (long) c.read.result c.read.ensures c.in-Refused.refusal c.in-Refused.is
