@@ -47,8 +47,9 @@ refusal_lines = refl
 pub printed_lines : printed some_both some_each ∷ printed some_each some_both ∷ printed (root 0 ++ short_row) some_both
     ∷ printed some_both [] ∷ []
     ≡ texts ("verdict yes\n0 0\n1 1\n2 1\n" ∷ "verdict no\n" ∷ "refused first 4 1 24\n" ∷ "refused second 2 0 0\n" ∷ [])
-unfolding printed output map_lines decimal be be_bytes row_of end_bytes depth_in depth tag_ok length_for kind_ok role_ok parent_ok
-    value_field row_field end_field field_at scan_from reading_of read_asked row_count merged_tree merged_count normal_tree_of
-    normal_file merged_asked pair_asked lent_asked covers verdict_of map_of lowest_map map_file evidence_of verdict_answer
+unfolding printed output map_lines decimal be be_bytes row_of end_bytes depth_in depth tag_ok length_for kind_ok role_ok
+    parent_ok value_field row_field end_field field_at scan_from reading_of read_asked row_count merged_tree merged_count
+    normal_tree_of normal_file merged_asked pair_asked lent_asked covers verdict_of map_of lowest_map map_file evidence_of
+    verdict_answer
     subsumes_answer
 printed_lines = refl

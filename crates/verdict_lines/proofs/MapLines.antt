@@ -22,7 +22,8 @@ length_map_line : (row image : ℕ) → length (map_line row image) ≡ length (
 length_map_line row image = simp length-append (omega arith)
 
 module _ (e : List ℕ) where
-  length_map_lines : (n : ℕ) → length (map_lines e (suc n)) ≡ length (map_lines e n) + length (map_line n (image_of e n))
+  length_map_lines : (n : ℕ) →
+      length (map_lines e (suc n)) ≡ length (map_lines e n) + length (map_line n (image_of e n))
   unfolding map_lines
   length_map_lines n = length-append (map_lines e n) (map_line n (image_of e n))
 

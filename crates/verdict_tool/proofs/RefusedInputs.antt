@@ -48,7 +48,8 @@ module _ (first second : List ℕ) where
   pub refused_named : (r : Refusal) → subsumes_answer bench_limits first second work size ≡ Refused r → NamesPicture r
   unfolding subsumes_answer verdict_answer
   refused_named r e =
-      let none = verdict_given_is (verdict_of bench_limits first second) (length (evidence_of bench_limits first second)) r in
+      let size_told = length (evidence_of bench_limits first second) in
+      let none = verdict_given_is (verdict_of bench_limits first second) size_told r in
       let is : subsumes_asked bench_limits first second work size ≡ asked.No r =
       refused_by Refused (verdict_answer bench_limits first second) (λ p q same. cc) r none
       (subsumes_asked bench_limits first second work size) e in

@@ -40,7 +40,8 @@ use Rattle.verdict_lines.specs.Gathering.{MapIn, Told}
 use Rattle.verdict_lines.specs.Lines.{map_rows, output, printed, text}
 use Rattle.verdict_lines.proofs.MapLines.{lines_same}
 
-pub image_front : (d e : List ℕ) (i : ℕ) → image_place i + number_size ≤ length e → image_of (put d 0 e) i ≡ image_of e i
+pub image_front : (d e : List ℕ) (i : ℕ) → image_place i + number_size ≤ length e →
+    image_of (put d 0 e) i ≡ image_of e i
 image_front d e i inside =
     be_same (put d 0 e) e (image_place i) (image_place i) number_size
     (λ k l.
@@ -130,7 +131,8 @@ module _ (limits : Limits) (first second buffer : List ℕ) (bounded : Bounded l
       (λ all. ((two_decides limits first second (evidence_size limits) work (length buffer)).yes.0 all).pair)
 
 module _ (limits : Limits) (first second buffer left : List ℕ) (work : ℕ) (v : Verdict) (bench : limits ≡ bench_limits)
-    (bounded : Bounded limits) (room : work ≡ work_size bench_limits) (long : length buffer ≡ evidence_size bench_limits)
+    (bounded : Bounded limits) (room : work ≡ work_size bench_limits)
+    (long : length buffer ≡ evidence_size bench_limits)
     (answer : v ≡ subsumes_answer limits first second work (length buffer))
     (written : left ≡ subsumes_result limits first second work buffer) where
   abbrev shown_verdict : Verdict

@@ -8,7 +8,9 @@ use Rattle.verdict_lines.specs.Lines.{map_lines}
 use Rattle.verdict_lines.proofs.gather.put_map.Given as goal
 
 abbrev pub invariant-loop-row : goal.invariant-loop-row
-invariant-loop-row l = (l.row ≤ l.rows) × Added l.initial.out l.at (map_lines l.e l.row) l.end l.out × (length l.out ≡ length l.initial.out)
+invariant-loop-row l =
+    (l.row ≤ l.rows) × Added l.initial.out l.at (map_lines l.e l.row) l.end l.out
+    × (length l.out ≡ length l.initial.out)
 
 abbrev pub decreases-loop-row : goal.decreases-loop-row
 decreases-loop-row l = l.rows - l.row
