@@ -16,11 +16,10 @@ pub returns-then-s-place : goal.returns-then-s-place
 unfolding row_field
 returns-then-s-place c = rw (sym c.place.ensures) (simp (lt-ltb _ _ c.if-limits-n.false, lt-leb _ _ c.if-s-place.true))
 
--- LEFT c.before.before.before.before.before is a place
 pub value_field-requires : goal.value_field-requires
 value_field-requires c =
     let pre = c.requires in
-    (pre.0, ((omega (arith, c), omega (arith, c.place.ensures)), pre.1))
+    (pre.0, ((omega arith, omega (arith, c.place.ensures)), pre.1))
 
 pub returns : goal.returns
 unfolding row_field

@@ -18,11 +18,10 @@ pub loop-depth-init : goal.loop-depth-init
 unfolding reading_of
 loop-depth-init c = (omega arith, (refl, (known_none _ _, rw sub-zero)))
 
--- LEFT c.before.before.before is a place
 pub field_at-field-requires : goal.field_at-field-requires
 field_at-field-requires c =
     let l = c.loop-depth in
-    (c.requires, (omega (arith, c, l.invariant.0), l.invariant.1.1.0))
+    (c.requires, (omega (arith, l.invariant.0), l.invariant.1.1.0))
 
 pub bounds-depths-n : goal.bounds-depths-n
 bounds-depths-n c =
