@@ -8,7 +8,7 @@ use mathlib.Core.List.{List}
 use mathlib.Core.Path.{◌∙◌, ◌≡◌, ap, subst, sym}
 use Rattle.table.specs.NameValues.{set_of}
 use Rattle.meaning.specs.NormalTable.{merged_count}
-use Rattle.normal.proofs.Answers.{merged-decides, merged-many}
+use Rattle.normal.proofs.Answers.{merged_decides, merged_many}
 use Rattle.picture.proofs.Orders.{YesTo, to_no, to_yes, yes_on}
 use Rattle.picture.specs.Refusal.{too_many}
 use Rattle.picture.specs.declared.answer.Input.TheVariants.{Card}
