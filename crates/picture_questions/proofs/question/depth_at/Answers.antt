@@ -6,7 +6,6 @@ use Rattle.table.specs.Fields.{parent_of}
 use Rattle.picture.proofs.Depths.{depth_root}
 use Rattle.picture_questions.proofs.Depths.{depth_known}
 use Rattle.picture.proofs.Questions.{parent_below}
-use borrow.Author.Rules.{rules}
 use Rattle.picture_questions.proofs.question.depth_at.Goals as goal
 
 pub returns-then-n-eq0 : goal.returns-then-n-eq0

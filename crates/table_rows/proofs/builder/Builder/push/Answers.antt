@@ -6,7 +6,6 @@ use Rattle.table.specs.Layout.{«place»}
 use Rattle.table.specs.Number.{be_bytes}
 use Rattle.table.specs.Fields.{row_of}
 use Rattle.table.proofs.Puts.{put_three}
-use borrow.Author.Rules.{rules}
 use Rattle.table_rows.proofs.builder.Builder.push.Goals as goal
 
 pub returns : goal.returns
