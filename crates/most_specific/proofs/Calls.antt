@@ -8,7 +8,7 @@
 --   definitions_refused, definitions_passed, definitions_prepared    what is asked of the definitions book
 --   form_refused, cards_refused, cards_room, cards_passed        24, and 2 to 13 of the cards
 --   short_call, case_refused, case_readable, case_passed         1, and 2 to 13 of the case
-use Prim.Native.Nat.{◌+◌, ◌-◌, ◌<◌, ◌≤◌, ℕ}
+use Prim.Native.Nat.{◌<◌, ◌≤◌, ℕ}
 use borrow.Author.Tests.{le-leb, lt-leb, lt-ltb, ltb-true}
 use lib.Dec.{ltb}
 use lib.ListN.{drop, length}

@@ -12,7 +12,7 @@ use lib.Dec.{leb}
 use mathlib.Core.Bool.{Bool, true}
 use mathlib.Core.List.{List}
 use mathlib.Core.Logic.{◌⊎◌}
-use mathlib.Core.Path.{◌∙◌, ◌≡◌, refl, subst, sym}
+use mathlib.Core.Path.{◌∙◌, ◌≡◌, subst, sym}
 use Rattle.table.specs.Bounds.{Bounded, picture_size}
 use Rattle.table.specs.declared.layout.Limits.{Limits}
 use Rattle.picture.proofs.Orders.{Decides, EveryRefusal, and_decides, and_refuses, read_decides, said_so, then_same}
@@ -20,7 +20,7 @@ use Rattle.picture.specs.Asked.{and_then}
 use Rattle.picture.specs.Readable.{Readable}
 use Rattle.picture.specs.Refusal.{too_many}
 use Rattle.picture.specs.declared.answer.Asked.{Asked}
-use Rattle.picture.specs.declared.answer.Asked.TheVariants.{No, Yes}
+use Rattle.picture.specs.declared.answer.Asked.TheVariants.{Yes}
 use Rattle.picture.specs.declared.answer.Input.TheVariants.{First, Second}
 use Rattle.picture.specs.declared.answer.Refusal.{Refusal}
 use Rattle.meaning.specs.NormalTable.{merged_count}

@@ -15,7 +15,7 @@ use Rattle.picture.specs.Asked.{and_then, read_asked, room_asked}
 use Rattle.picture.specs.Readable.{Readable}
 use Rattle.picture.specs.Refusal.{short_buffer}
 use Rattle.picture.specs.declared.answer.Asked.{Asked}
-use Rattle.picture.specs.declared.answer.Asked.TheVariants.{No, Yes}
+use Rattle.picture.specs.declared.answer.Asked.TheVariants.{No}
 use Rattle.picture.specs.declared.answer.Input.TheVariants.{First, Second}
 use Rattle.picture.specs.declared.answer.Refusal.{Refusal}
 use Rattle.meaning.specs.NormalTable.{merged_count}

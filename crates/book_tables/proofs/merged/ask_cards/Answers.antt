@@ -1,14 +1,13 @@
-use Prim.Native.Nat.{◌-◌, ◌≤◌, ℕ}
+use Prim.Native.Nat.{ℕ}
 use native.Mathlib.Omega.{arith}
-use borrow.Author.Rules.{rules}
-use borrow.Author.Tests.{leb-true, not-false, not-true}
+use borrow.Author.Tests.{leb-true}
 use lib.Dec.{leb}
 use mathlib.Core.List.{List}
 use mathlib.Core.Path.{◌∙◌, ◌≡◌, ap, subst, sym}
 use Rattle.table.specs.NameValues.{set_of}
 use Rattle.meaning.specs.NormalTable.{merged_count}
 use Rattle.normal.proofs.Answers.{merged_decides, merged_many}
-use Rattle.picture.proofs.Orders.{YesTo, to_no, to_yes, yes_on}
+use Rattle.picture.proofs.Orders.{to_no, to_yes, yes_on}
 use Rattle.picture.specs.Refusal.{too_many}
 use Rattle.picture.specs.declared.answer.Input.TheVariants.{Card}
 use Rattle.book.specs.Form.{card}

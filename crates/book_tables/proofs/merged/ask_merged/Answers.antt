@@ -1,8 +1,7 @@
 -- 14 of the unfolded case decides; else the cards do.
 use Prim.Native.Nat.{ℕ}
 use native.Mathlib.Omega.{arith}
-use borrow.Author.Rules.{rules}
-use borrow.Author.Tests.{leb-true, not-false, not-true}
+use borrow.Author.Tests.{leb-true}
 use mathlib.Core.List.{List}
 use mathlib.Core.Path.{◌∙◌, refl, sym}
 use Rattle.meaning.specs.NormalTable.{merged_count}

@@ -3,7 +3,6 @@ use borrow.Author.Tests.{lt-ltb, le-ltb, le-leb, lt-leb}
 use Rattle.picture.specs.Questions.{row_field}
 use mathlib.Core.Path.{sym}
 use native.Mathlib.Omega.{arith}
-use borrow.Author.Rules.{rules}
 use Rattle.picture_reader.proofs.field.row_field.Goals as goal
 
 pub returns-then-limits-n : goal.returns-then-limits-n

@@ -1,14 +1,10 @@
 use mathlib.Core.Path.{◌≡◌, refl, sym, ◌∙◌}
-use Prim.Native.Nat.{suc, ◌≤◌, ◌-◌}
 use native.Mathlib.Nat.{sub-zero}
 use native.Mathlib.Omega.{arith}
-use lib.ListN.{length, length-set}
-use borrow.Author.Rules.{rules}
-use Rattle.table.specs.Bounds.{max_rows}
+use lib.ListN.{length-set}
 use Rattle.table.specs.Fields.{parent_of}
 use Rattle.picture.specs.Depth.{depth}
-use Rattle.picture_questions.specs.Depths.{Known}
-use Rattle.picture.specs.Read.{scan_from, reading_of}
+use Rattle.picture.specs.Read.{reading_of}
 use Rattle.picture.proofs.Fields.{RowOk, row_ok}
 use Rattle.picture.proofs.Scans.{scan_step}
 use Rattle.picture_questions.proofs.Depths.{known_none, known_next}

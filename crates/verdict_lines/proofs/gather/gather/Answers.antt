@@ -1,6 +1,5 @@
 -- Each verdict has its text, put from the first byte on; the lines of a map come after the first line, and there is
 -- room for them.
-use borrow.Author.Rules.{rules}
 use lib.ListN.{length-append}
 use mathlib.Core.List.{◌++◌}
 use native.Mathlib.Omega.{arith}

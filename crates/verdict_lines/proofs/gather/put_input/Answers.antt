@@ -1,7 +1,6 @@
 -- The text names the first picture if the refusal does, and else the second.
 -- the tags of the other inputs
 use Prim.Native.Nat.{ℕ}
-use borrow.Author.Rules.{rules}
 use denote.Enum.Declared.{tag_of}
 use mathlib.Core.List.{List, [], ◌∷◌}
 use mathlib.Core.Path.{◌≡◌, refl}

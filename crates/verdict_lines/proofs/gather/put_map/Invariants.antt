@@ -1,15 +1,10 @@
 -- At the loop's head the lines of the rows before this one stand in the buffer; there is room for all. The measure is
 -- the number of rows to come.
 use Prim.Native.Nat.{◌-◌, ◌≤◌}
-use borrow.Author.Rules.{rules}
 use lib.ListN.{length}
-use mathlib.Core.Path.{◌≡◌, refl, subst}
-use native.Mathlib.Omega.{arith}
-use Rattle.homomorphism.specs.Layout.{image_of}
+use mathlib.Core.Path.{◌≡◌}
 use Rattle.verdict_lines.specs.Gathering.{Added}
-use Rattle.verdict_lines.specs.Lines.{map_lines, map_rows}
-use Rattle.verdict_lines.proofs.Gatherings.{added_none}
-use Rattle.verdict_lines.proofs.MapLines.{lines_turn, lines_within}
+use Rattle.verdict_lines.specs.Lines.{map_lines}
 use Rattle.verdict_lines.proofs.gather.put_map.Given as goal
 
 abbrev pub invariant-loop-row : goal.invariant-loop-row

@@ -1,6 +1,5 @@
 -- Each number is put after what stands there, and the widths of the numbers bound the line.
 use Prim.Native.Nat.{◌≤◌}
-use borrow.Author.Rules.{rules}
 use lib.ListN.{length, length-append}
 use native.Mathlib.Omega.{arith}
 use Rattle.picture.specs.declared.answer.Input.{Input}

@@ -1,6 +1,5 @@
 -- The two numbers, each with the byte after it, are the line.
 use Prim.Native.Nat.{◌+◌, ◌≤◌}
-use borrow.Author.Rules.{rules}
 use lib.ListN.{length, length-append}
 use native.Mathlib.Omega.{arith}
 use Rattle.verdict_lines.specs.Lines.{decimal, number}

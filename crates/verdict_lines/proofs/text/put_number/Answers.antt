@@ -1,5 +1,4 @@
 -- What `io::decimal` leaves are the digits of the definition, and the byte is put after them.
-use borrow.Author.Rules.{rules}
 use lib.ListN.{length, take}
 use mathlib.Core.List.{[], ◌∷◌}
 use mathlib.Core.Path.{◌∙◌, ◌≡◌, ap, subst}
