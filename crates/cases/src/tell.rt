@@ -1,11 +1,12 @@
 // What reading a picture, writing its normal table and writing the common picture of two answer, as a line.
 use lcs::common::Common;
 use lcs_call::call::lcs;
-use libc::STDOUT_FILENO;
 use normal::normalize::Normalized;
 use normalize_call::normalize::normalize;
 use picture::answer::{Answer, Input, Refusal};
 use picture_reader::read::read;
+use std::io;
+use std::io::Print;
 use table::layout::{END_LENGTH, END_SIZE, END_TAG, Limits, MAX_ROWS, ROW_SIZE};
 
 // The length laid down for a result buffer.
@@ -17,114 +18,77 @@ const WORK: usize = 2 * RESULT;
 // The definitions book without definitions: the end field alone.
 const NO_DEFINITIONS: [u8; END_SIZE] = [END_TAG, 0, END_LENGTH as u8];
 
-// The end of a line: what the answer is, and its number.
-fn say(what: &[u8], number: u64) {
-    io::write_all(STDOUT_FILENO, what);
-    io::print_decimal(STDOUT_FILENO, number);
-    io::write_all(STDOUT_FILENO, b"\n");
-}
-
 // The input that a refusal names.
-fn say_input(input: Input) {
+fn input_name(input: Input) -> &'static str {
     match input {
-        Input::Buffer => {
-            io::write_all(STDOUT_FILENO, b"buffer");
-        }
-        Input::First => {
-            io::write_all(STDOUT_FILENO, b"first");
-        }
-        Input::Second => {
-            io::write_all(STDOUT_FILENO, b"second");
-        }
-        Input::Evidence => {
-            io::write_all(STDOUT_FILENO, b"evidence");
-        }
-        Input::Book => {
-            io::write_all(STDOUT_FILENO, b"book");
-        }
-        Input::Card(_) => {
-            io::write_all(STDOUT_FILENO, b"card");
-        }
-        Input::Definitions => {
-            io::write_all(STDOUT_FILENO, b"definitions");
-        }
-        Input::Definition(_) => {
-            io::write_all(STDOUT_FILENO, b"definition");
-        }
+        Input::Buffer => "buffer",
+        Input::First => "first",
+        Input::Second => "second",
+        Input::Evidence => "evidence",
+        Input::Book => "book",
+        Input::Card(_) => "card",
+        Input::Definitions => "definitions",
+        Input::Definition(_) => "definition",
     }
 }
 
 // The end of the line of a refusal: the input, the question's number, and the row and the byte.
-fn say_refused(refusal: Refusal) {
-    let input = refusal.input;
+fn say_refused(rt: &impl Print, refusal: Refusal) -> io::Result<()> {
+    let input = input_name(refusal.input);
     let number = refusal.number;
     let row = refusal.row;
     let byte = refusal.byte;
-    io::write_all(STDOUT_FILENO, b": refused ");
-    say_input(input);
-    io::write_all(STDOUT_FILENO, b" ");
-    io::print_decimal(STDOUT_FILENO, number as u64);
-    io::write_all(STDOUT_FILENO, b" row ");
-    io::print_decimal(STDOUT_FILENO, row as u64);
-    say(b" byte ", byte as u64);
+    println!(rt; ": refused {input} {number} row {row} byte {byte}")
 }
 
-fn tell_answer(s: &[u8]) {
+fn tell_answer(rt: &impl Print, s: &[u8]) -> io::Result<()> {
     match read(s, Limits::bench(), Input::First) {
-        Answer::Rows(n) => {
-            say(b": rows ", n as u64);
-        }
-        Answer::Refused(refusal) => {
-            say_refused(refusal);
-        }
+        Answer::Rows(n) => println!(rt; ": rows {n}"),
+        Answer::Refused(refusal) => say_refused(rt, refusal),
     }
 }
 
 // The picture is the first n bytes of s.
-fn tell_first(s: &[u8], n: usize) {
+fn tell_first(rt: &impl Print, s: &[u8], n: usize) -> io::Result<()> {
     if n <= s.len() {
-        tell_answer(&s[..n]);
+        tell_answer(rt, &s[..n])?;
     }
+    Ok(())
 }
 
-pub fn tell(label: &[u8], s: &[u8], n: usize) {
-    io::write_all(STDOUT_FILENO, label);
-    tell_first(s, n);
+pub fn tell(rt: &impl Print, label: &str, s: &[u8], n: usize) -> io::Result<()> {
+    print!(rt; "{label}")?;
+    tell_first(rt, s, n)
 }
 
-fn tell_normalized(s: &[u8], out: &mut [u8]) {
+fn tell_normalized(rt: &impl Print, s: &[u8], out: &mut [u8]) -> io::Result<()> {
     match normalize(&NO_DEFINITIONS, s, Limits::bench(), out) {
-        Normalized::Length(n) => {
-            say(b": length ", n as u64);
-        }
-        Normalized::Refused(refusal) => {
-            say_refused(refusal);
-        }
+        Normalized::Length(n) => println!(rt; ": length {n}"),
+        Normalized::Refused(refusal) => say_refused(rt, refusal),
     }
 }
 
 // The picture is the first n bytes of s.
-fn tell_first_normal(s: &[u8], n: usize, out: &mut [u8]) {
+fn tell_first_normal(rt: &impl Print, s: &[u8], n: usize, out: &mut [u8]) -> io::Result<()> {
     if n <= s.len() {
-        tell_normalized(&s[..n], out);
+        tell_normalized(rt, &s[..n], out)?;
     }
+    Ok(())
 }
 
-pub fn tell_normal(label: &[u8], s: &[u8], n: usize) {
+pub fn tell_normal(rt: &impl Print, label: &str, s: &[u8], n: usize) -> io::Result<()> {
     let mut out = [0u8; RESULT];
-    io::write_all(STDOUT_FILENO, b"normal table of ");
-    io::write_all(STDOUT_FILENO, label);
-    tell_first_normal(s, n, &mut out);
+    print!(rt; "normal table of {label}")?;
+    tell_first_normal(rt, s, n, &mut out)
 }
 
-pub fn tell_nested(depth: u8, s: &[u8], n: usize) {
+pub fn tell_nested(rt: &impl Print, depth: u8, s: &[u8], n: usize) -> io::Result<()> {
     let mut out = [0u8; RESULT];
-    io::write_all(STDOUT_FILENO, b"normal table of 003, Example 26, depth ");
-    io::print_decimal(STDOUT_FILENO, depth as u64);
-    tell_first_normal(s, n, &mut out);
+    print!(rt; "normal table of 003, Example 26, depth {depth}")?;
+    tell_first_normal(rt, s, n, &mut out)
 }
 
-fn tell_least(first: &[u8], second: &[u8]) {
+fn tell_least(rt: &impl Print, first: &[u8], second: &[u8]) -> io::Result<()> {
     let mut work = [0u8; WORK];
     let mut out = [0u8; RESULT];
     match lcs(
@@ -135,26 +99,29 @@ fn tell_least(first: &[u8], second: &[u8]) {
         &mut work,
         &mut out,
     ) {
-        Common::Length(n) => {
-            say(b": length ", n as u64);
-        }
-        Common::Refused(refusal) => {
-            say_refused(refusal);
-        }
+        Common::Length(n) => println!(rt; ": length {n}"),
+        Common::Refused(refusal) => say_refused(rt, refusal),
     }
 }
 
 // The pictures are the first n bytes of s and the first m of t.
-fn tell_first_least(s: &[u8], n: usize, t: &[u8], m: usize) {
+fn tell_first_least(rt: &impl Print, s: &[u8], n: usize, t: &[u8], m: usize) -> io::Result<()> {
     if n <= s.len() {
         if m <= t.len() {
-            tell_least(&s[..n], &t[..m]);
+            tell_least(rt, &s[..n], &t[..m])?;
         }
     }
+    Ok(())
 }
 
-pub fn tell_common(label: &[u8], s: &[u8], n: usize, t: &[u8], m: usize) {
-    io::write_all(STDOUT_FILENO, b"common picture of ");
-    io::write_all(STDOUT_FILENO, label);
-    tell_first_least(s, n, t, m);
+pub fn tell_common(
+    rt: &impl Print,
+    label: &str,
+    s: &[u8],
+    n: usize,
+    t: &[u8],
+    m: usize,
+) -> io::Result<()> {
+    print!(rt; "common picture of {label}")?;
+    tell_first_least(rt, s, n, t, m)
 }

@@ -5,7 +5,7 @@
 --   Told                   so it does where the verdict is yes
 --   Front                  a buffer begins with a text that is n bytes long
 use Rattle.std.specs.Prelude.{◌*◌, ◌+◌, ◌<◌, ◌≤◌, ℕ, length, take, List, ◌≡◌}
-use Rattle.io.specs.Counts.{IsPrefixLen}
+use Rattle.std.specs.Counts.{IsPrefixLen}
 use Rattle.table.specs.Bounds.{max_rows}
 use Rattle.table.specs.Layout.{end_size}
 use Rattle.table.specs.Put.{put}

@@ -10,8 +10,10 @@ ghost use Rattle.verdict_lines.specs.Lines.{printed};
 ghost use Rattle.verdict_tool.specs.Lengths.{Lengths};
 
 use crate::load::{PICTURE, load};
-use libc::STDOUT_FILENO;
 use refutation_reader::layout::{INDIVIDUAL_SIZE, MAX_INDIVIDUALS};
+use std::fs::Files;
+use std::io;
+use std::io::Print;
 use subsumes::subsumes::subsumes;
 use table::layout::{END_LENGTH, END_SIZE, END_TAG, Limits, MAX_ROWS, ROW_SIZE};
 use verdict_lines::gather::gather;
@@ -54,12 +56,12 @@ fn decide(first: &[u8], second: &[u8], out: &mut [u8]) -> usize
 }
 
 // Prints the lines on the files with these names, by one write.
-pub fn run(first_name: &[u8], second_name: &[u8]) {
+pub fn run<R: Files + Print>(rt: &R, first_name: &[u8], second_name: &[u8]) -> io::Result<()> {
     let mut first = [0u8; PICTURE];
-    let n = load(first_name, &mut first);
+    let n = load(rt, first_name, &mut first);
     let mut second = [0u8; PICTURE];
-    let m = load(second_name, &mut second);
+    let m = load(rt, second_name, &mut second);
     let mut out = [0u8; OUTPUT];
     let k = decide(&first[..n], &second[..m], &mut out);
-    io::write_all(STDOUT_FILENO, &out[..k]);
+    rt.write_all(&out[..k])
 }

@@ -10,9 +10,9 @@ use Rattle.verdict_lines.proofs.gather.gather.Goals as goal
 
 pub put_map-requires : goal.put_map-requires
 put_map-requires c =
-    let map = c.pre.1 c.in-Yes.n c.in-Yes.is in
+    let map = c.requires.1 c.in-Yes.n c.in-Yes.is in
     let room = map_room c.args.res.now c.in-Yes.n map in
-    (omega (arith, c.pre.0, room, c.put_text-first.ensures.place, c.put_text-first.auto), map)
+    (omega (arith, c.requires.0, room, c.put_text-first.ensures.place, c.put_text-first.auto), map)
 
 pub returns-in-Yes : goal.returns-in-Yes
 unfolding output
@@ -20,13 +20,13 @@ returns-in-Yes c =
     let a = c.args in
     let first = c.put_text-first in
     let rest = c.put_map in
-    let lines = map_lines a.result.now (map_rows c.in-Yes.n) in
-    let room = map_room a.result.now c.in-Yes.n (c.pre.1 c.in-Yes.n c.in-Yes.is) in
+    let lines = map_lines a.res.now (map_rows c.in-Yes.n) in
+    let room = map_room a.res.now c.in-Yes.n (c.requires.1 c.in-Yes.n c.in-Yes.is) in
     rw c.in-Yes.is
     (added_front a.out.now rest.new.out (text "verdict yes\n" ++ lines) rest.result
-    (simp length-append (omega (arith, c.pre.0, room)))
+    (simp length-append (omega (arith, c.requires.0, room)))
     (added_on a.out.now first.new.out rest.new.out 0 first.result rest.result (text "verdict yes\n")
-    lines (omega (arith, c.pre.0)) first.ensures rest.ensures))
+    lines (omega (arith, c.requires.0)) first.ensures rest.ensures))
 
 pub returns-in-No : goal.returns-in-No
 unfolding output
