@@ -42,10 +42,10 @@ all: library program
 
 # Always run: rt knows what has to be proved again.
 library: tools
-	@rt staticlib zuvaropy
+	@sh tools/build.sh
 
 program: tools library
-	@rt check verdict
+	@sh tools/build.sh program
 
 quick: tools
 	@CC='$(CC)' sh tests/quick.sh

@@ -1,7 +1,7 @@
 #!/usr/bin/env python3
-"""Says by which statement each must-fail edit is refused first, from the logs that `rt ci` left in target/.
+"""Says by which statement each must-fail edit is refused first, from what `rt ci` or `rt must-fail` printed.
 
-    tools/refusals.py [CRATE[/EDIT] ..]
+    tools/refusals.py LOG [CRATE[/EDIT] ..]
 
 An edit names the fact that it makes false in a line of its own, `false: MODULE: STATEMENT`. What stands there is
 
@@ -20,11 +20,13 @@ import re
 import sys
 
 ROOT = os.path.dirname(os.path.dirname(os.path.abspath(__file__)))
-FIRST = re.compile(r'^(?:\S*/)?((?:proofs|specs|src)/\S+?):\d+:\d+: error: (?:`([^`]+)`: )?(.*)', re.M)
-# of a function that is proved without a file
-UNANSWERED = re.compile(r'^note: what antt said .*? made: (?:\S*/)?(src/\S+?):\d+:\d+: `([^`]+)`: (.*)', re.M)
+TRIED = re.compile(r'^rt: must-fail (\w+)/(\w+)[.]edit: refused, as it must be: (.*)', re.M)
+FIRST = re.compile(r'(?:\S*/)?((?:proofs|specs)/\S+?):\d+:\d+: error: (?:`([^`]+)`: )?(.*)')
+# of a goal that has no answer of its own
+UNANSWERED = re.compile(r'note: (?:\S*/)?(src/\S+?):(\d+):\d+: (it is not proved that .*?) \(`([^`]+)`\)')
 # what is said where an edit changes the code's shape and the proof's text no longer fits it
-UNFIT = re.compile('that can be named from here|not in scope|was not admitted|has no field|expected type `tie[.]')
+UNFIT = re.compile('that can be named from here|not in scope|was not admitted|has no field')
+OWN_PROOF = ('/Answers.antt', '/Invariants.antt')
 
 
 def claim(crate, edit):
@@ -35,43 +37,53 @@ def claim(crate, edit):
     return f'{module}: {statement}', when
 
 
+def function(crate, path, line):
+    """The function whose code stands at a line of the source."""
+    with open(f'{ROOT}/crates/{crate}/{path}', encoding='utf8') as f:
+        before = f.read().split('\n')[:line + 12]
+    names = [(n, it[1]) for n, text in enumerate(before, 1) if (it := re.match(r'\s*(?:pub )?(?:extern "C" )?fn (\w+)', text))]
+    return next((name for n, name in reversed(names) if n <= line), names[0][1] if names else '')
+
+
 def kind(crate, path, statement):
     """What kind of statement that is: case, contract, law or need."""
-    if path.startswith('src/') or path.endswith('/Proof.antt'):
-        return 'contract' if re.search(r'(^|-)returns(-\d+)?$', statement) else 'need'
+    if path.startswith('src/') or path.endswith(OWN_PROOF):
+        return 'contract' if re.search(r'(^|-)returns(-|$)', statement) else 'need'
     with open(f'{ROOT}/crates/{crate}/{path}', encoding='utf8') as f:
         name = re.escape(statement)
-        said = re.search(rf'^(?:pub )?{name} : (.*?)^(?:unfolding|{name}) ', f.read(), re.M | re.S)
+        said = re.search(rf'^ *(?:pub )?{name} : (.*?)^ *(?:unfolding|{name}) ', f.read(), re.M | re.S)
     return 'law' if not said or re.search(r'[({][^(){}]* : |→ ⊥', said[1]) else 'case'
 
 
-def refusal(crate, edit, log):
+def refusal(crate, edit, said):
     """Whether an edit is refused by the fact that it names, and a line about it."""
-    first = FIRST.search(log) or UNANSWERED.search(log)
-    if not first:
-        return False, f'{crate}/{edit}: no error'
-    path, statement, message = first[1], first[2] or 'text', first[3]
-    parts = path.removesuffix('/Proof.antt').removesuffix('.antt').split('/')
-    place, what = f'{parts[-1]}: {statement}', kind(crate, path, statement)
+    if first := FIRST.match(said):
+        path, statement, message = first[1], first[2] or 'text', first[3]
+        place = re.sub(r'(/Answers|/Invariants)?[.]antt$', '', path).split('/')[-1]
+    elif first := UNANSWERED.match(said):
+        path, statement, message = first[1], first[4], first[3]
+        place = function(crate, path, int(first[2]))
+    else:
+        return False, f'{crate}/{edit}: no error that names a fact: {said[:160]}'
+    what = kind(crate, path, statement)
     named, when = claim(crate, edit)
-    fits = place == named and (when or what in ('case', 'contract')) and not UNFIT.search(message)
-    return fits, f'{crate}/{edit}: {what} {place}' + ('' if fits else f' (named: {named}): {message[:160]}')
+    fits = f'{place}: {statement}' == named and (when or what in ('case', 'contract')) and not UNFIT.search(message)
+    told = f'{crate}/{edit}: {what} {place}: {statement}'
+    return fits, told + ('' if fits else f' (named: {named}): {message[:160]}')
 
 
 def main():
+    with open(sys.argv[1], encoding='utf8') as f:
+        tried = {f'{crate}/{edit}': said for crate, edit, said in TRIED.findall(f.read())}
     crates = sorted(os.listdir(f'{ROOT}/crates'))
-    words = sys.argv[1:] or [crate for crate in crates if os.path.isdir(f'{ROOT}/crates/{crate}/must-fail')]
+    words = sys.argv[2:] or [crate for crate in crates if os.path.isdir(f'{ROOT}/crates/{crate}/must-fail')]
     told = []
     for word in words:
         crate, _, one = word.partition('/')
         files = [one] if one else sorted(os.listdir(f'{ROOT}/crates/{crate}/must-fail'))
         for edit in [file.removesuffix('.edit') for file in files]:
-            log = f'{ROOT}/target/must-fail/{crate}/{edit}/.log'
-            if os.path.exists(log):
-                with open(log, encoding='utf8') as f:
-                    told.append(refusal(crate, edit, f.read()))
-            else:
-                told.append((False, f'{crate}/{edit}: not tried'))
+            said = tried.get(f'{crate}/{edit}')
+            told.append(refusal(crate, edit, said) if said else (False, f'{crate}/{edit}: not tried, or not refused'))
             print(' ' if told[-1][0] else '!', told[-1][1])
     marked = sum(not fits for fits, _ in told)
     print(f'{len(told)} edits, {marked} marked')

@@ -28,7 +28,10 @@ OTHER = {
     "nextPlace": "place_after",
     "partLength": "part_length_of",
     "passedOver": "is_passed_over",
+    "result-size": "size_of_result",
     "topBelow": "below_top",
+    "validate-word": "validate_word_is",
+    "work-size": "size_of_work",
 }
 # Spellings that stay: a word that a file of code has for itself.
 STAY = set()
@@ -53,7 +56,8 @@ def code(text):
 
 def is_lemma_file(path):
     parts = path.split(os.sep)
-    return parts[-1] not in OWN_PROOF and ("specs" in parts or "proofs" in parts)
+    # a lemma file may be called as a function's own proof is, but stands right in proofs/
+    return (parts[-1] not in OWN_PROOF or parts[-2] in ("specs", "proofs")) and ("specs" in parts or "proofs" in parts)
 
 
 def names():

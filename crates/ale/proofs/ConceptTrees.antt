@@ -22,7 +22,7 @@ use Rattle.table.specs.NameSet as Set
 use Rattle.ale.specs.Concept.{Concept, InExtension, Over, bottom_concept, concept_of, concepts_of, conjunction, conjunction_of, existential, label_concept, names_of, negation, primitive, restriction_concept, top_concept, value}
 use Rattle.ale.specs.Forest.{append}
 use Rattle.ale.specs.Merged.{label_union}
-use Rattle.ale.specs.PictureSignature.{NameSet, complement_has, name_set, picture_signature}
+use Rattle.ale.specs.PictureSignature.{complement_has, name_set, picture_signature}
 use Rattle.ale.specs.Rows.{member}
 use Rattle.ale.specs.Signature.{Signature}
 use Rattle.ale.specs.Structure.{Fits, Restriction, Structure}

@@ -22,7 +22,6 @@ use lib.ListN.{length}
 use mathlib.Core.Bool.{◌&&◌, not}
 use mathlib.Core.List.{List, [], ◌∷◌}
 use mathlib.Core.Logic.{◌↔◌, inr, ⊎_elim}
-use mathlib.Core.Path.{◌≡◌}
 use native.Mathlib.Omega.{arith}
 use Rattle.table.specs.Bounds.{max_depth, max_rows}
 use Rattle.table.specs.Layout.{roles}

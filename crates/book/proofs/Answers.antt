@@ -1,5 +1,5 @@
 -- Laws of the sixth call at any limits: when its questions are answered yes.
---   ask-decides    with room and of an acceptable book, exactly; else 1, or the first no
+--   ask_decides    with room and of an acceptable book, exactly; else 1, or the first no
 use Prim.Native.Nat.{◌<◌, ◌≤◌, ℕ}
 use lib.Dec.{leb}
 use mathlib.Core.List.{List}
@@ -15,10 +15,10 @@ use Rattle.book.specs.Refusals.{FirstNo}
 use Rattle.book.proofs.Orders.{book_decides}
 
 module _ (limits : Limits) (case book : List ℕ) (room : ℕ) where
-  pub ask-decides : Decides (most_specific_asked limits case book room) ((work_size limits ≤ room)
+  pub ask_decides : Decides (most_specific_asked limits case book room) ((work_size limits ≤ room)
       × AcceptableBook limits case book)
       (λ r. ((room < work_size limits) × (r ≡ short_buffer)) ⊎ ((work_size limits ≤ room) × FirstNo limits case book r))
-  ask-decides =
+  ask_decides =
       and_decides (room_asked (leb (work_size limits) room)) (book_asked limits case book)
       (test_decides (work_size limits) room short_buffer)
       (λ long. book_decides limits case book)

@@ -16,7 +16,7 @@ use Rattle.picture.specs.declared.answer.Input.TheVariants.{Card, First}
 use Rattle.picture.specs.declared.answer.Refusal.{Refusal}
 use Rattle.table.specs.declared.layout.Limits.{Limits}
 use Rattle.meaning.specs.NormalTable.{merged_count}
-use Rattle.normal.proofs.Answers.{OfPicture, TooMany, merged-decides, merged-refuses}
+use Rattle.normal.proofs.Answers.{OfPicture, TooMany, merged_decides, merged_refuses}
 use Rattle.normal.specs.Call.{merged_asked}
 use Rattle.book.specs.Call.{AcceptableBook, book_asked, card_merged, card_read, form_asked, no_book}
 use Rattle.book.specs.Form.{book_form, card, card_count}
@@ -113,9 +113,9 @@ module _ (limits : Limits) (case book : List ℕ) where
       (λ f. and_decides cards (and_then merged rest)
       (from_decides (card_read limits book) Reads (λ k. Unreadable limits (Card k) (card book k)) (card_count book) 0
       (λ k a b. read_decides limits (Card k) (card book k)))
-      (λ all. and_decides merged rest (merged-decides limits First case)
+      (λ all. and_decides merged rest (merged_decides limits First case)
       (λ few. from_decides (card_merged limits book) Few (λ k. TooMany limits (Card k) (card book k)) (card_count book) 0
-      (λ k a b. merged-decides limits (Card k) (card book k))))))) (
+      (λ k a b. merged_decides limits (Card k) (card book k))))))) (
         λ (c, (f, (all, (few, each)))). record {
           case_readable = c;
           form = f;
@@ -147,6 +147,6 @@ module _ (limits : Limits) (case book : List ℕ) where
       (and_refuses P cards (and_then merged rest)
       (from_refuses P (card_read limits book) (card_count book) 0
       (λ k a b. read_refuses P limits (Card k) (card book k) (of-card k (omega arith)).reads))
-      (and_refuses P merged rest (merged-refuses limits First case P of-case.merges)
+      (and_refuses P merged rest (merged_refuses limits First case P of-case.merges)
       (from_refuses P (card_merged limits book) (card_count book) 0
-      (λ k a b. merged-refuses limits (Card k) (card book k) P (of-card k (omega arith)).merges)))))
+      (λ k a b. merged_refuses limits (Card k) (card book k) P (of-card k (omega arith)).merges)))))

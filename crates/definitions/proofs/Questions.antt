@@ -24,7 +24,7 @@ use Rattle.picture.specs.Asked.{and_then, asked_from}
 use Rattle.picture.specs.Readable.{FailsAt, Readable}
 use Rattle.picture.specs.Refusal.{refusal, refusal_at}
 use Rattle.picture.specs.declared.answer.Asked.{Asked}
-use Rattle.picture.specs.declared.answer.Asked.TheVariants.{No, Yes}
+use Rattle.picture.specs.declared.answer.Asked.TheVariants.{Yes}
 use Rattle.picture.specs.declared.answer.Input.TheVariants.{Definition, Definitions}
 use Rattle.picture.specs.declared.answer.Refusal.{Refusal}
 use Rattle.fields.specs.Form.{listed}

@@ -11,7 +11,7 @@ use mathlib.Core.Path.{◌∙◌, ◌≡◌, ap, subst, sym}
 use native.Mathlib.Omega.{arith}
 use Rattle.table.specs.declared.layout.Limits.{Limits}
 use Rattle.picture.proofs.Orders.{and_yes, then_same}
-use Rattle.picture.specs.Asked.{and_then, asked}
+use Rattle.picture.specs.Asked.{and_then}
 use Rattle.picture.specs.Readable.{Readable}
 use Rattle.picture.specs.Refusal.{refusal}
 use Rattle.picture.specs.declared.answer.Asked.{Asked}

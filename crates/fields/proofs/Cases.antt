@@ -3,7 +3,6 @@
 --   unformed the tag, and the file
 use Prim.Native.Nat.{ℕ, zero, suc, ◌+◌}
 use lib.ListN.{length, replicate}
-use mathlib.Core.Bool.{Bool, false, true}
 use mathlib.Core.List.{List, [], ◌++◌, ◌∷◌}
 use mathlib.Core.Path.{◌≡◌, refl}
 use Rattle.table.specs.Fields.{ends_at}

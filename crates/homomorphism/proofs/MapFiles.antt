@@ -13,7 +13,6 @@ use mathlib.Core.Path.{◌∙◌, ◌≡◌, ap, refl, sym}
 use native.Mathlib.Nat.{add_assoc, add-zero, div-one, eq-or-lt_of_le}
 use native.Mathlib.Numerals.{add-one}
 use native.Mathlib.Omega.{arith}
-use Rattle.ale.specs.RowMap.{image}
 use Rattle.table.proofs.Numbers.{be_append_left, be_append_right, be_be_bytes, be_inside, be_same, length_be_bytes}
 use Rattle.table.proofs.Puts.{put_in, put_nil, put_put, put_three}
 use Rattle.table.proofs.Rows.{length_end_bytes, parts_ends}

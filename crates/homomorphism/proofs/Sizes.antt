@@ -1,7 +1,7 @@
 -- The tag, and a map file as bytes, are those of the paper.
 use Prim.Native.Nat.{ℕ}
 use lib.ListN.{get_or}
-use mathlib.Core.List.{List, [], ◌∷◌}
+use mathlib.Core.List.{[], ◌∷◌}
 use mathlib.Core.Path.{◌≡◌, refl}
 use Rattle.table.specs.Fields.{end_bytes}
 use Rattle.table.specs.Number.{be_bytes}

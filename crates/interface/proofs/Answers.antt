@@ -1,10 +1,10 @@
 -- The six calls, each by its questions, its word and its buffers (Shapes), so that it answers what is laid down for it
 -- (specs/Answers; proofs/Conditions).
 --   OfGiven, GivenOn                     the questions of a given picture by number; one whose are on the list
---   before-early, many-early             so are those before the first 14, with those of the definitions book; and 14
---   length-tables                        both halves are as long as the work space
---   pair-early                           1 to 14 and 25 to 30 of a call on two pictures are on its list
---   validate-shape .. cards-shape        the six calls: their questions, words and buffers
+--   before_early, many_early             so are those before the first 14, with those of the definitions book; and 14
+--   length_tables                        both halves are as long as the work space
+--   pair_early                           1 to 14 and 25 to 30 of a call on two pictures are on its list
+--   validate_shape .. cards_shape        the six calls: their questions, words and buffers
 use Prim.Native.Nat.{◌<◌, ◌≤◌, ℕ}
 use lib.Dec.{leb}
 use lib.ListN.{length, length-append}
@@ -37,7 +37,7 @@ use Rattle.picture.specs.declared.read.Reading.TheVariants as reading
 use Rattle.meaning.proofs.Normals.{normal_size}
 use Rattle.meaning.specs.Meaning.{picture_table}
 use Rattle.meaning.specs.NormalTable.{normal_file}
-use Rattle.normal.proofs.Answers.{merged-refuses}
+use Rattle.normal.proofs.Answers.{merged_refuses}
 use Rattle.normal.proofs.Halves.{length_half}
 use Rattle.normal.specs.Call.{merged_asked}
 use Rattle.normal.specs.declared.normalize.Normalized.TheVariants as normalized
@@ -69,7 +69,7 @@ use Rattle.definitions.specs.Asked.{Picture}
 use Rattle.definitions.specs.Form.{definition_count, definition_file, definition_tag}
 use Rattle.definitions.specs.Refusals.{AllOf}
 use Rattle.definitions.specs.Unfolded.{unfolded_file}
-use Rattle.under.proofs.Answers.{check-lent, lcs-yes, one-yes, pair-yes, verify_yes}
+use Rattle.under.proofs.Answers.{check_lent, lcs_yes, one_yes, pair_yes, verify_yes}
 use Rattle.under.proofs.Asked.{lcs_asked_is, lcs_result_asked, lcs_work_asked, most_specific_asked_is}
 use Rattle.under.proofs.Asked.{most_specific_work_asked, normalize_asked, normalize_result_asked, subsumes_asked_is}
 use Rattle.under.proofs.Asked.{subsumes_result_asked, subsumes_work_asked, verify_asked_is, verify_work_asked}
@@ -81,9 +81,9 @@ use Rattle.under.specs.Asked.{card_few, lcs_asked_under, most_specific_asked_und
 use Rattle.under.specs.Asked.{subsumes_asked_under, verify_asked_under}
 use Rattle.under.specs.Book.{book_before, case_and_cards, unfolded_book}
 use Rattle.under.specs.Given.{AcceptableUnder, lent_under, one, pair}
-use Rattle.interface.specs.Answers.{Call, Line, Listed, Names, Whom, buffers, cards, lcsCall, mostSpecificCall}
-use Rattle.interface.specs.Answers.{normalizeCall, of_definitions, ofGiven, questions, subsumesCall, tables, the}
-use Rattle.interface.specs.Answers.{validateCall, verifyCall}
+use Rattle.interface.specs.Answers.{Call, Line, Listed, Names, Whom, buffers, cards, lcs_call, most_specific_call}
+use Rattle.interface.specs.Answers.{normalize_call, of_definitions, of_given, questions, subsumes_call, tables, the}
+use Rattle.interface.specs.Answers.{validate_call, verify_call}
 use Rattle.interface.specs.Calls.{LcsGives, MostSpecificGives, NormalizeGives, SubsumesGives, VerifyGives}
 use Rattle.interface.specs.Calls.{lcs_word, most_specific_word, normalize_word, subsumes_word, validate_word}
 use Rattle.interface.specs.Calls.{verify_word}
@@ -108,7 +108,7 @@ of_none c number input listed apart small few = record {
   fits = record { number = small; card = few; row = omega arith; byte = omega arith };
   placed = record {
     read_at = λ least most. absurd (⊎_elim (λ l. omega arith) (λ l. omega arith) apart);
-    else-zero = λ other. (refl, refl);
+    else_zero = λ other. (refl, refl);
   };
 }
 
@@ -117,9 +117,9 @@ short c listed =
     early c short_buffer (of_none c 1 Buffer listed (inl (omega arith)) (omega arith) (omega arith)) (inl (omega arith))
 
 -- 24 to 30
-after-23 : (c : Call) (number : ℕ) (input : Input) → Listed c.refusals number input → card_of input < part_range →
+after_23 : (c : Call) (number : ℕ) (input : Input) → Listed c.refusals number input → card_of input < part_range →
     23 < number → number < part_range → Early c (refusal number input)
-after-23 c number input listed few least most =
+after_23 c number input listed few least most =
     early c (refusal number input) (of_none c number input listed (inr (omega arith)) most few) (inr least)
 
 -- 2 to 13, of a field
@@ -141,7 +141,7 @@ of_field c bounded input few listed q n fails =
           begins = refl;
           inside = failed_inside c.limits s q n fails;
         };
-        else-zero = ⊎_elim (λ l. absurd (omega (arith, number.least))) (λ l. absurd (omega (arith, number.most)));
+        else_zero = ⊎_elim (λ l. absurd (omega (arith, number.least))) (λ l. absurd (omega (arith, number.most)));
       };
     })
     (inl (omega (arith, number.most)))
@@ -151,15 +151,15 @@ of_field c bounded input few listed q n fails =
 abbrev OfGiven : ℕ → Type 0
 OfGiven q = ((2 ≤ q) × (q ≤ 14)) ⊎ ((q ≡ 27) ⊎ ((29 ≤ q) × (q ≤ 30)))
 
-given-listed : (whom : Whom) (more : List Line) (input : Input) → Names whom input → (q : ℕ) → OfGiven q →
-    Listed (ofGiven whom more) q input
-given-listed whom more input names q =
+given_listed : (whom : Whom) (more : List Line) (input : Input) → Names whom input → (q : ℕ) → OfGiven q →
+    Listed (of_given whom more) q input
+given_listed whom more input names q =
     ⊎_elim (λ (a, b). inl (a, b, names))
     (⊎_elim (λ e. inr (inl (omega arith, omega arith, names))) (λ (a, b). inr (inr (inl (a, b, names)))))
 
-past-given : (whom : Whom) (more : List Line) (input : Input) (q : ℕ) → Listed more q input →
-    Listed (ofGiven whom more) q input
-past-given whom more input q h = inr (inr (inr h))
+past_given : (whom : Whom) (more : List Line) (input : Input) (q : ℕ) → Listed more q input →
+    Listed (of_given whom more) q input
+past_given whom more input q h = inr (inr (inr h))
 
 all_map : (P Q : Picture → Type 0) → ((p : Picture) → P p → Q p) → (ps : List Picture) → AllOf P ps → AllOf Q ps
 all_map P Q f [] h = tt
@@ -182,21 +182,21 @@ module _ (c : Call) (bounded : Bounded c.limits) (tbox : List ℕ) (more : List 
     pub small : card_of p.input < part_range
     pub listed : (q : ℕ) → OfGiven q → Listed more q p.input
 
-  given-read : (p : Picture) → GivenOn p → (q n : ℕ) → FailsAt c.limits p.file q n →
+  given_read : (p : Picture) → GivenOn p → (q n : ℕ) → FailsAt c.limits p.file q n →
       Early c (refusal_at q p.input n)
-  given-read p g q n fails =
+  given_read p g q n fails =
       of_field c bounded p.input g.small
       (λ q least most. onward q p.input (g.listed q (inl (least, omega arith)))) q n
       (subst (λ s. FailsAt c.limits s q n) (sym g.file) fails)
 
   -- 27, 29 and 30
-  given-asked : (number : ℕ) → OfGiven number → 23 < number → number < part_range → (p : Picture) → GivenOn p →
+  given_asked : (number : ℕ) → OfGiven number → 23 < number → number < part_range → (p : Picture) → GivenOn p →
       Early c (refusal number p.input)
-  given-asked number of least most p g =
-      after-23 c number p.input (onward number p.input (g.listed number of)) g.small least most
+  given_asked number of least most p g =
+      after_23 c number p.input (onward number p.input (g.listed number of)) g.small least most
 
-  many-early : (p : Picture) → GivenOn p → Early c (too_many p.input)
-  many-early p g =
+  many_early : (p : Picture) → GivenOn p → Early c (too_many p.input)
+  many_early p g =
       early c (too_many p.input)
       (of_none c 14 p.input (onward 14 p.input (g.listed 14 (inl (omega arith, omega arith))))
       (inr (omega arith)) (omega arith) g.small) (inl (omega arith))
@@ -206,80 +206,80 @@ module _ (c : Call) (bounded : Bounded c.limits) (tbox : List ℕ) (more : List 
     few : card_of (Definition k) < part_range
     few = omega (arith, l, count_most definition_tag tbox)
 
-    definition-read : (q n : ℕ) → FailsAt c.limits (definition_file tbox k) q n →
+    definition_read : (q n : ℕ) → FailsAt c.limits (definition_file tbox k) q n →
         Early c (refusal_at q (Definition k) n)
-    definition-read q n fails =
+    definition_read q n fails =
         of_field c bounded (Definition k) few
         (λ q least most. on q (Definition k) (inr (inr (inr (inl (least, most, (k, l, refl)))))))
         q n (subst (λ s. FailsAt c.limits s q n) (sym (files k)) fails)
 
-    definition-27 : Early c (refusal 27 (Definition k))
-    definition-27 =
-        after-23 c 27 (Definition k)
+    definition_27 : Early c (refusal 27 (Definition k))
+    definition_27 =
+        after_23 c 27 (Definition k)
         (on 27 (Definition k) (inr (inr (inr (inr (inl (omega arith, omega arith, (k, l, refl))))))))
         few (omega arith) (omega arith)
 
-    definition-unfolded : (q : ℕ) → 29 ≤ q → q ≤ 30 → Early c (refusal q (Definition k))
-    definition-unfolded q least most =
-        after-23 c q (Definition k)
+    definition_unfolded : (q : ℕ) → 29 ≤ q → q ≤ 30 → Early c (refusal q (Definition k))
+    definition_unfolded q least most =
+        after_23 c q (Definition k)
         (on q (Definition k) (inr (inr (inr (inr (inr (inl (least, most, (k, l, refl)))))))))
         few (omega arith) (omega arith)
 
   -- 25, 26 and 28
-  book-early : (q : ℕ) → Listed (questions 1 1 (the Buffer) ∷ of_definitions tbox more) q Definitions →
+  book_early : (q : ℕ) → Listed (questions 1 1 (the Buffer) ∷ of_definitions tbox more) q Definitions →
       23 < q → q < part_range → Early c (refusal q Definitions)
-  book-early q listed = after-23 c q Definitions (on q Definitions listed) (omega arith)
+  book_early q listed = after_23 c q Definitions (on q Definitions listed) (omega arith)
 
   module _ (given : List Picture) (all : AllOf GivenOn given) where
-    given-all : (number : ℕ) → OfGiven number → 23 < number → number < part_range →
+    given_all : (number : ℕ) → OfGiven number → 23 < number → number < part_range →
         AllOf (λ p. Early c (refusal number p.input)) given
-    given-all number of least most =
-        all_map GivenOn (λ p. Early c (refusal number p.input)) (given-asked number of least most) given all
+    given_all number of least most =
+        all_map GivenOn (λ p. Early c (refusal number p.input)) (given_asked number of least most) given all
 
-    definitions-early : OfDefinitions c.limits tbox given (Early c)
-    definitions-early = record {
-      form = book-early 25 (inr (inl (omega arith, omega arith, refl))) (omega arith) (omega arith);
-      reads = definition-read;
-      once = book-early 26 (inr (inl (omega arith, omega arith, refl))) (omega arith) (omega arith);
-      excluding = (given-all 27 (inr (inl refl)) (omega arith) (omega arith), definition-27);
-      ring = book-early 28 (inr (inr (inl (omega arith, omega arith, refl)))) (omega arith) (omega arith);
+    definitions_early : OfDefinitions c.limits tbox given (Early c)
+    definitions_early = record {
+      form = book_early 25 (inr (inl (omega arith, omega arith, refl))) (omega arith) (omega arith);
+      reads = definition_read;
+      once = book_early 26 (inr (inl (omega arith, omega arith, refl))) (omega arith) (omega arith);
+      excluding = (given_all 27 (inr (inl refl)) (omega arith) (omega arith), definition_27);
+      ring = book_early 28 (inr (inr (inl (omega arith, omega arith, refl)))) (omega arith) (omega arith);
       few = (
-        given-all 29 (inr (inr (omega arith, omega arith))) (omega arith) (omega arith),
-        λ k l. definition-unfolded k l 29 (omega arith) (omega arith),
+        given_all 29 (inr (inr (omega arith, omega arith))) (omega arith) (omega arith),
+        λ k l. definition_unfolded k l 29 (omega arith) (omega arith),
       );
       shallow = (
-        given-all 30 (inr (inr (omega arith, omega arith))) (omega arith) (omega arith),
-        λ k l. definition-unfolded k l 30 (omega arith) (omega arith),
+        given_all 30 (inr (inr (omega arith, omega arith))) (omega arith) (omega arith),
+        λ k l. definition_unfolded k l 30 (omega arith) (omega arith),
       );
     }
 
-    before-early : (enough : Bool) → EveryRefusal (Early c) (lent_under c.limits enough tbox given)
-    before-early =
+    before_early : (enough : Bool) → EveryRefusal (Early c) (lent_under c.limits enough tbox given)
+    before_early =
         lent_refuses c.limits tbox given (Early c)
-        (all_map GivenOn _ given-read given all) definitions-early
+        (all_map GivenOn _ given_read given all) definitions_early
         (short c (on 1 Buffer (inl (omega arith, omega arith, refl))))
 
 -- a buffer that is not lent
-not-lent : (a : Asked) → [] ≡ kept a (put [] 0 []) []
+not_lent : (a : Asked) → [] ≡ kept a (put [] 0 []) []
 unfolding put
-not-lent Yes = refl
-not-lent (No r) = refl
+not_lent Yes = refl
+not_lent (No r) = refl
 
 -- ---- one picture
 
-validate-word : (limits : Limits) (s : List ℕ) → validate_word limits s ≡ on_asked refusal_word (read_asked limits First s)
+validate_word_is : (limits : Limits) (s : List ℕ) → validate_word limits s ≡ on_asked refusal_word (read_asked limits First s)
     (value_word outcome_yes (row_count s))
 unfolding validate_word answer_of read_asked
-validate-word limits s = by (reading_of limits s) refl
+validate_word_is limits s = by (reading_of limits s) refl
   where
     by : (t : Reading) → reading_of limits s ≡ t →
         read_word (answered First t) ≡ on_asked refusal_word (reading_asked First t) (value_word outcome_yes (row_count s))
     by (reading.Rows n) e = ap (value_word outcome_yes) (sym (readable_count limits s (record { rows = n; reads = e })))
     by (reading.Failed q n) e = refl
 
-pub validate-shape : (limits : Limits) → Bounded limits → (picture : List ℕ) →
-    Shape (validateCall limits picture) (buffers [] []) (buffers [] []) (validate_word limits picture) outcome_yes
-validate-shape limits bounded picture =
+pub validate_shape : (limits : Limits) → Bounded limits → (picture : List ℕ) →
+    Shape (validate_call limits picture) (buffers [] []) (buffers [] []) (validate_word limits picture) outcome_yes
+validate_shape limits bounded picture =
     let asks = read_asked limits First picture in
     record {
       before = asks;
@@ -287,8 +287,8 @@ validate-shape limits bounded picture =
       all = asks;
       asked_all = refl;
       all_is = then_yes asks;
-      early = read_refuses (Early (validateCall limits picture)) limits First picture
-          (of_field (validateCall limits picture) bounded First (omega arith) (λ q a b. inl (a, b, refl)));
+      early = read_refuses (Early (validate_call limits picture)) limits First picture
+          (of_field (validate_call limits picture) bounded First (omega arith) (λ q a b. inl (a, b, refl)));
       late = tt;
       passes = (
         λ e. (omega arith, omega arith, (read_decides limits First picture).yes.0 e),
@@ -297,30 +297,30 @@ validate-shape limits bounded picture =
       outcome_is = λ p. refl;
       in_range = λ (a, b, readable). readable_most limits picture readable;
       small = λ (a, b, readable). omega (arith, readable_most limits picture readable, bounded.0);
-      word_by = validate-word limits picture;
+      word_by = validate_word_is limits picture;
       work_fits = λ e. omega arith;
-      work_by = not-lent asks;
+      work_by = not_lent asks;
       result_fits = λ p. omega arith;
-      result_by = not-lent asks;
+      result_by = not_lent asks;
     }
 
 -- the same questions, told otherwise
-yes-same : (a b : Asked) (Y : Type 0) → a ≡ b → (a ≡ Yes) ↔ Y → (b ≡ Yes) ↔ Y
-yes-same a b Y e = subst (λ (q : Asked). (q ≡ Yes) ↔ Y) e
+yes_same : (a b : Asked) (Y : Type 0) → a ≡ b → (a ≡ Yes) ↔ Y → (b ≡ Yes) ↔ Y
+yes_same a b Y e = subst (λ (q : Asked). (q ≡ Yes) ↔ Y) e
 
-pub normalize-shape : (limits : Limits) → Bounded limits → (tbox picture result : List ℕ) (word : ℕ) (left : List ℕ) →
+pub normalize_shape : (limits : Limits) → Bounded limits → (tbox picture result : List ℕ) (word : ℕ) (left : List ℕ) →
     NormalizeGives limits tbox picture result word left →
-    Shape (normalizeCall limits tbox picture) (buffers [] result) (buffers [] left) word outcome_yes
+    Shape (normalize_call limits tbox picture) (buffers [] result) (buffers [] left) word outcome_yes
 unfolding normalize_word
-normalize-shape limits bounded tbox picture result word left gives =
+normalize_shape limits bounded tbox picture result word left gives =
     let s = unfolded_file limits tbox picture in
     let asks = one_asked_under limits tbox picture (length result) in
-    let decides = yes-same _ asks _ (one_order limits bounded tbox picture (length result))
-    (one-yes limits bounded tbox picture (length result)) in
-    let c : Call = normalizeCall limits tbox picture in
+    let decides = yes_same _ asks _ (one_order limits bounded tbox picture (length result))
+    (one_yes limits bounded tbox picture (length result)) in
+    let c : Call = normalize_call limits tbox picture in
     let first : Picture = record { input = First; file = picture } in
-    let given : GivenOn c bounded tbox (ofGiven (the First) []) refl (λ k. refl) first =
-    record { file = refl; small = omega arith; listed = given-listed (the First) [] First refl } in
+    let given : GivenOn c bounded tbox (of_given (the First) []) refl (λ k. refl) first =
+    record { file = refl; small = omega arith; listed = given_listed (the First) [] First refl } in
     record {
       before = asks;
       after = Yes;
@@ -329,10 +329,10 @@ normalize-shape limits bounded tbox picture result word left gives =
       all_is = then_yes asks;
       early = and_refuses (Early c) (lent_under limits (leb (picture_size limits) (length result)) tbox (one picture))
           (merged_asked limits First s)
-          (before-early c bounded tbox (ofGiven (the First) []) refl (λ k. refl) (one picture) (given, tt)
+          (before_early c bounded tbox (of_given (the First) []) refl (λ k. refl) (one picture) (given, tt)
           (leb (picture_size limits) (length result)))
-          (merged-refuses limits First s (Early c)
-          (many-early c bounded tbox (ofGiven (the First) []) refl (λ k. refl) first given));
+          (merged_refuses limits First s (Early c)
+          (many_early c bounded tbox (of_given (the First) []) refl (λ k. refl) first given));
       late = tt;
       passes = (
         λ e. let (long, ok, few) = decides.0 e in (
@@ -353,69 +353,69 @@ normalize-shape limits bounded tbox picture result word left gives =
           ∙ word_on normalized_word normalized.Refused (λ r. refl) asks
           (normalized.Length (length (normal_file limits s))) _ refl;
       work_fits = λ e. omega arith;
-      work_by = not-lent asks;
+      work_by = not_lent asks;
       result_fits = λ (none, long, ok). omega (arith, normal_size limits s ok.few);
       result_by = gives.buffer_is ∙ normalize_result_asked limits bounded tbox picture result;
     }
 
 -- ---- two pictures
 
-pub length-tables : (limits : Limits) (first second : List ℕ) → Acceptable limits first second →
+pub length_tables : (limits : Limits) (first second : List ℕ) → Acceptable limits first second →
     length (tables limits first second) ≡ work_size limits
-length-tables limits first second pair =
+length_tables limits first second pair =
     let lower = length_half limits (normal_file limits first) (normal_size limits first pair.first_few) in
     let upper = length_half limits (normal_file limits second) (normal_size limits second pair.second_few) in
     simp (length-append, lower, upper)
 
 -- their lines are the first of the list
-pair-early : (c : Call) (tbox : List ℕ) (more : List Line) →
-    c.refusals ≡ questions 1 1 (the Buffer) ∷ of_definitions tbox (ofGiven (the First) (ofGiven (the Second) more)) →
+pair_early : (c : Call) (tbox : List ℕ) (more : List Line) →
+    c.refusals ≡ questions 1 1 (the Buffer) ∷ of_definitions tbox (of_given (the First) (of_given (the Second) more)) →
     ((k : ℕ) → c.picture (Definition k) ≡ definition_file tbox k) →
     Bounded c.limits → (enough : Bool) →
     EveryRefusal (Early c) (pair_asked_under c.limits tbox enough (c.picture First) (c.picture Second))
-pair-early c tbox more list files bounded enough =
+pair_early c tbox more list files bounded enough =
     let p : Picture = record { input = First; file = c.picture First } in
     let q : Picture = record { input = Second; file = c.picture Second } in
-    let lines = ofGiven (the First) (ofGiven (the Second) more) in
+    let lines = of_given (the First) (of_given (the Second) more) in
     let first : GivenOn c bounded tbox lines list files p = record {
       file = refl;
       small = omega arith;
-      listed = given-listed (the First) (ofGiven (the Second) more) First refl;
+      listed = given_listed (the First) (of_given (the Second) more) First refl;
     } in
     let second : GivenOn c bounded tbox lines list files q = record {
       file = refl;
       small = omega arith;
-      listed = λ q of. past-given (the First) (ofGiven (the Second) more) Second q
-          (given-listed (the Second) more Second refl q of);
+      listed = λ q of. past_given (the First) (of_given (the Second) more) Second q
+          (given_listed (the Second) more Second refl q of);
     } in
     let limits = c.limits in
     let u = unfolded_file limits tbox (c.picture First) in
     let v = unfolded_file limits tbox (c.picture Second) in
     and_refuses (Early c) (lent_under limits enough tbox (pair (c.picture First) (c.picture Second)))
     (and_then (merged_asked limits First u) (merged_asked limits Second v))
-    (before-early c bounded tbox lines list files (pair (c.picture First) (c.picture Second)) (first, (second, tt))
+    (before_early c bounded tbox lines list files (pair (c.picture First) (c.picture Second)) (first, (second, tt))
     enough)
     (and_refuses (Early c) (merged_asked limits First u) (merged_asked limits Second v)
-    (merged-refuses limits First u (Early c) (many-early c bounded tbox lines list files p first))
-    (merged-refuses limits Second v (Early c) (many-early c bounded tbox lines list files q second)))
+    (merged_refuses limits First u (Early c) (many_early c bounded tbox lines list files p first))
+    (merged_refuses limits Second v (Early c) (many_early c bounded tbox lines list files q second)))
 
 -- what comes after them
-after-pair : (tbox : List ℕ) (more : List Line) (q : ℕ) (input : Input) → Listed more q input →
-    Listed (questions 1 1 (the Buffer) ∷ of_definitions tbox (ofGiven (the First) (ofGiven (the Second) more))) q input
-after-pair tbox more q input h =
-    inr (inr (inr (inr (inr (inr (past-given (the First) (ofGiven (the Second) more) input q
-    (past-given (the Second) more input q h)))))))
+after_pair : (tbox : List ℕ) (more : List Line) (q : ℕ) (input : Input) → Listed more q input →
+    Listed (questions 1 1 (the Buffer) ∷ of_definitions tbox (of_given (the First) (of_given (the Second) more))) q input
+after_pair tbox more q input h =
+    inr (inr (inr (inr (inr (inr (past_given (the First) (of_given (the Second) more) input q
+    (past_given (the Second) more input q h)))))))
 
 -- yes or no, and so the word
-verdict-by : (v : Bool) (n : ℕ) → verdict_word (pick v (verdict.Yes n) (verdict.No n))
+verdict_by : (v : Bool) (n : ℕ) → verdict_word (pick v (verdict.Yes n) (verdict.No n))
     ≡ value_word (pick v outcome_yes outcome_no) n
-verdict-by true n = refl
-verdict-by false n = refl
+verdict_by true n = refl
+verdict_by false n = refl
 
-kind-by : (b : Bool) → verified_word (pick b verified.MapTaken verified.RefutationTaken)
+kind_by : (b : Bool) → verified_word (pick b verified.MapTaken verified.RefutationTaken)
     ≡ value_word (pick b outcome_yes outcome_no) 0
-kind-by true = refl
-kind-by false = refl
+kind_by true = refl
+kind_by false = refl
 
 module _ (limits : Limits) (bounded : Bounded limits) (tbox first second work result : List ℕ) (word : ℕ)
     (workLeft left : List ℕ) where
@@ -429,19 +429,19 @@ module _ (limits : Limits) (bounded : Bounded limits) (tbox first second work re
       ≡ Yes)
       ↔ ((work_size limits ≤ length work) × (size ≤ length result) × AcceptableUnder limits tbox first second)
   pair_decides size =
-      yes-same _ _ _ (pair_order limits bounded tbox first second (roomy limits size (length work) (length result)))
-      (pair-yes limits bounded tbox first second size (length work) (length result))
+      yes_same _ _ _ (pair_order limits bounded tbox first second (roomy limits size (length work) (length result)))
+      (pair_yes limits bounded tbox first second size (length work) (length result))
 
-  tables-fit : work_size limits ≤ length work → AcceptableUnder limits tbox first second →
+  tables_fit : work_size limits ≤ length work → AcceptableUnder limits tbox first second →
       length (tables limits p q) ≤ length work
-  tables-fit enough ok =
-      omega (arith, enough, length-tables limits p q (acceptable_unfolded limits tbox first second bounded ok))
+  tables_fit enough ok =
+      omega (arith, enough, length_tables limits p q (acceptable_unfolded limits tbox first second bounded ok))
 
-  pub subsumes-shape : SubsumesGives limits tbox first second work result word workLeft left →
-      Shape (subsumesCall limits tbox first second) (buffers work result) (buffers workLeft left) word
+  pub subsumes_shape : SubsumesGives limits tbox first second work result word workLeft left →
+      Shape (subsumes_call limits tbox first second) (buffers work result) (buffers workLeft left) word
       (pick (verdict_of limits p q) outcome_yes outcome_no)
   unfolding subsumes_word verdict_answer halves_put
-  subsumes-shape gives =
+  subsumes_shape gives =
       let asks = subsumes_asked_under limits tbox first second (length work) (length result) in
       let decides = pair_decides (evidence_size limits) in
       let size : AcceptableUnder limits tbox first second → length (evidence_of limits p q) ≤ evidence_size limits =
@@ -452,7 +452,7 @@ module _ (limits : Limits) (bounded : Bounded limits) (tbox first second work re
         all = asks;
         asked_all = refl;
         all_is = then_yes asks;
-        early = pair-early (subsumesCall limits tbox first second) tbox [] refl (λ k. refl) bounded
+        early = pair_early (subsumes_call limits tbox first second) tbox [] refl (λ k. refl) bounded
             (roomy limits (evidence_size limits) (length work) (length result));
         late = tt;
         passes = decides;
@@ -470,32 +470,32 @@ module _ (limits : Limits) (bounded : Bounded limits) (tbox first second work re
         word_by = gives.word_is
             ∙ ap verdict_word (subsumes_asked_is limits bounded tbox first second (length work) (length result))
             ∙ word_on verdict_word verdict.Refused (λ r. refl) asks (verdict_answer limits p q) _
-            (verdict-by (verdict_of limits p q) (length (evidence_of limits p q)));
-        work_fits = λ e. let (enough, long, ok) = decides.0 e in tables-fit enough ok;
+            (verdict_by (verdict_of limits p q) (length (evidence_of limits p q)));
+        work_fits = λ e. let (enough, long, ok) = decides.0 e in tables_fit enough ok;
         work_by = gives.work_is ∙ subsumes_work_asked limits bounded tbox first second work (length result);
         result_fits = λ (enough, long, ok). omega (arith, size ok);
         result_by = gives.result_is ∙ subsumes_result_asked limits bounded tbox first second (length work) result;
       }
 
-  pub lcs-shape : LcsGives limits tbox first second work result word workLeft left →
-      Shape (lcsCall limits tbox first second) (buffers work result) (buffers workLeft left) word outcome_yes
+  pub lcs_shape : LcsGives limits tbox first second work result word workLeft left →
+      Shape (lcs_call limits tbox first second) (buffers work result) (buffers workLeft left) word outcome_yes
   unfolding lcs_word halves_put
-  lcs-shape gives =
+  lcs_shape gives =
       let asks = lcs_asked_under limits tbox first second (length work) (length result) in
       let room = roomy limits (picture_size limits) (length work) (length result) in
-      let decides = yes-same _ asks _ (ap (λ (a : Asked). and_then a (large_asked limits p q))
+      let decides = yes_same _ asks _ (ap (λ (a : Asked). and_then a (large_asked limits p q))
       (pair_order limits bounded tbox first second room))
-      (lcs-yes limits bounded tbox first second (length work) (length result)) in
-      let c : Call = lcsCall limits tbox first second in
+      (lcs_yes limits bounded tbox first second (length work) (length result)) in
+      let c : Call = lcs_call limits tbox first second in
       record {
         before = pair_asked_under limits tbox room first second;
         after = large_asked limits p q;
         all = asks;
         asked_all = refl;
         all_is = refl;
-        early = pair-early c tbox (questions 15 15 (the Second) ∷ []) refl (λ k. refl) bounded room;
+        early = pair_early c tbox (questions 15 15 (the Second) ∷ []) refl (λ k. refl) bounded room;
         late = asked_refuses (Late c) (leb (lcs_count limits p q) limits.rows) too_large
-            (late c too_large (of_none c 15 Second (after-pair tbox (questions 15 15 (the Second) ∷ []) 15 Second
+            (late c too_large (of_none c 15 Second (after_pair tbox (questions 15 15 (the Second) ∷ []) 15 Second
             (inl (omega arith, omega arith, refl)))
             (inr (omega arith)) (omega arith) (omega arith)) (omega arith) (omega arith));
         passes = (
@@ -509,7 +509,7 @@ module _ (limits : Limits) (bounded : Bounded limits) (tbox first second work re
             ∙ ap common_word (lcs_asked_is limits bounded tbox first second (length work) (length result))
             ∙ word_on common_word common.Refused (λ r. refl) asks
             (common.Length (length (lcs_file limits p q))) _ refl;
-        work_fits = λ e. let (enough, long, ok) = (pair_decides (picture_size limits)).0 e in tables-fit enough ok;
+        work_fits = λ e. let (enough, long, ok) = (pair_decides (picture_size limits)).0 e in tables_fit enough ok;
         work_by = gives.work_is ∙ lcs_work_asked limits bounded tbox first second work (length result);
         result_fits = λ (enough, long, (ok, few)). omega (arith, lcs_size limits p q few);
         result_by = gives.result_is ∙ lcs_result_asked limits bounded tbox first second (length work) result;
@@ -523,30 +523,30 @@ module _ (limits : Limits) (bounded : Bounded limits) (tbox first second evidenc
   abbrev v : List ℕ
   v = unfolded_file limits tbox second
 
-  pub verify-shape : VerifyGives limits tbox first second evidence work word left →
-      Shape (verifyCall limits tbox first second evidence) (buffers work []) (buffers left []) word
+  pub verify_shape : VerifyGives limits tbox first second evidence work word left →
+      Shape (verify_call limits tbox first second evidence) (buffers work []) (buffers left []) word
       (pick (map_form (picture_table (normal_file limits v)).rows evidence) outcome_yes outcome_no)
   unfolding verify_word halves_put
-  verify-shape gives =
+  verify_shape gives =
       let asks = verify_asked_under limits tbox first second evidence (length work) in
       let room = leb (work_size limits) (length work) in
       let same = pair_order limits bounded tbox first second room in
-      let decides = yes-same _ asks _ (ap (λ (a : Asked). and_then a (evidence_asked limits u v evidence)) same)
+      let decides = yes_same _ asks _ (ap (λ (a : Asked). and_then a (evidence_asked limits u v evidence)) same)
       (verify_yes limits bounded tbox first second evidence (length work)) in
-      let lent = yes-same _ (pair_asked_under limits tbox room first second) _ same
-      (check-lent limits bounded tbox first second (length work)) in
+      let lent = yes_same _ (pair_asked_under limits tbox room first second) _ same
+      (check_lent limits bounded tbox first second (length work)) in
       let rows = (picture_table (normal_file limits v)).rows in
-      let c : Call = verifyCall limits tbox first second evidence in
+      let c : Call = verify_call limits tbox first second evidence in
       record {
         before = pair_asked_under limits tbox room first second;
         after = evidence_asked limits u v evidence;
         all = asks;
         asked_all = refl;
         all_is = refl;
-        early = pair-early c tbox (questions 16 23 (the Evidence) ∷ []) refl (λ k. refl) bounded room;
+        early = pair_early c tbox (questions 16 23 (the Evidence) ∷ []) refl (λ k. refl) bounded room;
         late = evidence_refuses (Late c)
             (λ n a b. late c (refusal n Evidence) (of_none c n Evidence
-            (after-pair tbox (questions 16 23 (the Evidence) ∷ []) n Evidence (inl (a, b, refl)))
+            (after_pair tbox (questions 16 23 (the Evidence) ∷ []) n Evidence (inl (a, b, refl)))
             (inr (omega arith)) (omega arith) (omega arith)) (omega arith) b)
             limits u v evidence;
         passes = (
@@ -561,13 +561,13 @@ module _ (limits : Limits) (bounded : Bounded limits) (tbox first second evidenc
         word_by = gives.word_is
             ∙ ap verified_word (verify_asked_is limits bounded tbox first second evidence (length work))
             ∙ word_on verified_word verified.Refused (λ r. refl) asks (evidence_kind limits v evidence) _
-            (kind-by (map_form rows evidence));
+            (kind_by (map_form rows evidence));
         work_fits = λ e.
             let (enough, ok) = lent.0 e in
-            omega (arith, enough, length-tables limits u v (acceptable_unfolded limits tbox first second bounded ok));
+            omega (arith, enough, length_tables limits u v (acceptable_unfolded limits tbox first second bounded ok));
         work_by = gives.buffer_is ∙ verify_work_asked limits bounded tbox first second work;
         result_fits = λ p. omega arith;
-        result_by = not-lent asks;
+        result_by = not_lent asks;
       }
     where
       no_map : (rows : ℕ) → refutation_form limits evidence ≡ true → map_form rows evidence ≡ false
@@ -578,66 +578,66 @@ module _ (limits : Limits) (bounded : Bounded limits) (tbox first second evidenc
 
 module _ (limits : Limits) (bounded : Bounded limits) (tbox case book work : List ℕ) (word : ℕ) (left : List ℕ) where
   abbrev c : Call
-  c = mostSpecificCall limits tbox case book
+  c = most_specific_call limits tbox case book
 
   abbrev last : List Line
   last = questions 24 24 (the Book) ∷ []
 
   abbrev lines : List Line
-  lines = ofGiven (the First) (ofGiven (cards (card_count book)) last)
+  lines = of_given (the First) (of_given (cards (card_count book)) last)
 
-  cards-list : c.refusals ≡ questions 1 1 (the Buffer) ∷ of_definitions tbox lines
-  cards-list = refl
+  cards_list : c.refusals ≡ questions 1 1 (the Buffer) ∷ of_definitions tbox lines
+  cards_list = refl
 
   abbrev Given : Picture → Type 0
-  Given = GivenOn c bounded tbox lines cards-list (λ k. refl)
+  Given = GivenOn c bounded tbox lines cards_list (λ k. refl)
 
-  case-on : Given (record { input = First; file = case })
-  case-on = record {
+  case_on : Given (record { input = First; file = case })
+  case_on = record {
     file = refl;
     small = omega arith;
-    listed = given-listed (the First) (ofGiven (cards (card_count book)) last) First refl;
+    listed = given_listed (the First) (of_given (cards (card_count book)) last) First refl;
   }
 
-  card-on : (k : ℕ) → k < card_count book → Given (record { input = Card k; file = form.card book k })
-  card-on k l = record {
+  card_on : (k : ℕ) → k < card_count book → Given (record { input = Card k; file = form.card book k })
+  card_on k l = record {
     file = refl;
     small = omega (arith, l, count_most card_tag book);
-    listed = λ q of. past-given (the First) (ofGiven (cards (card_count book)) last) (Card k) q
-        (given-listed (cards (card_count book)) last (Card k) (k, l, refl) q of);
+    listed = λ q of. past_given (the First) (of_given (cards (card_count book)) last) (Card k) q
+        (given_listed (cards (card_count book)) last (Card k) (k, l, refl) q of);
   }
 
   all_on : AllOf Given (case_and_cards case book)
-  all_on = (case-on, (cards_all Given book (card_count book) 0).1 (λ k a l. card-on k (omega arith)))
+  all_on = (case_on, (cards_all Given book (card_count book) 0).1 (λ k a l. card_on k (omega arith)))
 
-  cards-early : EveryRefusal (Early c) (most_specific_asked_under limits tbox case book (length work))
-  cards-early =
+  cards_early : EveryRefusal (Early c) (most_specific_asked_under limits tbox case book (length work))
+  cards_early =
       let s = unfolded_file limits tbox case in
-      let reads = given-read c bounded tbox lines cards-list (λ k. refl) in
-      let many = many-early c bounded tbox lines cards-list (λ k. refl) in
+      let reads = given_read c bounded tbox lines cards_list (λ k. refl) in
+      let many = many_early c bounded tbox lines cards_list (λ k. refl) in
       and_refuses (Early c) (book_before limits tbox case book (length work))
       (and_then (merged_asked limits First s) (asked_from (card_few limits tbox book) (card_count book) 0))
       (before_refuses limits tbox case book (Early c)
-      (short c (on c bounded tbox lines cards-list (λ k. refl) 1 Buffer (inl (omega arith, omega arith, refl))))
-      (reads _ case-on)
-      (after-23 c 24 Book (onward c bounded tbox lines cards-list (λ k. refl) 24 Book
-      (past-given (the First) (ofGiven (cards (card_count book)) last) Book 24
-      (past-given (cards (card_count book)) last Book 24 (inl (omega arith, omega arith, refl)))))
+      (short c (on c bounded tbox lines cards_list (λ k. refl) 1 Buffer (inl (omega arith, omega arith, refl))))
+      (reads _ case_on)
+      (after_23 c 24 Book (onward c bounded tbox lines cards_list (λ k. refl) 24 Book
+      (past_given (the First) (of_given (cards (card_count book)) last) Book 24
+      (past_given (cards (card_count book)) last Book 24 (inl (omega arith, omega arith, refl)))))
       (omega arith) (omega arith) (omega arith))
-      (λ k l. reads _ (card-on k l))
-      (definitions-early c bounded tbox lines cards-list (λ k. refl) (case_and_cards case book) all_on) (length work))
+      (λ k l. reads _ (card_on k l))
+      (definitions_early c bounded tbox lines cards_list (λ k. refl) (case_and_cards case book) all_on) (length work))
       (and_refuses (Early c) (merged_asked limits First s) (asked_from (card_few limits tbox book) (card_count book) 0)
-      (merged-refuses limits First s (Early c) (many _ case-on))
+      (merged_refuses limits First s (Early c) (many _ case_on))
       (from_refuses (Early c) (card_few limits tbox book) (card_count book) 0
-      (λ k a l. merged-refuses limits (Card k) (unfolded_file limits tbox (form.card book k)) (Early c)
-      (many _ (card-on k (omega arith))))))
+      (λ k a l. merged_refuses limits (Card k) (unfolded_file limits tbox (form.card book k)) (Early c)
+      (many _ (card_on k (omega arith))))))
 
-  pub cards-shape : MostSpecificGives limits tbox case book work word left →
-      Shape (mostSpecificCall limits tbox case book) (buffers work []) (buffers left []) word outcome_yes
+  pub cards_shape : MostSpecificGives limits tbox case book work word left →
+      Shape (most_specific_call limits tbox case book) (buffers work []) (buffers left []) word outcome_yes
   unfolding most_specific_word
-  cards-shape gives =
+  cards_shape gives =
       let asks = most_specific_asked_under limits tbox case book (length work) in
-      let decides = yes-same _ asks _ (book_order limits bounded tbox case book (length work))
+      let decides = yes_same _ asks _ (book_order limits bounded tbox case book (length work))
       (book_decides limits bounded tbox case book (length work)).yes in
       let s = unfolded_file limits tbox case in
       let b = unfolded_book limits tbox book in
@@ -648,7 +648,7 @@ module _ (limits : Limits) (bounded : Bounded limits) (tbox case book work : Lis
         all = asks;
         asked_all = refl;
         all_is = then_yes asks;
-        early = cards-early;
+        early = cards_early;
         late = tt;
         passes = (
           λ e. let (enough, acceptable) = decides.0 e in (enough, omega arith, acceptable),
@@ -665,5 +665,5 @@ module _ (limits : Limits) (bounded : Bounded limits) (tbox case book work : Lis
             (arith, enough, length_zeros (work_size limits));
         work_by = gives.buffer_is ∙ most_specific_work_asked limits bounded tbox case book work;
         result_fits = λ p. omega arith;
-        result_by = not-lent asks;
+        result_by = not_lent asks;
       }

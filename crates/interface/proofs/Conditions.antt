@@ -52,8 +52,8 @@ use Rattle.under.specs.Calls.{lcs_result_under, lcs_work_under, normalize_result
 use Rattle.under.specs.Calls.{subsumes_work_under, verify_work_under}
 use Rattle.under.specs.Description.{LeastCommonUnder}
 use Rattle.under.specs.Given.{AcceptableUnder}
-use Rattle.interface.specs.Answers.{AcceptableOne, Answers, EitherOutcome, Passes, buffers, lcsCall}
-use Rattle.interface.specs.Answers.{mostSpecificCall, subsumesCall, verifyCall}
+use Rattle.interface.specs.Answers.{AcceptableOne, Answers, EitherOutcome, Passes, buffers, lcs_call}
+use Rattle.interface.specs.Answers.{most_specific_call, subsumes_call, verify_call}
 use Rattle.interface.specs.Calls.{lcs_word}
 use Rattle.interface.specs.Conditions.{Condition1Words, Condition2Words, Condition3Words, Conditions, Lengths}
 use Rattle.interface.specs.Conditions.{MentionsNone, MostSpecificWords, NormalWords, PaperNumbers}
@@ -61,8 +61,8 @@ use Rattle.interface.specs.Conditions.{RefutationWords, Taken, WritesTaken, chec
 use Rattle.interface.specs.Conditions.{evidence_written}
 use Rattle.interface.specs.Conditions.{most_specific_given, normal_given, picture_written, table_written, verdict_given}
 use Rattle.interface.specs.Word.{common_word, outcome, outcome_no, outcome_yes, refused, value, value_word}
-use Rattle.interface.proofs.Answers.{cards-shape, lcs-shape, normalize-shape, subsumes-shape, validate-shape}
-use Rattle.interface.proofs.Answers.{verify-shape}
+use Rattle.interface.proofs.Answers.{cards_shape, lcs_shape, normalize_shape, subsumes_shape, validate_shape}
+use Rattle.interface.proofs.Answers.{verify_shape}
 use Rattle.interface.proofs.EmptyBooks.{empty_words}
 use Rattle.interface.proofs.Places.{place_words}
 use Rattle.interface.proofs.Shapes.{result_shown, result_when, shape_answers}
@@ -72,17 +72,17 @@ use Rattle.interface.proofs.Words.{bench_bounded}
 module _ (limits : Limits) (bounded : Bounded limits) where
   pub condition_1_words : Condition1Words limits
   condition_1_words = record {
-    validate = λ picture. shape_answers _ _ _ _ _ (validate-shape limits bounded picture);
+    validate = λ picture. shape_answers _ _ _ _ _ (validate_shape limits bounded picture);
     normalize = λ tbox picture result word left gives. shape_answers _ _ _ _ _
-        (normalize-shape limits bounded tbox picture result word left gives);
+        (normalize_shape limits bounded tbox picture result word left gives);
     subsumes = λ tbox first second work result word workLeft left gives.
-        shape_answers _ _ _ _ _ (subsumes-shape limits bounded tbox first second work result word workLeft left gives);
+        shape_answers _ _ _ _ _ (subsumes_shape limits bounded tbox first second work result word workLeft left gives);
     lcs = λ tbox first second work result word workLeft left gives.
-        shape_answers _ _ _ _ _ (lcs-shape limits bounded tbox first second work result word workLeft left gives);
+        shape_answers _ _ _ _ _ (lcs_shape limits bounded tbox first second work result word workLeft left gives);
     verify = λ tbox first second evidence work word left gives.
-        shape_answers _ _ _ _ _ (verify-shape limits bounded tbox first second evidence work word left gives);
+        shape_answers _ _ _ _ _ (verify_shape limits bounded tbox first second evidence work word left gives);
     most_specific_is = λ tbox case book work word left gives. shape_answers _ _ _ _ _
-        (cards-shape limits bounded tbox case book work word left gives);
+        (cards_shape limits bounded tbox case book work word left gives);
   }
 
   -- ---- the verdict and the common picture
@@ -95,14 +95,14 @@ module _ (limits : Limits) (bounded : Bounded limits) where
     q = unfolded_file limits tbox second
 
     module _ (work result : List ℕ) where
-      verdict_answers : Answers (subsumesCall limits tbox first second) (buffers work result)
+      verdict_answers : Answers (subsumes_call limits tbox first second) (buffers work result)
           (buffers (subsumes_work_under limits tbox first second work (length result))
           (subsumes_result_under limits tbox first second (length work) result))
           (verdict_given limits tbox first second work result)
       verdict_answers = condition_1_words.subsumes tbox first second work result _ _ _
           (record { word_is = refl; work_is = refl; result_is = refl })
 
-      common_answers : Answers (lcsCall limits tbox first second) (buffers work result)
+      common_answers : Answers (lcs_call limits tbox first second) (buffers work result)
           (buffers (lcs_work_under limits tbox first second work (length result))
           (lcs_result_under limits tbox first second (length work) result))
           (common_given limits tbox first second work result)
@@ -110,7 +110,7 @@ module _ (limits : Limits) (bounded : Bounded limits) where
           (record { word_is = refl; work_is = refl; result_is = refl })
 
       pub common_shown : outcome (common_given limits tbox first second work result) ≡ outcome_yes →
-          Passes (lcsCall limits tbox first second) (buffers work result)
+          Passes (lcs_call limits tbox first second) (buffers work result)
       common_shown h = (result_shown _ _ _ _ common_answers (omega (arith, h))).passes
 
       common_written : outcome (common_given limits tbox first second work result) ≡ outcome_yes →
@@ -180,7 +180,7 @@ module _ (limits : Limits) (bounded : Bounded limits) where
     -- ---- the check
 
     module _ (evidence work : List ℕ) where
-      check_answers : Answers (verifyCall limits tbox first second evidence) (buffers work [])
+      check_answers : Answers (verify_call limits tbox first second evidence) (buffers work [])
           (buffers (verify_work_under limits tbox first second work) [])
           (check_given limits tbox first second evidence work)
       check_answers = condition_1_words.verify tbox first second evidence work _ _
@@ -402,7 +402,7 @@ module _ (limits : Limits) (bounded : Bounded limits) where
   -- ---- the nearest cards
 
   module _ (tbox case book : List ℕ) where
-    cards_answers : (work : List ℕ) → Answers (mostSpecificCall limits tbox case book) (buffers work [])
+    cards_answers : (work : List ℕ) → Answers (most_specific_call limits tbox case book) (buffers work [])
         (buffers (most_specific_work_under limits tbox case book work) []) (most_specific_given limits tbox case book work)
     cards_answers work = condition_1_words.most_specific_is tbox case book work _ _
         (record { word_is = refl; buffer_is = refl })

@@ -27,7 +27,7 @@ use Rattle.picture.specs.declared.answer.Input.{Input}
 use Rattle.picture.specs.declared.answer.Input.TheVariants.{Card, First, Second}
 use Rattle.picture.specs.declared.answer.Refusal.{Refusal}
 use Rattle.meaning.specs.Covering.{Covers}
-use Rattle.normal.proofs.Answers.{merged-refuses}
+use Rattle.normal.proofs.Answers.{merged_refuses}
 use Rattle.normal.specs.Call.{merged_asked}
 use Rattle.workspace.specs.Lent.{roomy}
 use Rattle.workspace.specs.Prepare.{work_size}
@@ -56,7 +56,7 @@ use Rattle.interface.specs.Calls.{lcs_word, most_specific_word, normalize_word, 
 use Rattle.interface.specs.Conditions.{EmptyWords}
 use Rattle.interface.specs.Word.{common_word, normalized_word, outcome, question, selected_word, value}
 use Rattle.interface.specs.Word.{value_range, value_word, verdict_word, verified_word}
-use Rattle.interface.proofs.Answers.{cards-shape, lcs-shape, normalize-shape, subsumes-shape, verify-shape}
+use Rattle.interface.proofs.Answers.{cards_shape, lcs_shape, normalize_shape, subsumes_shape, verify_shape}
 use Rattle.interface.proofs.Shapes.{shape_answers}
 
 -- no interpretation is left out
@@ -79,8 +79,8 @@ word_below : (c : Call) (lent left : Buffers) (word : ℕ) → Answers c lent le
 word_below c lent left word answers below =
     ⊎_elim (λ given. rw given.word_is (omega (arith, value_question (outcome word) (value word) (omega arith))))
     (λ refused.
-    let small = refuses_no Below (c.asks lent) below refused.by refused.first-no in
-    omega (arith, refused.question-is))
+    let small = refuses_no Below (c.asks lent) below refused.by refused.first_no in
+    omega (arith, refused.question_is))
     answers
 
 module _ (limits : Limits) where
@@ -89,7 +89,7 @@ module _ (limits : Limits) where
       read_refuses Below limits input s (λ q n f. omega (arith, (failed_number limits s q n f).most))
 
   few_below : (input : Input) (s : List ℕ) → EveryRefusal Below (merged_asked limits input s)
-  few_below input s = merged-refuses limits input s Below (omega arith)
+  few_below input s = merged_refuses limits input s Below (omega arith)
 
   room_below : (enough : Bool) → EveryRefusal Below (room_asked enough)
   room_below enough = asked_refuses Below enough short_buffer (omega arith)
@@ -179,13 +179,13 @@ empty_words limits bounded = record {
       let enough = leb (picture_size limits) (length result) in
       word_below _ _ _ _
       (shape_answers _ _ _ _ _
-      (normalize-shape limits bounded end_bytes picture result _ _ (record { word_is = refl; buffer_is = refl })))
+      (normalize_shape limits bounded end_bytes picture result _ _ (record { word_is = refl; buffer_is = refl })))
       (and_refuses Below (lent_under limits enough end_bytes (one picture)) (merged_asked limits First s)
       (lent_below limits enough (one picture)) (few_below limits First s));
   none_subsumes = λ first second work result.
       word_below _ _ _ _
       (shape_answers _ _ _ _ _
-      (subsumes-shape limits bounded end_bytes first second work result _ _ _
+      (subsumes_shape limits bounded end_bytes first second work result _ _ _
       (record { word_is = refl; work_is = refl; result_is = refl })))
       (pair_below limits (roomy limits (evidence_size limits) (length work) (length result)) first second);
   none_lcs = λ first second work result.
@@ -194,7 +194,7 @@ empty_words limits bounded = record {
       let enough = roomy limits (picture_size limits) (length work) (length result) in
       word_below _ _ _ _
       (shape_answers _ _ _ _ _
-      (lcs-shape limits bounded end_bytes first second work result _ _ _
+      (lcs_shape limits bounded end_bytes first second work result _ _ _
       (record { word_is = refl; work_is = refl; result_is = refl })))
       (and_refuses Below (pair_asked_under limits end_bytes enough first second) (large_asked limits p q)
       (pair_below limits enough first second)
@@ -205,7 +205,7 @@ empty_words limits bounded = record {
       let enough = leb (work_size limits) (length work) in
       word_below _ _ _ _
       (shape_answers _ _ _ _ _
-      (verify-shape limits bounded end_bytes first second evidence work _ _
+      (verify_shape limits bounded end_bytes first second evidence work _ _
       (record { word_is = refl; buffer_is = refl })))
       (and_refuses Below (pair_asked_under limits end_bytes enough first second) (evidence_asked limits p q evidence)
       (pair_below limits enough first second)
@@ -213,6 +213,6 @@ empty_words limits bounded = record {
   none_most_specific = λ case book work.
       word_below _ _ _ _
       (shape_answers _ _ _ _ _
-      (cards-shape limits bounded end_bytes case book work _ _ (record { word_is = refl; buffer_is = refl })))
+      (cards_shape limits bounded end_bytes case book work _ _ (record { word_is = refl; buffer_is = refl })))
       (cards_below limits case book (length work));
 }

@@ -26,7 +26,7 @@ use Rattle.under.proofs.Givens.{acceptable_unfolded}
 use Rattle.under.specs.Given.{AcceptableUnder}
 use Rattle.interface.specs.StarredClaims.{TakesEvidence, WritesEvidence}
 use Rattle.interface.specs.Word.{outcome_no, outcome_yes, value_word, verified_word}
-use Rattle.interface.proofs.Answers.{subsumes-shape}
+use Rattle.interface.proofs.Answers.{subsumes_shape}
 use Rattle.interface.proofs.Conditions.{map_shown, refutation_shown, takes_map, takes_refutation}
 use Rattle.interface.proofs.EmptyBooks.{empty_words}
 use Rattle.interface.proofs.Shapes.{shape_given}
@@ -95,7 +95,7 @@ module _ (limits : Limits) (bounded : Bounded limits) where
           WritesEvidence limits first second (pick v outcome_yes outcome_no) e
       writes_evidence is v decided work result enough long =
           let (told, space, left) = shape_given _ _ _ _ _
-          (subsumes-shape limits bounded end_bytes first second work result _ _ _
+          (subsumes_shape limits bounded end_bytes first second work result _ _ _
           (record { word_is = refl; work_is = refl; result_is = refl }))
           (enough, long, end_pair pair) in
           let same = of_unfolded (λ s t. evidence_of limits s t ≡ e) is in

@@ -39,8 +39,8 @@ use Rattle.under.specs.Asked.{card_few, pair_asked_under}
 use Rattle.under.specs.Given.{one, pair}
 use Rattle.interface.specs.Conditions.{DefinitionsAt, PairAt, PlaceWords, most_specific_given, normal_given}
 use Rattle.interface.specs.Word.{refusal_word}
-use Rattle.interface.proofs.Answers.{cards-shape, lcs-shape, normalize-shape, subsumes-shape, validate-shape}
-use Rattle.interface.proofs.Answers.{verify-shape}
+use Rattle.interface.proofs.Answers.{cards_shape, lcs_shape, normalize_shape, subsumes_shape, validate_shape}
+use Rattle.interface.proofs.Answers.{verify_shape}
 use Rattle.interface.proofs.Shapes.{refusal_shown, shape_answers, then_yes}
 
 definitions_at : (limits : Limits) (tbox : List ℕ) (given : List Picture) (word : ℕ) →
@@ -74,7 +74,7 @@ module _ (limits : Limits) (bounded : Bounded limits) where
   one_at tbox picture result long r refusing =
       refusal_shown _ _ _ _
       (shape_answers _ _ _ _ _
-      (normalize-shape limits bounded tbox picture result _ _ (record { word_is = refl; buffer_is = refl }))) r
+      (normalize_shape limits bounded tbox picture result _ _ (record { word_is = refl; buffer_is = refl }))) r
       (ap (λ a. and_then a (merged_asked limits First (unfolded_file limits tbox picture)))
       (((lent_decides limits tbox (one picture) (leb (picture_size limits) (length result))).no r).1
       (inr (le-leb (picture_size limits) (length result) long, refusing))))
@@ -84,7 +84,7 @@ module _ (limits : Limits) (bounded : Bounded limits) where
   cards_at tbox case book work long r refusing =
       refusal_shown _ _ _ _
       (shape_answers _ _ _ _ _
-      (cards-shape limits bounded tbox case book work _ _ (record { word_is = refl; buffer_is = refl }))) r
+      (cards_shape limits bounded tbox case book work _ _ (record { word_is = refl; buffer_is = refl }))) r
       (ap (λ a. and_then a (and_then (merged_asked limits First (unfolded_file limits tbox case))
       (asked_from (card_few limits tbox book) (card_count book) 0)))
       (((before_decides limits tbox case book (length work)).no r).1 (inr (long, refusing))))
@@ -92,7 +92,7 @@ module _ (limits : Limits) (bounded : Bounded limits) where
   pub place_words : PlaceWords limits
   place_words = record {
     validate = λ picture q n f.
-        refusal_shown _ _ _ _ (shape_answers _ _ _ _ _ (validate-shape limits bounded picture)) (refusal_at q First n)
+        refusal_shown _ _ _ _ (shape_answers _ _ _ _ _ (validate_shape limits bounded picture)) (refusal_at q First n)
         (((read_decides limits First picture).no (refusal_at q First n)).1 (q, n, f, refl));
     normalize = λ tbox picture result long q n f.
         one_at tbox picture result long (refusal_at q First n) (inl (inl (q, n, f, refl)));
@@ -103,7 +103,7 @@ module _ (limits : Limits) (bounded : Bounded limits) where
         (room_yes limits (evidence_size limits) (length work) (length result) enough long)
         (λ r e. refusal_shown _ _ _ _
         (shape_answers _ _ _ _ _
-        (subsumes-shape limits bounded tbox first second work result _ _ _
+        (subsumes_shape limits bounded tbox first second work result _ _ _
         (record { word_is = refl; work_is = refl; result_is = refl }))) r (then_yes _ ∙ e));
     lcs = λ tbox first second work result (enough, long).
         pair_at limits tbox first second (roomy limits (picture_size limits) (length work) (length result))
@@ -111,7 +111,7 @@ module _ (limits : Limits) (bounded : Bounded limits) where
         (room_yes limits (picture_size limits) (length work) (length result) enough long)
         (λ r e. refusal_shown _ _ _ _
         (shape_answers _ _ _ _ _
-        (lcs-shape limits bounded tbox first second work result _ _ _
+        (lcs_shape limits bounded tbox first second work result _ _ _
         (record { word_is = refl; work_is = refl; result_is = refl }))) r e);
     verify = λ tbox first second evidence work enough.
         pair_at limits tbox first second (leb (work_size limits) (length work))
@@ -119,7 +119,7 @@ module _ (limits : Limits) (bounded : Bounded limits) where
         (le-leb (work_size limits) (length work) enough)
         (λ r e. refusal_shown _ _ _ _
         (shape_answers _ _ _ _ _
-        (verify-shape limits bounded tbox first second evidence work _ _
+        (verify_shape limits bounded tbox first second evidence work _ _
         (record { word_is = refl; buffer_is = refl }))) r e);
     case_at = λ tbox case book work long q n f.
         cards_at tbox case book work long (refusal_at q First n) (inl (q, n, f, refl));

@@ -27,7 +27,7 @@ use Rattle.picture.specs.Asked.{and_then, kept, on_asked}
 use Rattle.picture.specs.declared.answer.Asked.{Asked}
 use Rattle.picture.specs.declared.answer.Asked.TheVariants.{No, Yes}
 use Rattle.picture.specs.declared.answer.Refusal.{Refusal}
-use Rattle.interface.specs.Answers.{Answers, Buffers, Call, Filled, GivesResult, Leaves, Listed, Passes, Placed, refusalBytes}
+use Rattle.interface.specs.Answers.{Answers, Buffers, Call, Filled, GivesResult, Leaves, Listed, Passes, Placed, refusal_bytes}
 use Rattle.interface.specs.Word.{outcome, refusal_word, value_range, value_word}
 use Rattle.interface.proofs.Words.{Fits, refusal_byte, refusal_card, refusal_input, refusal_outcome, refusal_question, refusal_row, value_outcome, value_value}
 
@@ -63,7 +63,7 @@ is_late n a b = rw (le-leb 15 n a, le-leb n 23 b)
 -- ---- a buffer
 
 filled_nothing : (lent left : List ℕ) → left ≡ lent → Filled lent [] left
-filled_nothing lent left is = record { holds = refl; past = λ i h. rw is; length-kept = ap length is }
+filled_nothing lent left is = record { holds = refl; past = λ i h. rw is; length_kept = ap length is }
 
 filled_put : (lent bytes left : List ℕ) → length bytes ≤ length lent → left ≡ put lent 0 bytes → Filled lent bytes left
 unfolding put
@@ -72,7 +72,7 @@ filled_put lent bytes left fits is = record {
   past = λ i h.
       let k : 0 + length bytes + (i - length bytes) ≡ i = omega arith in
       rw is (rw k at (put_after lent 0 bytes (i - length bytes) (omega arith)));
-  length-kept = ap length is ∙ length_put lent 0 bytes (omega arith);
+  length_kept = ap length is ∙ length_put lent 0 bytes (omega arith);
 }
 
 -- ---- a call
@@ -117,7 +117,7 @@ module _ (c : Call) (lent left : Buffers) (word o : ℕ) (s : Shape c lent left 
       first (No r) b e = e
 
   -- the first no, which is `all`'s
-  refuses : (r : Refusal) → s.all ≡ No r → OnList c r → Leaves lent (refusalBytes r.number c.bytes) left →
+  refuses : (r : Refusal) → s.all ≡ No r → OnList c r → Leaves lent (refusal_bytes r.number c.bytes) left →
       Answers c lent left word
   refuses r e on leaves =
       let told : word ≡ refusal_word r = s.word_by ∙ ap (λ a. on_asked refusal_word a (value_word o c.given)) e in
@@ -125,14 +125,14 @@ module _ (c : Call) (lent left : Buffers) (word o : ℕ) (s : Shape c lent left 
         by = r;
         listed = on.listed;
         placed = on.placed;
-        first-no = s.asked_all ∙ e;
+        first_no = s.asked_all ∙ e;
         fails = λ p. let yes-is = s.passes.1 p in let z : ◌≡◌ {A = ℕ} 0 1 = cc in omega arith;
         outcome_is = ap outcome told ∙ refusal_outcome r on.fits;
-        question-is = rw told (refusal_question r on.fits);
-        input-is = rw told (refusal_input r on.fits);
+        question_is = rw told (refusal_question r on.fits);
+        input_is = rw told (refusal_input r on.fits);
         card_is = rw told (refusal_card r on.fits);
         row_is = rw told (refusal_row r on.fits);
-        byte-is = rw told (refusal_byte r on.fits);
+        byte_is = rw told (refusal_byte r on.fits);
         word_is = told;
         leaves = leaves;
       })
@@ -195,5 +195,5 @@ module _ (c : Call) (lent left : Buffers) (word : ℕ) (answers : Answers c lent
   refusal_shown r e =
       ⊎_elim
       (λ given. absurd (let all = given.all_yes in let z : ◌≡◌ {A = ℕ} 0 1 = cc in omega arith))
-      (λ refused. let told = refused.first-no in let same : refused.by ≡ r = cc in
+      (λ refused. let told = refused.first_no in let same : refused.by ≡ r = cc in
       refused.word_is ∙ ap refusal_word same) answers

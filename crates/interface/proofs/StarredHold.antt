@@ -42,7 +42,7 @@ use Rattle.interface.specs.Starred.{empty, k10_first, k10_second, k11_first, k11
 use Rattle.interface.specs.StarredClaims.{WritesNormal, WritesCommon, AllHold, Holds, subsumes, subsumes_not}
 use Rattle.interface.specs.Word.{common_word, outcome, outcome_no, outcome_yes, value_word, verified_word}
 use Rattle.interface.proofs.EmptySubsumes.{empty_subsumes}
-use Rattle.interface.proofs.Answers.{lcs-shape, normalize-shape}
+use Rattle.interface.proofs.Answers.{lcs_shape, normalize_shape}
 use Rattle.interface.proofs.Conditions.{common_shown}
 use Rattle.interface.proofs.EmptyBooks.{empty_words}
 use Rattle.interface.proofs.EndFields.{end_itself, map_end, of_pictures, refutation_end, takes_map_end}
@@ -93,7 +93,7 @@ shown_normal limits bounded first table opened few is result long =
     let itself = end_itself limits bounded first in
     let same : normal_file limits (unfolded_file limits end_bytes first) ≡ table = rw itself is in
     let (told, work, left) = shape_given _ _ _ _ _
-    (normalize-shape limits bounded end_bytes first result _ _ (record { word_is = refl; buffer_is = refl })) (
+    (normalize_shape limits bounded end_bytes first result _ _ (record { word_is = refl; buffer_is = refl })) (
       omega arith,
       long,
       record {
@@ -127,7 +127,7 @@ module _ (limits : Limits) (bounded : Bounded limits) (first second table : List
       rw (end_itself limits bounded first, end_itself limits bounded second) is in (
         λ work result enough long.
             let (told, space, left) = shape_given _ _ _ _ _
-            (lcs-shape limits bounded end_bytes first second work result _ _ _
+            (lcs_shape limits bounded end_bytes first second work result _ _ _
             (record { word_is = refl; work_is = refl; result_is = refl }))
             (enough, long, (pair, few)) in (
               told ∙ ap (λ (e : List ℕ). value_word outcome_yes (length e)) same,

@@ -28,7 +28,7 @@ use Rattle.lcs.specs.Product.{lcs_file}
 use Rattle.lcs.specs.declared.common.Common.{Common}
 use Rattle.lcs.specs.declared.common.Common.TheVariants as common
 use Rattle.definitions.specs.Unfolded.{unfolded_file}
-use Rattle.under.proofs.Answers.{lcs-yes, one-yes, pair-yes}
+use Rattle.under.proofs.Answers.{lcs_yes, one_yes, pair_yes}
 use Rattle.under.proofs.Calls.{lcs_all_is, lcs_all, normalize_all_is, normalize_all, pair_all, subsumes_all_is}
 use Rattle.under.proofs.Givens.{acceptable_unfolded}
 use Rattle.under.specs.Calls.{lcs_under, normalize_under, subsumes_under}
@@ -70,7 +70,7 @@ normal_small limits bounded tbox picture room =
     (on_by normalized.Refused (normalized.Length (length (normal_file limits s))) SmallNormal
     (normalize_all limits tbox picture room)
     (λ all n e.
-    let (long, ok, few) = (one-yes limits bounded tbox picture room).0 all in
+    let (long, ok, few) = (one_yes limits bounded tbox picture room).0 all in
     let is : length (normal_file limits s) ≡ n = cc in
     omega (arith, normal_size limits s few, bounded.0))
     (λ r h n e. absurd (let z : ◌≡◌ {A = ℕ} 0 1 = cc in omega arith)))
@@ -89,7 +89,7 @@ module _ (limits : Limits) (bounded : Bounded limits) (tbox first second : List 
       (on_by verdict.Refused (verdict_answer limits p q) SmallVerdict
       (pair_all limits tbox first second (evidence_size limits) work result)
       (λ all.
-      let (enough, long, ok) = (pair-yes limits bounded tbox first second (evidence_size limits) work result).0 all in
+      let (enough, long, ok) = (pair_yes limits bounded tbox first second (evidence_size limits) work result).0 all in
       let base = acceptable_unfolded limits tbox first second bounded ok in
       either_small (verdict_of limits p q) (length (evidence_of limits p q))
       (omega (arith, evidence_size_is limits p q bounded base, within_most limits bounded)))
@@ -101,7 +101,7 @@ module _ (limits : Limits) (bounded : Bounded limits) (tbox first second : List 
       (on_by common.Refused (common.Length (length (lcs_file limits p q))) SmallCommon
       (lcs_all limits tbox first second work result)
       (λ all n e.
-      let (enough, long, ok, few) = (lcs-yes limits bounded tbox first second work result).0 all in
+      let (enough, long, ok, few) = (lcs_yes limits bounded tbox first second work result).0 all in
       let is : length (lcs_file limits p q) ≡ n = cc in
       omega (arith, lcs_size limits p q few, bounded.0))
       (λ r h n e. absurd (let z : ◌≡◌ {A = ℕ} 0 1 = cc in omega arith)))

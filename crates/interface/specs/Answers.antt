@@ -2,16 +2,16 @@
 -- every call answers, said once, and what the papers lay down for each of the six. Five take a definitions book, `tbox`
 -- (02, U3).
 --   Whom, Names, Line, questions, Listed    questions that a call asks, by number, and whom they name
---   ofGiven, of_definitions                  those of a picture that is given; those of the definitions book
+--   of_given, of_definitions                  those of a picture that is given; those of the definitions book
 --   Buffers, buffers, Filled, Leaves        what is lent for writing; what a buffer, and what both, hold then
---   refusalBytes                            what a refusal writes
+--   refusal_bytes                            what a refusal writes
 --   pictures, AtField                       the picture that an input is; where in a picture a refusal is
 --   Call                                    what is laid down for a call on given inputs
 --   Placed                                  what a refusal carries beside its number and input: where it is, or 0 and 0
 --   Passes, GivesResult, Refuses, Answers   all questions are answered yes; a result; a numbered refusal; one of these
 --   AcceptableOne                           one picture under a definitions book, of which all is answered yes
 --   tables, OutcomeYes, EitherOutcome       both normal tables, each in its half; which outcome a result has
---   validateCall .. mostSpecificCall        what is laid down for each call
+--   validate_call .. most_specific_call        what is laid down for each call
 use Rattle.std.specs.Prelude.{◌<◌, ◌≤◌, ℕ, leb, get_or, length, take, ◌&&◌, List, [], ◌++◌, ◌∷◌, ◌⊎◌, ◌≡◌}
 use Rattle.table.specs.Bounds.{picture_size}
 use Rattle.table.specs.Layout.{«place»}
@@ -71,8 +71,8 @@ Listed (l ∷ more) number input =
 
 -- 2 to 14 of a given picture; and "27, is no defined name excluded;" "29, has each unfolded picture at most 256 rows;
 -- 30, is its depth at most 12"
-abbrev pub ofGiven : Whom → List Line → List Line
-ofGiven whom more = questions 2 14 whom ∷ questions 27 27 whom ∷ questions 29 30 whom ∷ more
+abbrev pub of_given : Whom → List Line → List Line
+of_given whom more = questions 2 14 whom ∷ questions 27 27 whom ∷ questions 29 30 whom ∷ more
 
 -- 02, U3, "25, 26 and 28 name the definitions book, the others the picture, or the definition by its place", "its
 -- pictures then meet 2 to 13"
@@ -94,7 +94,7 @@ buffers work result = record { work = work; result = result }
 pub record Filled (lent bytes left : List ℕ) : Type 0 where
   pub holds : take (length bytes) left ≡ bytes
   pub past : (i : ℕ) → length bytes ≤ i → get_or left i 0 ≡ get_or lent i 0
-  pub length-kept : length left ≡ length lent
+  pub length_kept : length left ≡ length lent
 
 pub record Leaves (lent bytes left : Buffers) : Type 0 where
   pub work : Filled lent.work bytes.work left.work
@@ -102,8 +102,8 @@ pub record Leaves (lent bytes left : Buffers) : Type 0 where
 
 -- 01, "Refusals 1 to 14 and 24 write nothing. 15 to 23 leave the work space as a success does and result buffers
 -- untouched"; 02, U3, of 25 to 30, "all write nothing": by the number, and what a success writes
-abbrev pub refusalBytes : ℕ → Buffers → Buffers
-refusalBytes number success = buffers (pick (leb 15 number && leb number 23) success.work []) []
+abbrev pub refusal_bytes : ℕ → Buffers → Buffers
+refusal_bytes number success = buffers (pick (leb 15 number && leb number 23) success.work []) []
 
 -- the picture that an input is: the first or the case, the second, a card, or a definition's; the others are none
 abbrev pub pictures : List ℕ → List ℕ → (ℕ → List ℕ) → (ℕ → List ℕ) → Input → List ℕ
@@ -130,8 +130,8 @@ pub record AtField (limits : Limits) (s : List ℕ) (r : Refusal) : Type 0 where
 
 pub record Call : Type 1 where
   -- 1: the lengths named of the work space and of the result buffer
-  pub work-size : ℕ
-  pub result-size : ℕ
+  pub size_of_work : ℕ
+  pub size_of_result : ℕ
   -- its questions, by number and whom they name; the pictures among its inputs, and their limits
   pub refusals : List Line
   pub limits : Limits
@@ -148,13 +148,13 @@ pub record Call : Type 1 where
 
 -- every question is answered yes
 abbrev pub Passes : Call → Buffers → Type 0
-Passes c lent = (c.work-size ≤ length lent.work) × (c.result-size ≤ length lent.result) × c.Passed
+Passes c lent = (c.size_of_work ≤ length lent.work) × (c.size_of_result ≤ length lent.result) × c.Passed
 
 -- 02, U1, "Refusals 2 to 13 shall also carry the row being read .. and the byte where its field begins", "other refusals
 -- carry .. 0 for both"
 pub record Placed (c : Call) (r : Refusal) : Type 0 where
   pub read_at : 2 ≤ r.number → r.number ≤ 13 → AtField c.limits (c.picture r.input) r
-  pub else-zero : (r.number < 2) ⊎ (13 < r.number) → (r.row ≡ 0) × (r.byte ≡ 0)
+  pub else_zero : (r.number < 2) ⊎ (13 < r.number) → (r.row ≡ 0) × (r.byte ≡ 0)
 
 module _ (c : Call) (lent left : Buffers) (word : ℕ) where
   pub record GivesResult : Type 0 where
@@ -170,16 +170,16 @@ module _ (c : Call) (lent left : Buffers) (word : ℕ) where
     pub by : Refusal
     pub listed : Listed c.refusals by.number by.input
     pub fails : Passes c lent → ⊥
-    pub first-no : c.asks lent ≡ No by
+    pub first_no : c.asks lent ≡ No by
     pub placed : Placed c by
     pub outcome_is : outcome word ≡ 0
-    pub question-is : question word ≡ by.number
-    pub input-is : input word ≡ input_code by.input
+    pub question_is : question word ≡ by.number
+    pub input_is : input word ≡ input_code by.input
     pub card_is : card word ≡ card_of by.input
     pub row_is : row word ≡ by.row
-    pub byte-is : byte word ≡ by.byte
+    pub byte_is : byte word ≡ by.byte
     pub word_is : word ≡ refusal_word by
-    pub leaves : Leaves lent (refusalBytes by.number c.bytes) left
+    pub leaves : Leaves lent (refusal_bytes by.number c.bytes) left
 
   abbrev pub Answers : Type 0
   Answers = GivesResult ⊎ Refuses
@@ -197,10 +197,10 @@ abbrev pub EitherOutcome : Type 0 → Type 0 → ℕ → Type 0
 EitherOutcome Y N outcome = ((outcome ≡ outcome_yes) × Y) ⊎ ((outcome ≡ outcome_no) × N)
 
 -- Test one picture; give its row count.
-abbrev pub validateCall : Limits → List ℕ → Call
-validateCall limits picture = record {
-  work-size = 0;
-  result-size = 0;
+abbrev pub validate_call : Limits → List ℕ → Call
+validate_call limits picture = record {
+  size_of_work = 0;
+  size_of_result = 0;
   refusals = questions 2 13 (the First) ∷ [];
   limits = limits;
   picture = pictures picture [] (λ k. []) (λ k. []);
@@ -225,11 +225,11 @@ module _ (limits : Limits) (tbox : List ℕ) where
   unfolded picture = unfolded_file limits tbox picture
 
   -- Write its normal table and give its length in bytes.
-  abbrev pub normalizeCall : List ℕ → Call
-  normalizeCall picture = record {
-    work-size = 0;
-    result-size = picture_size limits;
-    refusals = questions 1 1 (the Buffer) ∷ of_definitions tbox (ofGiven (the First) []);
+  abbrev pub normalize_call : List ℕ → Call
+  normalize_call picture = record {
+    size_of_work = 0;
+    size_of_result = picture_size limits;
+    refusals = questions 1 1 (the Buffer) ∷ of_definitions tbox (of_given (the First) []);
     limits = limits;
     picture = pictures picture [] (λ k. []) (definition_file tbox);
     asks = λ lent. one_asked_under limits tbox picture (length lent.result);
@@ -241,11 +241,11 @@ module _ (limits : Limits) (tbox : List ℕ) where
   }
 
   -- Verdict with evidence, and its length.
-  abbrev pub subsumesCall : List ℕ → List ℕ → Call
-  subsumesCall first second = record {
-    work-size = work_size limits;
-    result-size = evidence_size limits;
-    refusals = questions 1 1 (the Buffer) ∷ of_definitions tbox (ofGiven (the First) (ofGiven (the Second) []));
+  abbrev pub subsumes_call : List ℕ → List ℕ → Call
+  subsumes_call first second = record {
+    size_of_work = work_size limits;
+    size_of_result = evidence_size limits;
+    refusals = questions 1 1 (the Buffer) ∷ of_definitions tbox (of_given (the First) (of_given (the Second) []));
     limits = limits;
     picture = pictures first second (λ k. []) (definition_file tbox);
     asks = λ lent. subsumes_asked_under limits tbox first second (length lent.work) (length lent.result);
@@ -258,13 +258,13 @@ module _ (limits : Limits) (tbox : List ℕ) where
   }
 
   -- Common picture and its length.
-  abbrev pub lcsCall : List ℕ → List ℕ → Call
-  lcsCall first second = record {
-    work-size = work_size limits;
-    result-size = picture_size limits;
+  abbrev pub lcs_call : List ℕ → List ℕ → Call
+  lcs_call first second = record {
+    size_of_work = work_size limits;
+    size_of_result = picture_size limits;
     refusals =
         questions 1 1 (the Buffer)
-        ∷ of_definitions tbox (ofGiven (the First) (ofGiven (the Second) (questions 15 15 (the Second) ∷ [])));
+        ∷ of_definitions tbox (of_given (the First) (of_given (the Second) (questions 15 15 (the Second) ∷ [])));
     limits = limits;
     picture = pictures first second (λ k. []) (definition_file tbox);
     asks = λ lent. lcs_asked_under limits tbox first second (length lent.work) (length lent.result);
@@ -279,13 +279,13 @@ module _ (limits : Limits) (tbox : List ℕ) where
   }
 
   -- Check evidence: map taken or refutation taken. "refutations are checked on unfolded pictures"
-  abbrev pub verifyCall : List ℕ → List ℕ → List ℕ → Call
-  verifyCall first second evidence = record {
-    work-size = work_size limits;
-    result-size = 0;
+  abbrev pub verify_call : List ℕ → List ℕ → List ℕ → Call
+  verify_call first second evidence = record {
+    size_of_work = work_size limits;
+    size_of_result = 0;
     refusals =
         questions 1 1 (the Buffer)
-        ∷ of_definitions tbox (ofGiven (the First) (ofGiven (the Second) (questions 16 23 (the Evidence) ∷ [])));
+        ∷ of_definitions tbox (of_given (the First) (of_given (the Second) (questions 16 23 (the Evidence) ∷ [])));
     limits = limits;
     picture = pictures first second (λ k. []) (definition_file tbox);
     asks = λ lent. verify_asked_under limits tbox first second evidence (length lent.work);
@@ -301,13 +301,13 @@ module _ (limits : Limits) (tbox : List ℕ) where
   }
 
   -- Nearest cards for a case.
-  abbrev pub mostSpecificCall : List ℕ → List ℕ → Call
-  mostSpecificCall case book = record {
-    work-size = work_size limits;
-    result-size = 0;
+  abbrev pub most_specific_call : List ℕ → List ℕ → Call
+  most_specific_call case book = record {
+    size_of_work = work_size limits;
+    size_of_result = 0;
     refusals =
         questions 1 1 (the Buffer)
-        ∷ of_definitions tbox (ofGiven (the First) (ofGiven (cards (card_count book)) (questions 24 24 (the Book) ∷ [])));
+        ∷ of_definitions tbox (of_given (the First) (of_given (cards (card_count book)) (questions 24 24 (the Book) ∷ [])));
     limits = limits;
     picture = pictures case [] (form.card book) (definition_file tbox);
     asks = λ lent. most_specific_asked_under limits tbox case book (length lent.work);

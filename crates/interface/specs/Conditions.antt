@@ -71,8 +71,8 @@ use Rattle.under.specs.Calls.{subsumes_work_under, verify_work_under}
 use Rattle.under.specs.Description.{LeastCommonUnder}
 use Rattle.under.specs.Given.{AcceptableUnder, one, pair}
 use Rattle.under.specs.Ignored.{OtherDefined}
-use Rattle.interface.specs.Answers.{Answers, buffers, lcsCall, mostSpecificCall, normalizeCall, subsumesCall}
-use Rattle.interface.specs.Answers.{validateCall, verifyCall}
+use Rattle.interface.specs.Answers.{Answers, buffers, lcs_call, most_specific_call, normalize_call, subsumes_call}
+use Rattle.interface.specs.Answers.{validate_call, verify_call}
 use Rattle.interface.specs.Calls.{LcsGives, MostSpecificGives, NormalizeGives, SubsumesGives, VerifyGives}
 use Rattle.interface.specs.Calls.{lcs_word, most_specific_word, normalize_word, subsumes_word, validate_word}
 use Rattle.interface.specs.Calls.{verify_word}
@@ -84,22 +84,22 @@ use Rattle.interface.specs.Word.{verified_word}
 -- beforehand along with the contents of the buffers."
 pub record Condition1Words (limits : Limits) : Type 0 where
   pub validate : (picture : List ℕ) →
-      Answers (validateCall limits picture) (buffers [] []) (buffers [] []) (validate_word limits picture)
+      Answers (validate_call limits picture) (buffers [] []) (buffers [] []) (validate_word limits picture)
   pub normalize : (tbox picture result : List ℕ) (word : ℕ) (left : List ℕ) →
       NormalizeGives limits tbox picture result word left →
-      Answers (normalizeCall limits tbox picture) (buffers [] result) (buffers [] left) word
+      Answers (normalize_call limits tbox picture) (buffers [] result) (buffers [] left) word
   pub subsumes : (tbox first second work result : List ℕ) (word : ℕ) (workLeft left : List ℕ) →
       SubsumesGives limits tbox first second work result word workLeft left →
-      Answers (subsumesCall limits tbox first second) (buffers work result) (buffers workLeft left) word
+      Answers (subsumes_call limits tbox first second) (buffers work result) (buffers workLeft left) word
   pub lcs : (tbox first second work result : List ℕ) (word : ℕ) (workLeft left : List ℕ) →
       LcsGives limits tbox first second work result word workLeft left →
-      Answers (lcsCall limits tbox first second) (buffers work result) (buffers workLeft left) word
+      Answers (lcs_call limits tbox first second) (buffers work result) (buffers workLeft left) word
   pub verify : (tbox first second evidence work : List ℕ) (word : ℕ) (workLeft : List ℕ) →
       VerifyGives limits tbox first second evidence work word workLeft →
-      Answers (verifyCall limits tbox first second evidence) (buffers work []) (buffers workLeft []) word
+      Answers (verify_call limits tbox first second evidence) (buffers work []) (buffers workLeft []) word
   pub most_specific_is : (tbox case book work : List ℕ) (word : ℕ) (workLeft : List ℕ) →
       MostSpecificGives limits tbox case book work word workLeft →
-      Answers (mostSpecificCall limits tbox case book) (buffers work []) (buffers workLeft []) word
+      Answers (most_specific_call limits tbox case book) (buffers work []) (buffers workLeft []) word
 
 -- buffers of the lengths laid down: a work space, and a result buffer of so many bytes
 abbrev pub Lengths : Limits → ℕ → List ℕ → List ℕ → Type 0

@@ -1,6 +1,6 @@
 -- Laws of the fourth call at any limits: when its questions are answered yes.
 --   lent_decides   1 to 14: with room and of an acceptable pair
---   lcs-decides    and 15: its common picture has at most the rows of the limit; the first no, 15 being the last
+--   lcs_decides    and 15: its common picture has at most the rows of the limit; the first no, 15 being the last
 use Prim.Native.Nat.{◌<◌, ◌≤◌, ℕ}
 use mathlib.Core.List.{List}
 use mathlib.Core.Logic.{◌⊎◌}
@@ -29,9 +29,9 @@ module _ (limits : Limits) (first second : List ℕ) (work result : ℕ) where
   pub lent_decides : Decides (lcs_lent limits first second work result) lent LentNo
   lent_decides = two_decides limits first second (picture_size limits) work result
 
-  pub lcs-decides : Decides (lcs_asked limits first second work result)
+  pub lcs_decides : Decides (lcs_asked limits first second work result)
       (lent × (lcs_count limits first second ≤ limits.rows))
       (λ r. LentNo r ⊎ (lent × ((limits.rows < lcs_count limits first second) × (r ≡ too_large))))
-  lcs-decides =
+  lcs_decides =
       and_decides (lcs_lent limits first second work result) (large_asked limits first second) lent_decides
       (λ l. test_decides (lcs_count limits first second) limits.rows too_large)

@@ -4,7 +4,7 @@
 --   made_few, made_many               the answer and the result buffer over the rows that were built
 --   prepared_call                     the answer and both buffers, by what the questions answer
 --   tables_trims, tables_common       the same of the parts of the work space that are the normal tables
-use Prim.Native.Nat.{◌+◌, ◌<◌, ◌≤◌, ℕ}
+use Prim.Native.Nat.{◌<◌, ◌≤◌, ℕ}
 use borrow.Author.Tests.{le-leb, lt-leb}
 use lib.ListN.{length}
 use mathlib.Core.Bool.{Bool}

@@ -7,14 +7,12 @@
 --   means_names      wanted and excluded names, the mark, kind and role of each row
 use Prim.Native.Nat.{◌^◌, ℕ}
 use mathlib.Core.Bool.{false, true}
-use mathlib.Core.List.{List, [], ◌++◌, ◌∷◌}
+use mathlib.Core.List.{List, ◌++◌}
 use mathlib.Core.Path.{◌≡◌, refl}
 use Rattle.table.specs.Bounds.{bench_limits}
 use Rattle.table.specs.Fields.{end_bytes, row_of}
-use Rattle.table.specs.NameSet.{has}
 use Rattle.table.specs.Number.{be, be_bytes}
-use Rattle.ale.specs.PictureSignature.{picture_signature}
-use Rattle.ale.specs.Tree.{Tree, cons, exists, forAll, nil, node}
+use Rattle.ale.specs.Tree.{cons, exists, forAll, nil, node}
 use Rattle.picture.specs.Readable.{row_count}
 use Rattle.meaning.specs.Meaning.{picture_tree, set_at}
 use Rattle.meaning.specs.NormalTable.{merged_count, merged_tree, normal_file, normal_tree_of}

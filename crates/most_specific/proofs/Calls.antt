@@ -8,7 +8,7 @@
 --   definitions_refused, definitions_passed, definitions_prepared    what is asked of the definitions book
 --   form_refused, cards_refused, cards_room, cards_passed        24, and 2 to 13 of the cards
 --   short_call, case_refused, case_readable, case_passed         1, and 2 to 13 of the case
-use Prim.Native.Nat.{◌+◌, ◌-◌, ◌<◌, ◌≤◌, ℕ}
+use Prim.Native.Nat.{◌<◌, ◌≤◌, ℕ}
 use borrow.Author.Tests.{le-leb, lt-leb, lt-ltb, ltb-true}
 use lib.Dec.{ltb}
 use lib.ListN.{drop, length}
@@ -34,7 +34,7 @@ use Rattle.table.specs.NameSet.{has, set_below}
 use Rattle.table.specs.Put.{put, zeros}
 use Rattle.table.specs.declared.layout.Limits.{Limits}
 use Rattle.workspace.specs.Prepare.{work_size}
-use Rattle.normal.proofs.Answers.{merged-decides}
+use Rattle.normal.proofs.Answers.{merged_decides}
 use Rattle.normal.specs.Call.{merged_asked}
 use Rattle.fields.specs.Form.{listed}
 use Rattle.book.specs.Call.{card_read, no_book}
@@ -144,9 +144,9 @@ module _ (limits : Limits) (tbox case book : List ℕ) (books : Books) (so : All
           (asked_from (card_few limits tbox book) books.cards.count 0)).0 (sym is ∙ e) in
           record {
             prepared = so.prepared;
-            case_few = (merged-decides limits First (unfolded_file limits tbox case)).yes.0 here;
+            case_few = (merged_decides limits First (unfolded_file limits tbox case)).yes.0 here;
             cards_few = λ k l.
-                (merged-decides limits (Card k) (unfolded_file limits tbox (card book k))).yes.0
+                (merged_decides limits (Card k) (unfolded_file limits tbox (card book k))).yes.0
                 (yes_to (card_few limits tbox book) books.cards.count rest k
                 (omega (arith, l, so.places_are.counted)));
           }

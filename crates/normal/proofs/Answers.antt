@@ -1,14 +1,14 @@
 -- Laws of the second call at any limits: which answer is given for which picture and result buffer.
---   merged-decides, merged-many,
---   merged-refuses                   14 of a picture
+--   merged_decides, merged_many,
+--   merged_refuses                   14 of a picture
 --   OfPicture                        what every refusal of a picture has, by 2 to 13 and by 14
 --   Accepted                         the buffer is long enough, the picture readable, and its merged rows are few
 --   OneNo                            the first no: the buffer is short; else a question from 2 to 13; else 14
 --   one_decides, one_refuses         the questions of the call: all yes exactly if accepted, the first no exactly that
---   one-long, one_read               a long buffer leaves 2 to 13, and 14; and the reading, 14
---   normal-by                        the answer and the result buffer, by what the questions answer
---   length-accepted                  a length is given only if accepted, and is that of the normal table,
---   answer-size                      so at most that of the longest picture
+--   one_long, one_read               a long buffer leaves 2 to 13, and 14; and the reading, 14
+--   normal_by                        the answer and the result buffer, by what the questions answer
+--   length_accepted                  a length is given only if accepted, and is that of the normal table,
+--   answer_size                      so at most that of the longest picture
 use Prim.Native.Nat.{◌<◌, ◌≤◌, ℕ}
 use borrow.Author.Tests.{le-leb}
 use lib.Dec.{leb}
@@ -39,18 +39,18 @@ module _ (limits : Limits) (input : Input) (s : List ℕ) where
   abbrev pub TooMany : Refusal → Type 0
   TooMany r = (limits.rows < merged_count limits s) × (r ≡ too_many input)
 
-  pub merged-decides : Decides (merged_asked limits input s) (merged_count limits s ≤ limits.rows) TooMany
+  pub merged_decides : Decides (merged_asked limits input s) (merged_count limits s ≤ limits.rows) TooMany
   unfolding merged_asked
-  merged-decides = test_decides (merged_count limits s) limits.rows (too_many input)
+  merged_decides = test_decides (merged_count limits s) limits.rows (too_many input)
 
   -- by the test that is made
-  pub merged-many : leb (merged_count limits s) limits.rows ≡ false → merged_asked limits input s ≡ No (too_many input)
+  pub merged_many : leb (merged_count limits s) limits.rows ≡ false → merged_asked limits input s ≡ No (too_many input)
   unfolding merged_asked
-  merged-many e = rw e
+  merged_many e = rw e
 
-  pub merged-refuses : (P : Refusal → Type 0) → P (too_many input) → EveryRefusal P (merged_asked limits input s)
+  pub merged_refuses : (P : Refusal → Type 0) → P (too_many input) → EveryRefusal P (merged_asked limits input s)
   unfolding merged_asked
-  merged-refuses P h = asked_refuses P (leb (merged_count limits s) limits.rows) (too_many input) h
+  merged_refuses P h = asked_refuses P (leb (merged_count limits s) limits.rows) (too_many input) h
 
   -- what every refusal of a picture has: 2 to 13, at the field that fails, and 14
   pub record OfPicture (P : Refusal → Type 0) : Type 0 where
@@ -76,7 +76,7 @@ module _ (limits : Limits) (s : List ℕ) (room : ℕ) where
       let enough = room_asked (leb (picture_size limits) room) in
       said_so (and_then enough (and_then read merged))
       (and_decides enough (and_then read merged) (test_decides (picture_size limits) room short_buffer)
-      (λ long. and_decides read merged (read_decides limits First s) (λ readable. merged-decides limits First s))) (
+      (λ long. and_decides read merged (read_decides limits First s) (λ readable. merged_decides limits First s))) (
         λ (enough, (readable, few)). record { enough = enough; readable = readable; few = few },
         λ a. (a.enough, (a.readable, a.few)),
       )
@@ -92,30 +92,30 @@ module _ (limits : Limits) (s : List ℕ) (room : ℕ) where
       (asked_refuses P (leb (picture_size limits) room) short_buffer short)
       (and_refuses P (read_asked limits First s) (merged_asked limits First s)
       (read_refuses P limits First s picture.reads)
-      (merged-refuses limits First s P picture.merges))
+      (merged_refuses limits First s P picture.merges))
 
-  pub one-long : picture_size limits ≤ room → one_asked limits s room ≡ and_then (read_asked limits First s)
+  pub one_long : picture_size limits ≤ room → one_asked limits s room ≡ and_then (read_asked limits First s)
       (merged_asked limits First s)
   unfolding one_asked
-  one-long long = rw (le-leb (picture_size limits) room long)
+  one_long long = rw (le-leb (picture_size limits) room long)
 
   -- after the reading
   pub one_read : picture_size limits ≤ room → (a : Asked) → read_asked limits First s ≡ a → one_asked limits s room
       ≡ and_then a (merged_asked limits First s)
-  one_read long a e = one-long long ∙ ap (λ q. and_then q (merged_asked limits First s)) e
+  one_read long a e = one_long long ∙ ap (λ q. and_then q (merged_asked limits First s)) e
 
-  pub length-accepted : (n : ℕ) → normalize_answer limits s room ≡ Length n → Accepted × (n ≡ length (normal_file limits s))
+  pub length_accepted : (n : ℕ) → normalize_answer limits s room ≡ Length n → Accepted × (n ≡ length (normal_file limits s))
   unfolding normalize_answer
-  length-accepted n h =
+  length_accepted n h =
       let (all, is) = given Refused (Length (length (normal_file limits s))) (Length n)
       (λ r e. let z : ◌≡◌ {A = ℕ} 0 1 = cc in omega arith) (one_asked limits s room) h in
       (one_decides.yes.0 all, cc)
 
-  pub answer-size : (n : ℕ) → normalize_answer limits s room ≡ Length n → n ≤ picture_size limits
-  answer-size n h = let (a, is) = length-accepted n h in rw is (normal_size limits s a.few)
+  pub answer_size : (n : ℕ) → normalize_answer limits s room ≡ Length n → n ≤ picture_size limits
+  answer_size n h = let (a, is) = length_accepted n h in rw is (normal_size limits s a.few)
 
-pub normal-by : (limits : Limits) (s out : List ℕ) (a : Asked) → one_asked limits s (length out) ≡ a →
+pub normal_by : (limits : Limits) (s out : List ℕ) (a : Asked) → one_asked limits s (length out) ≡ a →
     (on_asked Refused a (Length (length (normal_file limits s))) ≡ normalize_answer limits s (length out))
     × (kept a (put out 0 (normal_file limits s)) out ≡ normalize_result limits s out)
 unfolding normalize_answer normalize_result
-normal-by limits s out a e = (rw e, rw e)
+normal_by limits s out a e = (rw e, rw e)

@@ -6,10 +6,10 @@
 --   grown_full     a count beyond the limit stays beyond it
 --   grown_over     one row more than the limit
 --   grown_room     there is room for what follows; entered-room: and after a row was written
-use Prim.Native.Nat.{◌+◌, ◌<◌, ◌≤◌, suc, ℕ}
+use Prim.Native.Nat.{◌+◌, ◌<◌, ◌≤◌, ℕ}
 use lib.ListN.{length}
-use mathlib.Core.Bool.{Bool, ◌||◌, false, true}
-use mathlib.Core.List.{List, [], ◌++◌, append_assoc, append-nil}
+use mathlib.Core.Bool.{Bool, ◌||◌}
+use mathlib.Core.List.{List, ◌++◌, append_assoc, append-nil}
 use mathlib.Core.Path.{◌≡◌, ap, refl, subst, sym, ◌∙◌}
 use native.Mathlib.Omega.{arith}
 use Rattle.ale.proofs.Appends.{any_append, encode_forest_append, sizes_append, tidy_all_append}

@@ -2,7 +2,7 @@
 --   left_inconsistent, left_dropped, left_whole
 use Prim.Native.Nat.{◌+◌, ℕ}
 use lib.Dec.{eqb}
-use mathlib.Core.Bool.{Bool, ◌||◌, false, not, true}
+use mathlib.Core.Bool.{◌||◌, false, not, true}
 use mathlib.Core.List.{List}
 use mathlib.Core.Path.{◌≡◌, ap, sym, ◌∙◌}
 use Rattle.table.specs.Fields.{row_of}

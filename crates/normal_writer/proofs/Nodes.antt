@@ -7,29 +7,29 @@ use lib.Bits.{bit_and}
 use lib.Dec.{eqb}
 use lib.ListN.{length}
 use mathlib.Core.Bool.{Bool, ◌&&◌, ◌||◌, false, not, true}
-use mathlib.Core.List.{List, [], ◌++◌, ◌∷◌, append_assoc, append-nil}
+use mathlib.Core.List.{List, [], ◌++◌, append_assoc, append-nil}
 use mathlib.Core.Path.{◌≡◌, ap, refl, subst, sym, ◌∙◌}
 use native.Mathlib.Numerals.{add-one}
 use native.Mathlib.Omega.{arith}
-use borrow.Author.Tests.{eq-eqb, eqb-true, eqb-false, ne_eqb}
+use borrow.Author.Tests.{eq-eqb, ne_eqb}
 use Rattle.table.specs.Fields.{row_of}
-use Rattle.table.specs.Layout.{kind_for_all, «place», row_size}
+use Rattle.table.specs.Layout.{kind_for_all, «place»}
 use Rattle.table.specs.NameSet.{none}
-use Rattle.table.specs.NameValues.{overlap, set_of}
+use Rattle.table.specs.NameValues.{set_of}
 use Rattle.table.specs.Pick.{pick}
 use Rattle.table.specs.Put.{put}
 use Rattle.table.proofs.Bools.{or_assoc}
 use Rattle.table.proofs.Puts.{length_put}
 use Rattle.table.proofs.Rows.{length_row_of}
 use Rattle.ale.specs.Encoding.{Row, encode_forest}
-use Rattle.ale.specs.Forest.{cons_reduced, dropped, is_nil}
-use Rattle.ale.specs.Normal.{bottom_exists, inconsistent, tidy_all, tidy_node}
+use Rattle.ale.specs.Forest.{dropped, is_nil}
+use Rattle.ale.specs.Normal.{bottom_exists, inconsistent, tidy_all}
 use Rattle.ale.specs.PictureSignature.{picture_signature}
 use Rattle.ale.specs.Tree as tree
 use Rattle.ale.specs.Tree.{Forest, Kind, Tree, any, bottom_label, bottom_tree, cons, exists, forAll, nil, node, same_kind, sizes}
-use Rattle.meaning.specs.File.{code_at, mark_code, row_at, rows_from}
+use Rattle.meaning.specs.File.{code_at, row_at, rows_from}
 use Rattle.meaning.specs.Meaning.{kind_at}
-use Rattle.normal_writer.specs.Grown.{Entered, Grown, Left, Room, Written, bare, is_inconsistent, clash, is_dropped}
+use Rattle.normal_writer.specs.Grown.{Entered, Grown, Left, Room, Written, bare, is_inconsistent, is_dropped}
 use Rattle.table_rows.specs.Rows.{prefix}
 use Rattle.row_sets.specs.Labels.{LabelIs}
 use Rattle.normal_writer.specs.declared.node.Branch.{Branch}

@@ -34,7 +34,7 @@ use Rattle.picture.specs.declared.answer.Asked.TheVariants.{No, Yes}
 use Rattle.picture.specs.declared.answer.Input.TheVariants.{First}
 use Rattle.picture.specs.declared.answer.Refusal.{Refusal}
 use Rattle.meaning.specs.NormalTable.{normal_file}
-use Rattle.normal.proofs.Answers.{merged-decides, merged-many}
+use Rattle.normal.proofs.Answers.{merged_decides, merged_many}
 use Rattle.normal.specs.Call.{merged_asked}
 use Rattle.normal.specs.declared.normalize.Normalized.{Normalized}
 use Rattle.normal.specs.declared.normalize.Normalized.TheVariants.{Length, Refused}
@@ -72,7 +72,7 @@ module _ (limits : Limits) (bounded : Bounded limits) (s out : List ℕ) (r : �
   table_written_is table result a l is answer bytes =
       by_test (eqb r 0)
       (λ e.
-      let many = merged-many limits First s (none_many limits s out r end bounded tabled (eqb-true r 0 e)) in
+      let many = merged_many limits First s (none_many limits s out r end bounded tabled (eqb-true r 0 e)) in
       record {
         answer = answer ∙ ap (λ (b : Bool). pick b (Refused (too_many First)) (Length (length table))) e
             ∙ sym (on_no Refused _ _ _ many);
@@ -80,7 +80,7 @@ module _ (limits : Limits) (bounded : Bounded limits) (s out : List ℕ) (r : �
       })
       (λ e.
       let few = some_few limits s out r end bounded tabled (eqb-false r 0 e) in
-      let all = (merged-decides limits First s).yes.1 few in
+      let all = (merged_decides limits First s).yes.1 few in
       let file = is ∙ tabled.file few in
       record {
         answer = answer ∙ ap (λ (b : Bool). pick b (Refused (too_many First)) (Length (length table))) e

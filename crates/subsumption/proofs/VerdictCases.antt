@@ -21,7 +21,7 @@ use Rattle.picture.specs.Readable.{row_count}
 use Rattle.picture.specs.declared.answer.Input.{Input}
 use Rattle.picture.specs.declared.answer.Input.TheVariants.{Buffer, First, Second}
 use Rattle.meaning.specs.Covering.{covers}
-use Rattle.meaning.proofs.CasePictures.{all_of, all_row, empty, end, four_rows, impossible, none_reached, one, one_row, picture, root, row, some_both, some_each, some_reached, some_row, two}
+use Rattle.meaning.proofs.CasePictures.{all_of, all_row, empty, end, four_rows, impossible, none_reached, one, one_row, root, row, some_both, some_each, some_reached, some_row, two}
 use Rattle.meaning.specs.NormalTable.{merged_count, merged_tree, normal_file, normal_tree_of}
 use Rattle.homomorphism.specs.Map.{lowest_map, map_file}
 use Rattle.countermodel.specs.Writing.{individual_bytes, refutation_file}

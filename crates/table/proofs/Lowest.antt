@@ -1,7 +1,7 @@
 -- The lowest bit of a word.
 --   zeros_clear, zeros_found   of the zeros below it, in as many bits as are counted
 --   lowest_clear, lowest_set   below it there is none; it is one
-use Prim.Native.Nat.{◌%◌, ◌+◌, ◌/◌, ◌<◌, suc, zero, ℕ}
+use Prim.Native.Nat.{◌%◌, ◌/◌, ◌<◌, suc, zero, ℕ}
 use borrow.Author.Tests.{eq-eqb, ne_eqb}
 use lib.Count.{count_trailing_zeros, under}
 use mathlib.Core.Bool.{false, true}

@@ -4,12 +4,12 @@
 --   profile_bounded                 they are within the bounds
 use Prim.Native.Nat.{ℕ, ◌≤◌}
 use native.Mathlib.Omega.{arith}
-use borrow.Author.Tests.{eq-eqb, ne_eqb}
+use borrow.Author.Tests.{ne_eqb}
 use lib.Dec.{eqb}
 use mathlib.Core.Path.{◌≡◌, refl}
 use Rattle.table.specs.Bounds.{clip_limits, picture_size}
 use Rattle.table.specs.Profiles.{BoundedAt, profile_of}
-use Rattle.table.specs.declared.layout.Profile.TheVariants.{Known, Unknown}
+use Rattle.table.specs.declared.layout.Profile.TheVariants.{Unknown}
 use Rattle.table.proofs.Bools.{by_test}
 
 pub clip_agrees : picture_size clip_limits ≡ 1539

@@ -3,9 +3,9 @@
 --   take_before     what stands before them is as it was
 --   prefix_put      a row put after them is one more
 --   prefix_before   fewer rows of a longer prefix
-use Prim.Native.Nat.{◌*◌, ◌+◌, ◌≤◌, ℕ}
+use Prim.Native.Nat.{◌+◌, ◌≤◌, ℕ}
 use lib.ListN.{length, length-append, take}
-use lib.Seq.{length-take-le, take-append-le, take_at, take-take}
+use lib.Seq.{length-take-le, take_at, take-take}
 use mathlib.Core.List.{List, ◌++◌}
 use mathlib.Core.Path.{◌∙◌, ◌≡◌, ap, refl, sym}
 use native.Mathlib.Omega.{arith}

@@ -1,9 +1,9 @@
 -- When all questions of a call under a definitions book are answered yes.
---   one-yes      of the normal table: with room, of a picture that is readable, unfolds under a definable book, and has
+--   one_yes      of the normal table: with room, of a picture that is readable, unfolds under a definable book, and has
 --                few rows when unfolded and merged
---   pair-yes     1 to 14 of two pictures: with room, of an acceptable pair
---   lcs-yes      the same and 15: their product has few rows too
---   check-lent   1 to 14 of a check
+--   pair_yes     1 to 14 of two pictures: with room, of an acceptable pair
+--   lcs_yes      the same and 15: their product has few rows too
+--   check_lent   1 to 14 of a check
 --   verify_yes   the same and 16 to 23: the evidence is a map or a refutation of the unfolded pictures
 use Prim.Native.Nat.{◌≤◌, ℕ}
 use borrow.Author.Tests.{le-leb, leb-true}
@@ -31,10 +31,10 @@ use Rattle.under.proofs.Givens.{PreparedUnder, acceptable_unfolded}
 use Rattle.under.proofs.Orders.{one_decides, pair_decides}
 
 module _ (limits : Limits) (bounded : Bounded limits) (tbox : List ℕ) where
-  pub one-yes : (picture : List ℕ) (room : ℕ) → (normalize_all limits tbox picture room ≡ Yes)
+  pub one_yes : (picture : List ℕ) (room : ℕ) → (normalize_all limits tbox picture room ≡ Yes)
       ↔ ((picture_size limits ≤ room) × PreparedUnder limits tbox (one picture)
       × (merged_count limits (unfolded_file limits tbox picture) ≤ limits.rows))
-  one-yes picture room =
+  one_yes picture room =
       let decides = (one_decides limits bounded tbox picture room).yes in (
         λ e. let ((long, ok), few) = decides.0 e in (leb-true (picture_size limits) room long, ok, few),
         λ (long, ok, few). decides.1 ((le-leb (picture_size limits) room long, ok), few),
@@ -50,9 +50,9 @@ module _ (limits : Limits) (bounded : Bounded limits) (tbox : List ℕ) where
     abbrev Ok : Type 0
     Ok = AcceptableUnder limits tbox first second
 
-    pub pair-yes : (size work result : ℕ) → (pair_all limits tbox first second size work result ≡ Yes)
+    pub pair_yes : (size work result : ℕ) → (pair_all limits tbox first second size work result ≡ Yes)
         ↔ ((work_size limits ≤ work) × (size ≤ result) × Ok)
-    pair-yes size work result =
+    pair_yes size work result =
         let decides = (pair_decides limits bounded tbox first second (roomy limits size work result)).yes in (
           λ e.
               let (room, ok) = decides.0 e in
@@ -61,20 +61,20 @@ module _ (limits : Limits) (bounded : Bounded limits) (tbox : List ℕ) where
           λ (enough, long, ok). decides.1 (room_yes limits size work result enough long, ok),
         )
 
-    pub lcs-yes : (work result : ℕ) → (lcs_all limits tbox first second work result ≡ Yes)
+    pub lcs_yes : (work result : ℕ) → (lcs_all limits tbox first second work result ≡ Yes)
         ↔ ((work_size limits ≤ work) × (picture_size limits ≤ result) × Ok × (lcs_count limits p q ≤ limits.rows))
-    lcs-yes work result =
+    lcs_yes work result =
         let size = picture_size limits in
         let both = and_yes (pair_all limits tbox first second size work result) (large_asked limits p q) in
-        let lent = pair-yes size work result in
+        let lent = pair_yes size work result in
         let large = (test_decides (lcs_count limits p q) limits.rows too_large).yes in (
           λ e. let (a, b) = both.0 e in let (enough, long, ok) = lent.0 a in (enough, long, ok, large.0 b),
           λ (enough, long, ok, few). both.1 (lent.1 (enough, long, ok), large.1 few),
         )
 
-    pub check-lent : (room : ℕ) → (verify_lent_all limits tbox first second room ≡ Yes)
+    pub check_lent : (room : ℕ) → (verify_lent_all limits tbox first second room ≡ Yes)
         ↔ ((work_size limits ≤ room) × Ok)
-    check-lent room =
+    check_lent room =
         let decides = (pair_decides limits bounded tbox first second (leb (work_size limits) room)).yes in (
           λ e. let (enough, ok) = decides.0 e in (leb-true (work_size limits) room enough, ok),
           λ (enough, ok). decides.1 (le-leb (work_size limits) room enough, ok),
@@ -84,7 +84,7 @@ module _ (limits : Limits) (bounded : Bounded limits) (tbox : List ℕ) where
         ↔ ((work_size limits ≤ room) × Ok × (MapOf limits p q evidence ⊎ RefutationOf limits p q evidence))
     verify_yes evidence room =
         let both = and_yes (verify_lent_all limits tbox first second room) (evidence_asked limits p q evidence) in
-        let lent = check-lent room in (
+        let lent = check_lent room in (
           λ e. let (a, b) = both.0 e in let (enough, ok) = lent.0 a in (enough, ok, (taken ok).0 b),
           λ (enough, ok, is). both.1 (lent.1 (enough, ok), (taken ok).1 is),
         )

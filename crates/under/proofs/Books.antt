@@ -24,7 +24,7 @@ use lib.ListN.{get_or, length}
 use mathlib.Core.Bool.{false, true}
 use mathlib.Core.List.{List, []}
 use mathlib.Core.Logic.{◌↔◌, ◌⊎◌, ⊎_elim}
-use mathlib.Core.Path.{◌∙◌, ◌≡◌, ap, refl, subst, sym}
+use mathlib.Core.Path.{◌∙◌, ◌≡◌, ap, subst, sym}
 use native.Mathlib.Nat.{eq-or-lt_of_le, zero-add}
 use native.Mathlib.Omega.{arith}
 use Rattle.table.proofs.Bools.{by_test}
@@ -46,7 +46,7 @@ use Rattle.picture.specs.declared.answer.Input.TheVariants.{Card, First}
 use Rattle.picture.specs.declared.answer.Refusal.{Refusal}
 use Rattle.meaning.specs.Covering.{Covers}
 use Rattle.meaning.specs.NormalTable.{merged_count}
-use Rattle.normal.proofs.Answers.{TooMany, merged-decides, merged-refuses}
+use Rattle.normal.proofs.Answers.{TooMany, merged_decides, merged_refuses}
 use Rattle.normal.specs.Call.{merged_asked}
 use Rattle.workspace.specs.Prepare.{work_size}
 use Rattle.fields.specs.Form.{listed}
@@ -364,10 +364,10 @@ module _ (limits : Limits) (bounded : Bounded limits) (tbox case book : List ℕ
       (said_so (and_then (book_before limits tbox case book room) merged)
       (and_decides (book_before limits tbox case book room) merged (before_decides limits tbox case book room)
       (λ ok. and_decides (merged_asked limits First c) (asked_from (card_few limits tbox book) (card_count book) 0)
-      (merged-decides limits First c)
+      (merged_decides limits First c)
       (λ few. from_decides (card_few limits tbox book) Few
       (λ k. TooMany limits (Card k) (unfolded_file limits tbox (card book k))) (card_count book) 0
-      (λ k a l. merged-decides limits (Card k) (unfolded_file limits tbox (card book k)))))) (
+      (λ k a l. merged_decides limits (Card k) (unfolded_file limits tbox (card book k)))))) (
         λ ((long, ok), (few, each)). (
           long,
           record { prepared = ok; case_few = few; cards_few = λ k l. each k (omega arith) (omega arith) },
@@ -383,9 +383,9 @@ module _ (limits : Limits) (bounded : Bounded limits) (tbox case book : List ℕ
       subst (EveryRefusal P) (sym (book_order room))
       (and_refuses P (book_before limits tbox case book room) merged early
       (and_refuses P (merged_asked limits First c) (asked_from (card_few limits tbox book) (card_count book) 0)
-      (merged-refuses limits First c P many)
+      (merged_refuses limits First c P many)
       (from_refuses P (card_few limits tbox book) (card_count book) 0
-      (λ k a l. merged-refuses limits (Card k) (unfolded_file limits tbox (card book k)) P (each k (omega arith))))))
+      (λ k a l. merged_refuses limits (Card k) (unfolded_file limits tbox (card book k)) P (each k (omega arith))))))
 
   module _ (ok : PreparedBook limits tbox case book) where
     -- 1 is asked again

@@ -17,7 +17,7 @@ use lib.Dec.{leb}
 use lib.ListN.{length}
 use mathlib.Core.Bool.{Bool, false, true}
 use mathlib.Core.List.{List}
-use mathlib.Core.Path.{◌∙◌, ◌≡◌, ap, refl}
+use mathlib.Core.Path.{◌∙◌, ◌≡◌, ap}
 use Rattle.table.proofs.Bools.{by_test}
 use Rattle.table.specs.Bounds.{picture_size}
 use Rattle.table.specs.Put.{put}

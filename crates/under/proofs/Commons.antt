@@ -55,7 +55,7 @@ use Rattle.definitions.specs.Unfolded.{Definable, Unfolds, unfolded_file, unfold
 use Rattle.under.specs.Description.{DescriptionCoversUnder, LeastCommonUnder}
 use Rattle.under.specs.Calls.{lcs_result_under, lcs_under}
 use Rattle.under.specs.Given.{AcceptableUnder}
-use Rattle.under.proofs.Answers.{lcs-yes, pair-yes}
+use Rattle.under.proofs.Answers.{lcs_yes, pair_yes}
 use Rattle.under.proofs.Calls.{lcs_all_is, lcs_result_all, lcs_all}
 use Rattle.under.proofs.Givens.{acceptable_unfolded}
 
@@ -206,7 +206,7 @@ module _ (limits : Limits) (bounded : Bounded limits) (tbox first second : List 
       ⊎ ((lcs_under limits tbox first second work result ≡ Refused too_large) × (limits.rows < lcs_count limits p q))
   common_refused work result enough long =
       let count = lcs_count limits p q in
-      let before = (pair-yes limits bounded tbox first second (picture_size limits) work result).1 (enough, long, pair) in
+      let before = (pair_yes limits bounded tbox first second (picture_size limits) work result).1 (enough, long, pair) in
       let all = lcs_all_is limits tbox first second work result in
       by_test (leb count limits.rows) (λ few. inl (all ∙ rw (before, few)))
       (λ e. inr (all ∙ rw (before, e), leb-false count limits.rows e))
@@ -226,7 +226,7 @@ common_given_is limits bounded tbox first second work result n h =
     let (all, is) = given Refused (Length (length file)) (Length n)
     (λ r is. let z : ◌≡◌ {A = ℕ} 0 1 = cc in omega arith) asks
     (sym (lcs_all_is limits tbox first second work (length result)) ∙ h) in
-    let (enough, long, ok, few) = (lcs-yes limits bounded tbox first second work (length result)).0 all in
+    let (enough, long, ok, few) = (lcs_yes limits bounded tbox first second work (length result)).0 all in
     let sized : n ≡ length file = cc in
     let left : take n (lcs_result_under limits tbox first second work result) ≡ file =
     ap (λ (s : List ℕ). take n s)

@@ -53,7 +53,7 @@ use Rattle.definitions.specs.Covering.{Belongs, CoversUnder, RespectsBook}
 use Rattle.definitions.specs.Unfolded.{Definable, Unfolds, unfolded_file}
 use Rattle.under.specs.Calls.{subsumes_result_under, subsumes_under, verify_under}
 use Rattle.under.specs.Given.{AcceptableUnder}
-use Rattle.under.proofs.Answers.{pair-yes, verify_yes}
+use Rattle.under.proofs.Answers.{pair_yes, verify_yes}
 use Rattle.under.proofs.Calls.{pair_all, subsumes_all_is, subsumes_result_all, verify_all_is, verify_all}
 use Rattle.under.proofs.Givens.{acceptable_prepared, acceptable_unfolded, covers_same}
 
@@ -179,7 +179,7 @@ module _ (limits : Limits) (bounded : Bounded limits) (tbox : List ℕ) where
             subsumes_all_is limits tbox first second room result
             ∙ on_yes verdict.Refused (verdict_answer limits p q)
             (pair_all limits tbox first second (evidence_size limits) room result)
-            ((pair-yes limits bounded tbox first second (evidence_size limits) room result).1 (enough, long, ok))
+            ((pair_yes limits bounded tbox first second (evidence_size limits) room result).1 (enough, long, ok))
 
         pub evidence_left : (result : List ℕ) → evidence_size limits ≤ length result →
             subsumes_result_under limits tbox first second room result ≡ put result 0 (evidence_of limits p q)
@@ -187,7 +187,7 @@ module _ (limits : Limits) (bounded : Bounded limits) (tbox : List ℕ) where
             subsumes_result_all limits tbox first second room result
             ∙ kept_yes (put result 0 (evidence_of limits p q)) result
             (pair_all limits tbox first second (evidence_size limits) room (length result))
-            ((pair-yes limits bounded tbox first second (evidence_size limits) room (length result)).1
+            ((pair_yes limits bounded tbox first second (evidence_size limits) room (length result)).1
             (enough, long, ok))
 
         module _ (result : ℕ) (long : evidence_size limits ≤ result) where

@@ -12,7 +12,7 @@ use lib.Dec.{leb}
 use mathlib.Core.Bool.{Bool, true}
 use mathlib.Core.List.{List}
 use mathlib.Core.Logic.{◌⊎◌}
-use mathlib.Core.Path.{◌∙◌, ◌≡◌, refl, subst, sym}
+use mathlib.Core.Path.{◌∙◌, ◌≡◌, subst, sym}
 use Rattle.table.specs.Bounds.{Bounded, picture_size}
 use Rattle.table.specs.declared.layout.Limits.{Limits}
 use Rattle.picture.proofs.Orders.{Decides, EveryRefusal, and_decides, and_refuses, read_decides, said_so, then_same}
@@ -20,11 +20,11 @@ use Rattle.picture.specs.Asked.{and_then}
 use Rattle.picture.specs.Readable.{Readable}
 use Rattle.picture.specs.Refusal.{too_many}
 use Rattle.picture.specs.declared.answer.Asked.{Asked}
-use Rattle.picture.specs.declared.answer.Asked.TheVariants.{No, Yes}
+use Rattle.picture.specs.declared.answer.Asked.TheVariants.{Yes}
 use Rattle.picture.specs.declared.answer.Input.TheVariants.{First, Second}
 use Rattle.picture.specs.declared.answer.Refusal.{Refusal}
 use Rattle.meaning.specs.NormalTable.{merged_count}
-use Rattle.normal.proofs.Answers.{TooMany, merged-decides, merged-refuses, one_read}
+use Rattle.normal.proofs.Answers.{TooMany, merged_decides, merged_refuses, one_read}
 use Rattle.normal.specs.Call.{merged_asked, one_asked}
 use Rattle.workspace.proofs.Pairs.{lent_pair}
 use Rattle.workspace.specs.Lent.{lent_asked}
@@ -68,14 +68,14 @@ module _ (limits : Limits) (bounded : Bounded limits) (tbox : List ℕ) where
     one_decides =
         subst (λ a. Decides a (OneReady × (merged_count limits s ≤ limits.rows)) OneNo) (sym one_order)
         (and_decides (normalize_before limits tbox picture room) (merged_asked limits First s)
-        (lent_decides limits tbox (one picture) enough) (λ ok. merged-decides limits First s))
+        (lent_decides limits tbox (one picture) enough) (λ ok. merged_decides limits First s))
 
     pub one_refuses : (P : Refusal → Type 0) → EveryRefusal P (normalize_before limits tbox picture room) →
         P (too_many First) → EveryRefusal P (normalize_all limits tbox picture room)
     one_refuses P early many =
         subst (EveryRefusal P) (sym one_order)
         (and_refuses P (normalize_before limits tbox picture room) (merged_asked limits First s) early
-        (merged-refuses limits First s P many))
+        (merged_refuses limits First s P many))
 
   -- ---- two pictures, and whether the buffers are long enough
 
@@ -121,8 +121,8 @@ module _ (limits : Limits) (bounded : Bounded limits) (tbox : List ℕ) where
         subst (λ a. Decides a ((roomy ≡ true) × AcceptableUnder limits tbox first second) PairNo) (sym pair_order)
         (said_so (and_then before merged)
         (and_decides before merged (lent_decides limits tbox (pair first second) roomy)
-        (λ ok. and_decides (merged_asked limits First p) (merged_asked limits Second q) (merged-decides limits First p)
-        (λ few. merged-decides limits Second q))) (
+        (λ ok. and_decides (merged_asked limits First p) (merged_asked limits Second q) (merged_decides limits First p)
+        (λ few. merged_decides limits Second q))) (
           λ ((long, ok), (few, few-second)). (
             long,
             record {
@@ -146,4 +146,4 @@ module _ (limits : Limits) (bounded : Bounded limits) (tbox : List ℕ) where
         subst (EveryRefusal P) (sym pair_order)
         (and_refuses P before merged early
         (and_refuses P (merged_asked limits First p) (merged_asked limits Second q)
-        (merged-refuses limits First p P many) (merged-refuses limits Second q P many_second)))
+        (merged_refuses limits First p P many) (merged_refuses limits Second q P many_second)))

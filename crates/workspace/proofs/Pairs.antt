@@ -15,11 +15,11 @@ use Rattle.picture.specs.Asked.{and_then, read_asked, room_asked}
 use Rattle.picture.specs.Readable.{Readable}
 use Rattle.picture.specs.Refusal.{short_buffer}
 use Rattle.picture.specs.declared.answer.Asked.{Asked}
-use Rattle.picture.specs.declared.answer.Asked.TheVariants.{No, Yes}
+use Rattle.picture.specs.declared.answer.Asked.TheVariants.{No}
 use Rattle.picture.specs.declared.answer.Input.TheVariants.{First, Second}
 use Rattle.picture.specs.declared.answer.Refusal.{Refusal}
 use Rattle.meaning.specs.NormalTable.{merged_count}
-use Rattle.normal.proofs.Answers.{OfPicture, TooMany, merged-decides, merged-refuses}
+use Rattle.normal.proofs.Answers.{OfPicture, TooMany, merged_decides, merged_refuses}
 use Rattle.normal.specs.Call.{merged_asked}
 use Rattle.workspace.specs.Lent.{lent_asked}
 use Rattle.workspace.specs.Prepare.{Acceptable, pair_asked}
@@ -44,8 +44,8 @@ module _ (limits : Limits) (first second : List ℕ) where
       (and_decides read (and_then read-second merged) (read_decides limits First first)
       (λ r. and_decides read-second merged (read_decides limits Second second)
       (λ s. and_decides (merged_asked limits First first) (merged_asked limits Second second)
-      (merged-decides limits First first)
-      (λ few. merged-decides limits Second second)))) (
+      (merged_decides limits First first)
+      (λ few. merged_decides limits Second second)))) (
         λ (r, (s, (few, few-second))). record {
           first_readable = r;
           second_readable = s;
@@ -84,8 +84,8 @@ module _ (limits : Limits) (first second : List ℕ) where
         (and_refuses P read-second merged
         (read_refuses P limits Second second of-second.reads)
         (and_refuses P (merged_asked limits First first) (merged_asked limits Second second)
-        (merged-refuses limits First first P of-first.merges)
-        (merged-refuses limits Second second P of-second.merges)))
+        (merged_refuses limits First first P of-first.merges)
+        (merged_refuses limits Second second P of-second.merges)))
 
     pub lent_refuses : P short_buffer → (enough : Bool) → EveryRefusal P (lent_asked limits enough first second)
     unfolding lent_asked

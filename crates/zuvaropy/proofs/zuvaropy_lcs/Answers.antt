@@ -3,7 +3,6 @@ use mathlib.Core.Path.{◌∙◌, sym}
 use lib.ListN.{length}
 use Rattle.interface.specs.Calls.{lcs_word}
 use Rattle.interface.proofs.Values.{common_small}
-use borrow.Author.Rules.{rules}
 use Rattle.zuvaropy.proofs.zuvaropy_lcs.Goals as goal
 
 pub common_word-requires : goal.common_word-requires

@@ -1,7 +1,6 @@
 -- The word of the answer; the word of cards is its value.
 use mathlib.Core.Path.{sym}
 use Rattle.interface.specs.Calls.{most_specific_word}
-use borrow.Author.Rules.{rules}
 use Rattle.zuvaropy.proofs.zuvaropy_most_specific.Goals as goal
 
 pub returns : goal.returns

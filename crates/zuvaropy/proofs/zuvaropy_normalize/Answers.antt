@@ -2,7 +2,6 @@
 use mathlib.Core.Path.{◌∙◌, sym}
 use Rattle.interface.specs.Calls.{normalize_word}
 use Rattle.interface.proofs.Values.{normal_small}
-use borrow.Author.Rules.{rules}
 use Rattle.zuvaropy.proofs.zuvaropy_normalize.Goals as goal
 
 pub normalized_word-requires : goal.normalized_word-requires

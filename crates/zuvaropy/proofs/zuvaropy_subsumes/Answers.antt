@@ -3,7 +3,6 @@ use mathlib.Core.Path.{◌∙◌, sym}
 use lib.ListN.{length}
 use Rattle.interface.specs.Calls.{subsumes_word}
 use Rattle.interface.proofs.Values.{verdict_small}
-use borrow.Author.Rules.{rules}
 use Rattle.zuvaropy.proofs.zuvaropy_subsumes.Goals as goal
 
 pub verdict_word-requires : goal.verdict_word-requires

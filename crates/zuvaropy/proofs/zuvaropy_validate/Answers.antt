@@ -5,7 +5,6 @@ use native.Mathlib.Omega.{arith}
 use Rattle.table.specs.Bounds.{max_rows}
 use Rattle.picture.proofs.Readables.{answer_most}
 use Rattle.interface.specs.Calls.{validate_word}
-use borrow.Author.Rules.{rules}
 use Rattle.zuvaropy.proofs.zuvaropy_validate.Goals as goal
 
 pub read_word-requires : goal.read_word-requires

@@ -1,7 +1,6 @@
 -- The word of the answer.
 use mathlib.Core.Path.{sym}
 use Rattle.interface.specs.Calls.{verify_word}
-use borrow.Author.Rules.{rules}
 use Rattle.zuvaropy.proofs.zuvaropy_verify.Goals as goal
 
 pub returns : goal.returns

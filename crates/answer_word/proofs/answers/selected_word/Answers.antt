@@ -1,7 +1,6 @@
 -- The arm that was taken says which answer it is.
 use mathlib.Core.Path.{◌∙◌, ap, sym}
 use Rattle.interface.specs.Word.{selected_word}
-use borrow.Author.Rules.{rules}
 use Rattle.answer_word.proofs.answers.selected_word.Goals as goal
 
 pub returns-in-Cards : goal.returns-in-Cards

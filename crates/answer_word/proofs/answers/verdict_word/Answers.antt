@@ -2,7 +2,6 @@
 use native.Mathlib.Omega.{arith}
 use mathlib.Core.Path.{◌∙◌, ap, sym}
 use Rattle.interface.specs.Word.{verdict_word}
-use borrow.Author.Rules.{rules}
 use Rattle.answer_word.proofs.answers.verdict_word.Goals as goal
 
 pub value_word-requires : goal.value_word-requires

@@ -1,7 +1,6 @@
 -- The arm that was taken says which answer it is.
 use mathlib.Core.Path.{◌∙◌, ap, sym}
 use Rattle.interface.specs.Word.{verified_word}
-use borrow.Author.Rules.{rules}
 use Rattle.answer_word.proofs.answers.verified_word.Goals as goal
 
 pub returns-in-Refused : goal.returns-in-Refused

@@ -1,5 +1,4 @@
 -- 24 is the form of fields with the tag of a card.
-use borrow.Author.Rules.{rules}
 use Rattle.book.specs.Form.{card_tag}
 use Rattle.book_form.proofs.form.has_book_form.Goals as goal
 

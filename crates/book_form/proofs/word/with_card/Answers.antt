@@ -1,6 +1,5 @@
 -- One bit more.
 use Rattle.book_form.proofs.CardSets.{with_bit}
-use borrow.Author.Rules.{rules}
 use Rattle.book_form.proofs.word.with_card.Goals as goal
 
 pub returns : goal.returns

@@ -12,7 +12,6 @@ use Rattle.under.specs.Book.{unfolded_book}
 use Rattle.book_selection.specs.Comparing.{Compared}
 use Rattle.book_selection.specs.Standing.{Stands}
 use Rattle.book_selection.proofs.Standings.{stands_whole}
-use borrow.Author.Rules.{rules}
 use Rattle.book_selection.proofs.compare.compare_card.Goals as goal
 
 pub find_table-own-requires : goal.find_table-own-requires

@@ -1,15 +1,10 @@
-use Prim.Native.Nat.{◌+◌, ◌-◌, ◌<◌, ℕ}
+use Prim.Native.Nat.{◌+◌, ◌<◌, ℕ}
 use native.Mathlib.Omega.{arith}
-use lib.ListN.{length}
 use mathlib.Core.Bool.{true}
 use mathlib.Core.List.{List}
-use mathlib.Core.Path.{◌∙◌, ◌≡◌, refl, sym}
-use Rattle.table.specs.NameSet.{has}
-use Rattle.workspace.specs.Prepare.{work_size}
+use mathlib.Core.Path.{◌∙◌, refl, sym}
 use Rattle.book.specs.Form.{most_cards}
-use Rattle.book_tables.specs.Cache.{Cached}
 use Rattle.under.specs.Book.{unfolded_book}
-use Rattle.book_selection.specs.Comparing.{Compared}
 use Rattle.book_selection.proofs.Comparisons.{none_compared, cards_left}
 use Rattle.book_selection.proofs.compare.compare_cards.Goals as goal
 

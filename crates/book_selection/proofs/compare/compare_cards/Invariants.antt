@@ -1,18 +1,15 @@
 -- At the loop's head the cards below m are compared with all earlier ones, and m is the next that covers the case, or
 -- past the last card.
-use Prim.Native.Nat.{◌+◌, ◌-◌, ◌<◌, ℕ}
-use native.Mathlib.Omega.{arith}
+use Prim.Native.Nat.{◌-◌, ◌<◌}
 use lib.ListN.{length}
 use mathlib.Core.Bool.{true}
-use mathlib.Core.List.{List}
-use mathlib.Core.Path.{◌∙◌, ◌≡◌, refl, sym}
+use mathlib.Core.Path.{◌≡◌}
 use Rattle.table.specs.NameSet.{has}
 use Rattle.workspace.specs.Prepare.{work_size}
 use Rattle.book.specs.Form.{most_cards}
 use Rattle.book_tables.specs.Cache.{Cached}
 use Rattle.under.specs.Book.{unfolded_book}
 use Rattle.book_selection.specs.Comparing.{Compared}
-use Rattle.book_selection.proofs.Comparisons.{none_compared, cards_left}
 use Rattle.book_selection.proofs.compare.compare_cards.Given as goal
 
 abbrev pub invariant-loop-m : goal.invariant-loop-m

@@ -1,17 +1,14 @@
-use Prim.Native.Nat.{◌+◌, ◌-◌, ◌<◌, ℕ}
+use Prim.Native.Nat.{◌+◌, ◌<◌, ℕ}
 use native.Mathlib.Omega.{arith}
-use borrow.Author.Rules.{rules}
 use mathlib.Core.Bool.{false, true}
 use mathlib.Core.List.{List}
-use mathlib.Core.Path.{◌∙◌, ◌≡◌, refl, sym}
-use Rattle.table.specs.NameSet.{has}
+use mathlib.Core.Path.{◌∙◌, refl, sym}
 use Rattle.table_rows.proofs.Stores.{blank}
 use Rattle.fields.proofs.Forms.{count_most}
 use Rattle.book.proofs.Selections.{cards_preorder}
 use Rattle.book.specs.Form.{card_tag, most_cards}
 use Rattle.under.specs.Book.{unfolded_book}
-use Rattle.book_selection.specs.Comparing.{ComparedTo, Paired}
-use Rattle.book_selection.specs.Standing.{OwnTable}
+use Rattle.book_selection.specs.Comparing.{Paired}
 use Rattle.book_selection.proofs.Comparisons.{earlier_ended, earlier_next, earlier_stopped}
 use Rattle.book_selection.proofs.Comparisons.{pair_compared, paired}
 use Rattle.book_selection.proofs.Standings.{stands_checkable}

@@ -8,7 +8,6 @@ use Rattle.under.specs.Book.{unfolded_book}
 use Rattle.book_selection.specs.Comparing.{Ordered}
 use Rattle.book_selection.specs.Standing.{OwnTable}
 use Rattle.book_selection.proofs.Standings.{own_kept, spots_order, stands_checkable}
-use borrow.Author.Rules.{rules}
 use Rattle.book_selection.proofs.compare.compare_pair.Goals as goal
 
 pub find_table-other-requires : goal.find_table-other-requires

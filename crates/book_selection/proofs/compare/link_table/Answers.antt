@@ -4,7 +4,6 @@ use Rattle.row_sets.specs.Rows.{Checked}
 use Rattle.table.specs.Bounds.{max_rows}
 use Rattle.table.specs.Fields.{parent_of}
 use Rattle.table_rows.specs.Links.{Linked}
-use borrow.Author.Rules.{rules}
 use Rattle.book_selection.proofs.compare.link_table.Goals as goal
 
 pub fill_links-requires : goal.fill_links-requires

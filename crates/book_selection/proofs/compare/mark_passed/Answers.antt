@@ -2,7 +2,6 @@
 use mathlib.Core.Bool.{◌&&◌, false, not, true}
 use mathlib.Core.Path.{◌≡◌}
 use Rattle.book_form.proofs.CardSets.{with_each, with_more, with_none}
-use borrow.Author.Rules.{rules}
 use Rattle.book_selection.proofs.compare.mark_passed.Goals as goal
 
 pub returns-then-order-2 : goal.returns-then-order-2

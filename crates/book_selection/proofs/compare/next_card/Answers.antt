@@ -1,6 +1,5 @@
 -- The word has no bit past the last card.
 use native.Mathlib.Omega.{arith}
-use borrow.Author.Rules.{rules}
 use Rattle.book_selection.proofs.compare.next_card.Goals as goal
 
 pub returns : goal.returns

@@ -9,7 +9,6 @@ use Rattle.book.proofs.Selections.{cards_preorder}
 use Rattle.book.specs.Form.{card_tag, most_cards}
 use Rattle.under.specs.Book.{unfolded_book}
 use Rattle.book_selection.proofs.Comparisons.{cleared, selected_bits}
-use borrow.Author.Rules.{rules}
 use Rattle.book_selection.proofs.compare.select_cards.Goals as goal
 
 pub compare_cards-redundant-requires : goal.compare_cards-redundant-requires

@@ -1,6 +1,5 @@
 -- A cached table is there already; another stands at the start of the work space, which is what is copied.
 use Rattle.book_selection.proofs.Standings.{stands_kept, stands_start}
-use borrow.Author.Rules.{rules}
 use Rattle.book_selection.proofs.spot.cache_table.Goals as goal
 
 pub store-requires : goal.store-requires

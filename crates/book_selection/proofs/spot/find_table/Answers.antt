@@ -12,7 +12,6 @@ use Rattle.book_tables.proofs.CardTables.{count_is}
 use Rattle.book_tables.proofs.Parts.{made_before, part_room}
 use Rattle.under.specs.Book.{unfolded_book}
 use Rattle.book_selection.proofs.Standings.{cached_stands, made_stands}
-use borrow.Author.Rules.{rules}
 use Rattle.book_selection.proofs.spot.find_table.Goals as goal
 
 pub overflow_add-rows : goal.overflow_add-rows

@@ -1,8 +1,6 @@
 -- The card is the part of the book that is looked up; what is found in the definitions book is what unfolding needs.
 use native.Mathlib.Omega.{arith}
-use borrow.Author.Rules.{rules}
-use mathlib.Core.Path.{◌∙◌, ◌≡◌}
-use mathlib.Core.Bool.{true}
+use mathlib.Core.Path.{◌∙◌}
 use Rattle.table.specs.NameValues.{set_of}
 use Rattle.unfold_tables.specs.Ready.{Ready}
 use Rattle.book_tables.proofs.CardTables.{card_room, card_tabled}

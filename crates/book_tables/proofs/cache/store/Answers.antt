@@ -8,7 +8,6 @@ use mathlib.Core.Path.{◌∙◌, ◌≡◌, ap, refl, subst, sym}
 use Rattle.table.proofs.Puts.{length_put}
 use Rattle.book_tables.specs.Cache.{Cached}
 use Rattle.book_tables.proofs.Caches.{cached_stored}
-use borrow.Author.Rules.{rules}
 use Rattle.book_tables.proofs.cache.store.Goals as goal
 
 pub returns-then-tables-at : goal.returns-then-tables-at

@@ -1,14 +1,13 @@
-use Prim.Native.Nat.{◌-◌, ◌≤◌, ℕ}
+use Prim.Native.Nat.{ℕ}
 use native.Mathlib.Omega.{arith}
-use borrow.Author.Rules.{rules}
-use borrow.Author.Tests.{leb-true, not-false, not-true}
+use borrow.Author.Tests.{leb-true}
 use lib.Dec.{leb}
 use mathlib.Core.List.{List}
 use mathlib.Core.Path.{◌∙◌, ◌≡◌, ap, subst, sym}
 use Rattle.table.specs.NameValues.{set_of}
 use Rattle.meaning.specs.NormalTable.{merged_count}
-use Rattle.normal.proofs.Answers.{merged-decides, merged-many}
-use Rattle.picture.proofs.Orders.{YesTo, to_no, to_yes, yes_on}
+use Rattle.normal.proofs.Answers.{merged_decides, merged_many}
+use Rattle.picture.proofs.Orders.{to_no, to_yes, yes_on}
 use Rattle.picture.specs.Refusal.{too_many}
 use Rattle.picture.specs.declared.answer.Input.TheVariants.{Card}
 use Rattle.book.specs.Form.{card}
@@ -44,7 +43,7 @@ returns-then-not-is_unfolded_within c =
     c.card.ensures in
     let a = c.args in
     let k = c.loop-k.k in
-    let no = merged-many a.limits (Card k) (asked_of)
+    let no = merged_many a.limits (Card k) (asked_of)
     (sym (says) ∙ c.if-not-is_unfolded_within.true) in
     rw c.too_many.ensures
     (sym (to_no (card_few a.limits a.tbox.now a.book.now) a.books.cards.count k (too_many (Card k))
@@ -71,7 +70,7 @@ loop-k-preserved c =
     (sym (says) ∙ c.if-not-is_unfolded_within.false) in (
       omega (arith, c.loop-k-test.true),
       yes_on (card_few a.limits a.tbox.now a.book.now) k
-          ((merged-decides a.limits (Card k) (asked_of)).yes.1 few) c.loop-k.invariant.1,
+          ((merged_decides a.limits (Card k) (asked_of)).yes.1 few) c.loop-k.invariant.1,
     )
 
 pub returns : goal.returns

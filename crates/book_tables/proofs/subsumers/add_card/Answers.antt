@@ -1,8 +1,6 @@
 -- A card that does not cover the case adds nothing; one that does adds its bit, and its table.
 use Prim.Native.Nat.{◌^◌}
 use native.Mathlib.Omega.{arith}
-use borrow.Author.Rules.{rules}
-use borrow.Author.Tests.{not-false, not-true}
 use mathlib.Core.Bool.{Bool}
 use mathlib.Core.Path.{ap}
 use Rattle.table.specs.Pick.{pick}

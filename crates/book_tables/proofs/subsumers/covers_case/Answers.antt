@@ -1,6 +1,5 @@
 -- Both tables are parts of the bytes that are lent; the links of the card's are made here.
 use mathlib.Core.Path.{refl, subst, sym}
-use borrow.Author.Rules.{rules}
 use Rattle.table_rows.proofs.Stores.{blank}
 use Rattle.row_sets.specs.Rows.{Checked}
 use Rattle.homomorphism_search.specs.Search.{LinkedTable}

@@ -1,7 +1,6 @@
 -- The case's table is made at the start of the work space, and the cards are tested against it.
 use Prim.Native.Nat.{ℕ}
 use native.Mathlib.Omega.{arith}
-use borrow.Author.Rules.{rules}
 use mathlib.Core.List.{List}
 use mathlib.Core.Path.{◌∙◌, refl, subst, sym}
 use Rattle.table_rows.proofs.Stores.{blank}

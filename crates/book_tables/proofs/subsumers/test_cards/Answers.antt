@@ -3,13 +3,12 @@ use native.Mathlib.Omega.{arith}
 use borrow.Rule.Slice.PartMut.{mid_of}
 use lib.ListN.{length}
 use mathlib.Core.List.{List}
-use mathlib.Core.Path.{◌∙◌, ◌≡◌, refl, sym}
+use mathlib.Core.Path.{◌∙◌, refl, sym}
 use Rattle.table.specs.Bounds.{picture_size}
-use Rattle.normal_writer.specs.Tables.{Tabled, table_in}
+use Rattle.normal_writer.specs.Tables.{Tabled}
 use Rattle.meaning.specs.NormalTable.{merged_count}
 use Rattle.book.specs.Form.{card, card_count}
 use Rattle.under.specs.Book.{unfolded_book}
-use Rattle.book_tables.specs.Cache.{SubsumersBelow}
 use Rattle.book_tables.proofs.CardTables.{card_room, card_tabled, cards_taken, count_is}
 use Rattle.book_tables.proofs.CardTests.{addable, test_all, test_half, test_next, test_start, testable}
 use Rattle.book_tables.proofs.Parts.{part_room, with_upper}

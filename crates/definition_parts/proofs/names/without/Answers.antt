@@ -1,5 +1,4 @@
 -- An intersection with the complement of the set of one name.
-use borrow.Author.Rules.{rules}
 use Rattle.table.specs.NameValues.{set_of}
 use Rattle.definition_parts.proofs.NameWalks.{struck_has}
 use Rattle.definition_parts.proofs.names.without.Goals as goal

@@ -2,7 +2,6 @@
 use Prim.Native.Nat.{◌+◌, ◌-◌}
 use native.Mathlib.Omega.{arith}
 use mathlib.Core.Path.{◌≡◌, ap}
-use borrow.Author.Rules.{rules}
 use lib.ListN.{drop, take}
 use Rattle.definition_parts.specs.Parts.{part_length_of}
 use Rattle.definition_parts.proofs.part.part.Goals as goal

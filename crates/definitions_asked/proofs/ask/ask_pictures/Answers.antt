@@ -1,5 +1,4 @@
 -- 27 of all pictures, lot by lot; 28; and, where they are answered yes, 29 and 30.
-use borrow.Author.Rules.{rules}
 use mathlib.Core.List.{List, ◌++◌}
 use mathlib.Core.Path.{◌∙◌, ◌≡◌, ap, ap₂, subst, sym}
 use Rattle.ale.specs.PictureSignature.{picture_signature}

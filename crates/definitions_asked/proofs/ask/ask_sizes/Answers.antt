@@ -1,5 +1,4 @@
 -- The lots one after the other are all pictures.
-use borrow.Author.Rules.{rules}
 use mathlib.Core.List.{◌++◌}
 use mathlib.Core.Path.{◌∙◌, ap, subst, sym}
 use Rattle.table.specs.NameValues.{set_of}

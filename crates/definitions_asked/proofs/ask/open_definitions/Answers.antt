@@ -1,6 +1,4 @@
 -- The end field alone; a no of 25 or of 2 to 13; or what is left to ask.
-use borrow.Author.Rules.{rules}
-use borrow.Author.Tests.{not-false, not-true}
 use mathlib.Core.List.{List}
 use mathlib.Core.Path.{◌∙◌, subst, sym}
 use Rattle.picture.specs.Refusal.{refusal}

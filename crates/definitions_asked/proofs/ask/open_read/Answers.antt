@@ -1,5 +1,4 @@
 -- A no of 26, or what is left to ask of the pictures; where all is yes, the index is what was looked for.
-use borrow.Author.Rules.{rules}
 use borrow.Author.Tests.{not-false, not-true}
 use mathlib.Core.List.{List}
 use mathlib.Core.Path.{◌∙◌, subst, sym}

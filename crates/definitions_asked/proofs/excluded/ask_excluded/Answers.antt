@@ -1,14 +1,11 @@
-use Prim.Native.Nat.{◌-◌, ◌<◌, ◌≤◌, ℕ}
+use Prim.Native.Nat.{◌<◌, ◌≤◌}
 use native.Mathlib.Omega.{arith}
-use borrow.Author.Rules.{rules}
-use mathlib.Core.List.{List}
 use mathlib.Core.Path.{◌≡◌, refl, subst, sym}
 use Rattle.table.specs.Bounds.{max_rows}
 use Rattle.table.specs.NameValues.{set_of}
 use Rattle.picture.specs.Readable.{row_count}
 use Rattle.fields.specs.Form.{listed}
 use Rattle.definitions.specs.Asked.{question_of}
-use Rattle.definitions.specs.Tbox.{defined_word}
 use Rattle.definitions.specs.Unfolded.{excludes_none}
 use Rattle.definitions_asked.specs.Lots.{Asks, count_in, picture_in}
 use Rattle.definitions_asked.proofs.AskedInTurn.{asks_next, asks_none, excluded_one}

@@ -1,18 +1,13 @@
 -- At the loop's head the pictures before picture k are asked.
-use Prim.Native.Nat.{◌-◌, ◌<◌, ◌≤◌, ℕ}
-use native.Mathlib.Omega.{arith}
-use borrow.Author.Rules.{rules}
+use Prim.Native.Nat.{◌-◌, ◌≤◌, ℕ}
 use mathlib.Core.List.{List}
-use mathlib.Core.Path.{◌≡◌, refl, subst, sym}
-use Rattle.table.specs.Bounds.{max_rows}
+use mathlib.Core.Path.{◌≡◌}
 use Rattle.table.specs.NameValues.{set_of}
-use Rattle.picture.specs.Readable.{row_count}
 use Rattle.fields.specs.Form.{listed}
 use Rattle.definitions.specs.Asked.{question_of}
 use Rattle.definitions.specs.Tbox.{defined_word}
 use Rattle.definitions.specs.Unfolded.{excludes_none}
-use Rattle.definitions_asked.specs.Lots.{Asks, count_in, picture_in}
-use Rattle.definitions_asked.proofs.AskedInTurn.{asks_next, asks_none, excluded_one}
+use Rattle.definitions_asked.specs.Lots.{Asks, picture_in}
 use Rattle.definitions_asked.proofs.excluded.ask_excluded.Given as goal
 
 abbrev pub invariant-loop-k : goal.invariant-loop-k

@@ -1,5 +1,4 @@
 -- By the definition's cases.
-use borrow.Author.Rules.{rules}
 use Rattle.definitions_asked.proofs.lots.input_in.Goals as goal
 
 pub returns-in-Cards : goal.returns-in-Cards

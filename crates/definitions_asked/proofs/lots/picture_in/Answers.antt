@@ -1,6 +1,5 @@
 -- A part of the book, or all of the slice.
 use Prim.Native.Nat.{◌<◌}
-use borrow.Author.Rules.{rules}
 use mathlib.Core.Path.{◌∙◌, ap, subst, sym}
 use Rattle.definitions_asked.specs.Lots.{There, count_in, file_in}
 use Rattle.definitions_asked.proofs.lots.picture_in.Goals as goal

@@ -1,7 +1,5 @@
 -- A picture that wants no defined name is its own unfolded picture; after a no of 29 nothing is asked.
 use native.Mathlib.Omega.{arith}
-use borrow.Author.Rules.{rules}
-use borrow.Author.Tests.{not-true}
 use mathlib.Core.Path.{◌∙◌, refl, sym}
 use Rattle.table.specs.NameValues.{set_of}
 use Rattle.picture.proofs.Readables.{readable_most}

@@ -1,6 +1,5 @@
-use Prim.Native.Nat.{◌-◌, ◌<◌, ◌≤◌}
+use Prim.Native.Nat.{◌<◌}
 use native.Mathlib.Omega.{arith}
-use borrow.Author.Rules.{rules}
 use mathlib.Core.Path.{◌≡◌, subst, sym}
 use Rattle.picture.specs.Readable.{Readable}
 use Rattle.fields.specs.Form.{listed}

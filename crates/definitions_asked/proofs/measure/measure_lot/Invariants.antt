@@ -1,13 +1,8 @@
 -- At the loop's head 29 and 30 are asked of the pictures before picture k.
-use Prim.Native.Nat.{◌-◌, ◌<◌, ◌≤◌}
-use native.Mathlib.Omega.{arith}
-use borrow.Author.Rules.{rules}
-use mathlib.Core.Path.{◌≡◌, subst, sym}
-use Rattle.picture.specs.Readable.{Readable}
+use Prim.Native.Nat.{◌-◌, ◌≤◌}
 use Rattle.fields.specs.Form.{listed}
-use Rattle.definitions_asked.specs.Lots.{count_in, picture_in}
+use Rattle.definitions_asked.specs.Lots.{picture_in}
 use Rattle.definitions_asked.specs.Measures.{Measured}
-use Rattle.definitions_asked.proofs.Sizes.{measured_as, measured_next, measured_none}
 use Rattle.definitions_asked.proofs.measure.measure_lot.Given as goal
 
 abbrev pub invariant-loop-k : goal.invariant-loop-k

@@ -2,7 +2,6 @@
 -- the way back from the unfolded rows to the entry
 use Prim.Native.Nat.{◌≤◌}
 use native.Mathlib.Omega.{arith}
-use borrow.Author.Rules.{rules}
 use mathlib.Core.Path.{◌∙◌, ap, refl}
 use Rattle.table.specs.NameValues.{set_of}
 use Rattle.picture.proofs.Readables.{readable_most}

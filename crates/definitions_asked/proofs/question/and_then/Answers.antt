@@ -1,5 +1,4 @@
 -- By the definition's two cases.
-use borrow.Author.Rules.{rules}
 use Rattle.definitions_asked.proofs.question.and_then.Goals as goal
 
 pub returns-in-No : goal.returns-in-No

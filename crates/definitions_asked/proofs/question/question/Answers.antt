@@ -1,5 +1,4 @@
 -- By the test.
-use borrow.Author.Rules.{rules}
 use mathlib.Core.Path.{◌∙◌, ap, sym}
 use Rattle.picture.specs.declared.answer.Asked.TheVariants.{No}
 use Rattle.definitions.specs.Asked.{question}

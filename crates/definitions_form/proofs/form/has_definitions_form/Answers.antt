@@ -1,11 +1,9 @@
-use Prim.Native.Nat.{◌-◌, ◌<◌}
 use native.Mathlib.Omega.{arith}
-use borrow.Author.Tests.{not-false, not-true}
 use mathlib.Core.Bool.{false, true}
 use mathlib.Core.Path.{◌∙◌, ◌≡◌, refl, sym}
 use Rattle.fields.specs.Form.{fields_form}
 use Rattle.definitions.specs.Form.{definition_tag}
-use Rattle.definitions_form.proofs.NamedDefinitions.{NamedTo, form_by, named_all, named_fails, named_next, named_start}
+use Rattle.definitions_form.proofs.NamedDefinitions.{form_by, named_all, named_fails, named_next, named_start}
 use Rattle.definitions_form.proofs.form.has_definitions_form.Goals as goal
 
 pub has_form-requires : goal.has_form-requires

@@ -1,6 +1,5 @@
 -- Without a name byte it is not named; else the byte says it.
 use native.Mathlib.Omega.{arith}
-use borrow.Author.Rules.{rules}
 use Rattle.definitions_form.proofs.NamedDefinitions.{by_name, no_name}
 use Rattle.definitions_form.proofs.form.is_named.Goals as goal
 

@@ -1,6 +1,5 @@
 -- 25 says that there is a name byte.
 use native.Mathlib.Omega.{arith}
-use borrow.Author.Rules.{rules}
 use lib.ListN.{get_or, length}
 use mathlib.Core.Path.{◌∙◌, ap}
 use Rattle.definitions.proofs.Coverings.{name_byte}

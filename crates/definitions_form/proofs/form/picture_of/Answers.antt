@@ -1,7 +1,6 @@
 -- 25 says that there is a name byte; the rest of the value is the picture.
 use Prim.Native.Nat.{◌-◌, ◌≤◌}
 use native.Mathlib.Omega.{arith}
-use borrow.Author.Rules.{rules}
 use lib.ListN.{drop, length, length-drop}
 use lib.Seq.{take_all}
 use mathlib.Core.Path.{◌∙◌, ap}

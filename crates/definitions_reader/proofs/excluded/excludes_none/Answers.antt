@@ -1,14 +1,12 @@
 use mathlib.Core.Bool.{not}
 use mathlib.Core.Path.{◌∙◌, ◌≡◌, ap, sym}
-use Prim.Native.Nat.{◌-◌}
 use native.Mathlib.Nat.{sub-zero}
 use native.Mathlib.Omega.{arith}
-use borrow.Author.Rules.{rules}
 use Rattle.table.proofs.Ranges.{each_done, each_fails, each_on}
 use Rattle.table.specs.NameValues.{set_of}
 use Rattle.table.specs.Range.{each}
 use Rattle.picture.specs.Readable.{row_count}
-use Rattle.definitions_reader.specs.Excluded.{excludes_at, excludes_none_of}
+use Rattle.definitions_reader.specs.Excluded.{excludes_at}
 use Rattle.definitions_reader.proofs.Exclusions.{load_excluded}
 use Rattle.definitions_reader.proofs.excluded.excludes_none.Goals as goal
 

@@ -1,16 +1,10 @@
 -- At the loop's head no row before row j excludes a name of the set: what is left to ask is the test from row j on.
 use mathlib.Core.Bool.{not}
-use mathlib.Core.Path.{◌∙◌, ◌≡◌, ap, sym}
+use mathlib.Core.Path.{◌≡◌}
 use Prim.Native.Nat.{◌-◌}
-use native.Mathlib.Nat.{sub-zero}
-use native.Mathlib.Omega.{arith}
-use borrow.Author.Rules.{rules}
-use Rattle.table.proofs.Ranges.{each_done, each_fails, each_on}
 use Rattle.table.specs.NameValues.{set_of}
 use Rattle.table.specs.Range.{each}
-use Rattle.picture.specs.Readable.{row_count}
 use Rattle.definitions_reader.specs.Excluded.{excludes_at, excludes_none_of}
-use Rattle.definitions_reader.proofs.Exclusions.{load_excluded}
 use Rattle.definitions_reader.proofs.excluded.excludes_none.Given as goal
 
 abbrev pub invariant-loop-j : goal.invariant-loop-j

@@ -1,6 +1,5 @@
 use mathlib.Core.Path.{ap}
 use mathlib.Core.Bool.{not}
-use borrow.Author.Rules.{rules}
 use Rattle.definitions_reader.proofs.index.still_once.Goals as goal
 
 pub returns-then-once : goal.returns-then-once

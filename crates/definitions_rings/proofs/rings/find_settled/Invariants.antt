@@ -1,12 +1,9 @@
 -- After each round the set is that of so many rounds; a round that adds none is the last that is needed.
 use Prim.Native.Nat.{◌-◌, ◌≤◌}
-use native.Mathlib.Omega.{arith}
-use borrow.Author.Rules.{rules}
-use mathlib.Core.Path.{◌∙◌, ◌≡◌, ap, sym}
+use mathlib.Core.Path.{◌≡◌}
 use Rattle.table.specs.Layout.{name_count}
 use Rattle.table.specs.NameValues.{set_of}
 use Rattle.definitions_rings.specs.Rings.{settled_set, uses_at}
-use Rattle.definitions_rings.proofs.SettledSets.{round_last, round_more, settled_none}
 use Rattle.definitions_rings.proofs.rings.find_settled.Given as goal
 
 abbrev pub invariant-loop-round : goal.invariant-loop-round

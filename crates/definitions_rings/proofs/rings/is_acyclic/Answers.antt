@@ -1,5 +1,4 @@
 -- The rounds over words are those of the theory.
-use borrow.Author.Rules.{rules}
 use mathlib.Core.Path.{◌∙◌, ap}
 use Prim.Native.Nat.{ℕ}
 use Rattle.table.specs.NameSet.{subset}

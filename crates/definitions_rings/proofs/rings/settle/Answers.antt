@@ -1,11 +1,8 @@
-use Prim.Native.Nat.{◌-◌}
 use native.Mathlib.Omega.{arith}
-use borrow.Author.Rules.{rules}
-use Rattle.table.specs.Layout.{name_count}
 use Rattle.table.specs.NameValues.{set_of}
 use Rattle.definition_parts.proofs.NameWalks.{walk_later}
 use Rattle.definitions_rings.specs.Rings.{uses_at}
-use Rattle.definitions_rings.proofs.Settlings.{Settling, settling_done, settling_next, settling_start}
+use Rattle.definitions_rings.proofs.Settlings.{settling_done, settling_next, settling_start}
 use Rattle.definitions_rings.proofs.rings.settle.Goals as goal
 
 pub loop-name-init : goal.loop-name-init

@@ -1,13 +1,10 @@
 -- Each defined name is asked once, and found where its uses are all in the set.
 -- `t1` is `uses`, which is indexed.
 use Prim.Native.Nat.{◌-◌}
-use native.Mathlib.Omega.{arith}
-use borrow.Author.Rules.{rules}
 use Rattle.table.specs.Layout.{name_count}
 use Rattle.table.specs.NameValues.{set_of}
-use Rattle.definition_parts.proofs.NameWalks.{walk_later}
 use Rattle.definitions_rings.specs.Rings.{uses_at}
-use Rattle.definitions_rings.proofs.Settlings.{Settling, settling_done, settling_next, settling_start}
+use Rattle.definitions_rings.proofs.Settlings.{Settling}
 use Rattle.definitions_rings.proofs.rings.settle.Given as goal
 
 abbrev pub invariant-loop-name : goal.invariant-loop-name

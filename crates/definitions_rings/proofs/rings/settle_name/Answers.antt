@@ -1,6 +1,5 @@
 -- One name more where its uses are in the set, and none where not.
 use Prim.Native.Nat.{◌^◌}
-use borrow.Author.Rules.{rules}
 use mathlib.Core.Bool.{Bool, ◌||◌}
 use mathlib.Core.Path.{◌∙◌, ap, sym}
 use Rattle.table.specs.NameSet.{has}

@@ -1,10 +1,8 @@
-use Prim.Native.Nat.{◌-◌, ◌≤◌}
 use native.Mathlib.Omega.{arith}
-use borrow.Author.Rules.{rules}
 use mathlib.Core.Path.{◌≡◌}
 use Rattle.table.specs.NameSet.{union}
 use Rattle.table.specs.NameValues.{set_of}
-use Rattle.definitions_rings.proofs.WantedNames.{Wants, row_counted, wants_more, wants_start, wants_used}
+use Rattle.definitions_rings.proofs.WantedNames.{row_counted, wants_more, wants_start, wants_used}
 use Rattle.definitions_rings.proofs.uses.used_names.Goals as goal
 
 pub loop-k-init : goal.loop-k-init

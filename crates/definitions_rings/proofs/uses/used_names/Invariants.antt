@@ -1,11 +1,7 @@
 -- After k rows the set has what the first k rows want.
 use Prim.Native.Nat.{◌-◌, ◌≤◌}
-use native.Mathlib.Omega.{arith}
-use borrow.Author.Rules.{rules}
-use mathlib.Core.Path.{◌≡◌}
-use Rattle.table.specs.NameSet.{union}
 use Rattle.table.specs.NameValues.{set_of}
-use Rattle.definitions_rings.proofs.WantedNames.{Wants, row_counted, wants_more, wants_start, wants_used}
+use Rattle.definitions_rings.proofs.WantedNames.{Wants}
 use Rattle.definitions_rings.proofs.uses.used_names.Given as goal
 
 abbrev pub invariant-loop-k : goal.invariant-loop-k

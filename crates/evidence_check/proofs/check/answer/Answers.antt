@@ -1,5 +1,4 @@
 -- By the definition's two cases.
-use borrow.Author.Rules.{rules}
 use Rattle.evidence_check.proofs.check.answer.Goals as goal
 
 pub returns-in-No : goal.returns-in-No

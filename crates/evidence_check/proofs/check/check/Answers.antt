@@ -1,5 +1,4 @@
 -- The form decides which questions are asked, and what they need of the file.
-use borrow.Author.Rules.{rules}
 use mathlib.Core.Bool.{false}
 use mathlib.Core.Path.{◌∙◌, ◌≡◌, ap, sym}
 use Rattle.picture.specs.Asked.{on_asked}

@@ -1,7 +1,5 @@
 -- 21, and with it what the links and the model check need; then 22 and 23, each the answer of the model check.
 -- the ways back: from the answer to 21 to the entry, from that to 22 to that to 21, from that to 23 to that to 22
-use borrow.Author.Rules.{rules}
-use borrow.Author.Tests.{not-false, not-true}
 use mathlib.Core.Bool.{not, true}
 use mathlib.Core.Path.{◌∙◌, ◌≡◌, ap, refl, sym}
 use Rattle.table_rows.proofs.Stores.{blank}

@@ -1,6 +1,5 @@
 -- 1, and then what `prepare` has answered and written; 16 to 23 are asked of the two tables, and write nothing more.
 -- the ways back: from what `prepare` has given to the entry, from the parts to the former
-use borrow.Author.Rules.{rules}
 use borrow.Author.Tests.{leb-true}
 use lib.Dec.{leb}
 use lib.ListN.{length}

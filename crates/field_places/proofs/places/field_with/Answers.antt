@@ -1,7 +1,5 @@
 -- Where the head does not fit, or the tag is another, there is no such field; else the length says whether it is whole.
 use native.Mathlib.Omega.{arith}
-use borrow.Author.Rules.{rules}
-use borrow.Author.Tests.{not-false, not-true}
 use mathlib.Core.Path.{◌∙◌, sym}
 use Rattle.field_places.specs.Places.{tag_of}
 use Rattle.field_places.proofs.KeptPlaces.{not_head, not_tag, whole_field}

@@ -1,12 +1,10 @@
-use Prim.Native.Nat.{◌-◌}
 use native.Mathlib.Omega.{arith}
-use borrow.Author.Tests.{not-false, not-true}
 use mathlib.Core.Bool.{true}
 use mathlib.Core.Path.{◌∙◌, ◌≡◌, refl, sym}
-use Rattle.fields.specs.Form.{field_with, most_fields}
+use Rattle.fields.specs.Form.{field_with}
 use Rattle.fields.proofs.Forms.{field_whole}
 use Rattle.field_places.specs.Places.{tag_of}
-use Rattle.field_places.proofs.KeptPlaces.{Scanned, scan_full, scan_next, scan_start, scan_stop}
+use Rattle.field_places.proofs.KeptPlaces.{scan_full, scan_next, scan_start, scan_stop}
 use Rattle.field_places.proofs.places.find_fields.Goals as goal
 
 pub loop-k-init : goal.loop-k-init

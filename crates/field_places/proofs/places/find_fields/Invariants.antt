@@ -1,14 +1,9 @@
 -- Each whole field with the tag is counted, and the place after it kept; the first other one, or the most there may be,
 -- ends the count.
 use Prim.Native.Nat.{◌-◌}
-use native.Mathlib.Omega.{arith}
-use borrow.Author.Tests.{not-false, not-true}
-use mathlib.Core.Bool.{true}
-use mathlib.Core.Path.{◌∙◌, ◌≡◌, refl, sym}
-use Rattle.fields.specs.Form.{field_with, most_fields}
-use Rattle.fields.proofs.Forms.{field_whole}
+use Rattle.fields.specs.Form.{most_fields}
 use Rattle.field_places.specs.Places.{tag_of}
-use Rattle.field_places.proofs.KeptPlaces.{Scanned, scan_full, scan_next, scan_start, scan_stop}
+use Rattle.field_places.proofs.KeptPlaces.{Scanned}
 use Rattle.field_places.proofs.places.find_fields.Given as goal
 
 abbrev pub invariant-loop-k : goal.invariant-loop-k

@@ -1,7 +1,6 @@
 -- The place after the last field is kept. `t2` is `fields`, whose array is indexed.
 use mathlib.Core.Path.{◌∙◌, ap}
 use native.Mathlib.Omega.{arith}
-use borrow.Author.Rules.{rules}
 use Rattle.table.specs.Fields.{ends_at}
 use Rattle.fields.specs.Form.{field_place, fields_form}
 use Rattle.field_places.proofs.places.has_form.Goals as goal

@@ -1,5 +1,4 @@
 -- The kind says the tag, and the match on the tag whether it is that.
-use borrow.Author.Rules.{rules}
 use borrow.Author.Tests.{eq-eqb, ne_eqb}
 use Rattle.field_places.proofs.places.has_tag.Goals as goal
 

@@ -1,7 +1,6 @@
 -- The part from after one kept place's head to the next place is the value. `t2` is `fields`, whose array is indexed.
 use Prim.Native.Nat.{◌+◌, ◌≤◌}
 use native.Mathlib.Omega.{arith}
-use borrow.Author.Rules.{rules}
 use lib.ListN.{get_or, length}
 use Rattle.table.specs.Layout.{head_size}
 use Rattle.field_places.proofs.KeptPlaces.{place_from, place_part, place_to}

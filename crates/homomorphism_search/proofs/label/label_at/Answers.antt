@@ -1,6 +1,5 @@
 -- The sets are read from eight bytes, so they are below 2 ^ nameCount; the mark is the row's.
 use mathlib.Core.Path.{refl}
-use borrow.Author.Rules.{rules}
 use Rattle.homomorphism_search.proofs.Labels.{row_label}
 use Rattle.homomorphism_search.proofs.label.label_at.Goals as goal
 

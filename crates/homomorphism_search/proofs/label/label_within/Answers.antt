@@ -1,5 +1,4 @@
 -- A marked label is within none; of one that is not marked the names decide, as sets of 64 bits.
-use borrow.Author.Rules.{rules}
 use mathlib.Core.Bool.{◌&&◌}
 use mathlib.Core.List.{List}
 use mathlib.Core.Path.{◌≡◌, ◌∙◌, sym}

@@ -1,15 +1,10 @@
 use mathlib.Core.Bool.{false≢true}
-use mathlib.Core.Logic.{⊎_elim}
 use mathlib.Core.Path.{◌∙◌, refl, sym}
-use Prim.Native.Nat.{ℕ, ◌*◌, ◌+◌, ◌-◌, ◌<◌}
 use native.Mathlib.Omega.{arith}
-use borrow.Author.Rules.{rules}
-use borrow.Author.Tests.{eqb-false, eqb-true, not-false, not-true}
-use lib.Dec.{eqb}
-use Rattle.table.specs.Pick.{pick}
+use borrow.Author.Tests.{eqb-false, eqb-true}
 use Rattle.homomorphism_search.proofs.Walks.{walk_end, walk_found, walk_less}
 use Rattle.homomorphism_search.proofs.Searches.{checked_has, row_apart, row_deep, row_leaf, row_marked, takes_row}
-use Rattle.homomorphism_search.proofs.Traces.{ImageAt, ServedAt, apart_refl, found_deep, found_leaf, found_marked, image_all, image_found, image_missed, image_not, image_other, image_start, missed_deep, missed_label, served_all, served_end, served_found, served_next, served_none, served_start, served_stop, served_written}
+use Rattle.homomorphism_search.proofs.Traces.{apart_refl, found_deep, found_leaf, found_marked, image_all, image_found, image_missed, image_not, image_other, image_start, missed_deep, missed_label, served_all, served_end, served_found, served_next, served_none, served_start, served_stop, served_written}
 use Rattle.homomorphism_search.proofs.search.+lowest_image_row_maps_unserved.Goals as goal
 use Rattle.homomorphism_search.proofs.search.+lowest_image_row_maps_unserved.Goals.{lowest_image-then-same_edge+else-row_maps, lowest_image-else-same_edge}
 

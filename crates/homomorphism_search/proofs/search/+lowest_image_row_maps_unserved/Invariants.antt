@@ -1,18 +1,10 @@
 -- Both loops are walks along links for the first row that passes: of the rows that hang from u the first that can be the image, and of those that
 -- hang from w the first that has none. Row and image go down together: `row_maps` gives `unserved` one level less, and the search for the image of
 -- a row that hangs from w asks `row_maps` at that level. A call writes only under its row, so what was kept of the rows before stays.
-use mathlib.Core.Bool.{false≢true}
-use mathlib.Core.Logic.{⊎_elim}
-use mathlib.Core.Path.{◌∙◌, refl, sym}
-use Prim.Native.Nat.{ℕ, ◌*◌, ◌+◌, ◌-◌, ◌<◌}
-use native.Mathlib.Omega.{arith}
-use borrow.Author.Rules.{rules}
-use borrow.Author.Tests.{eqb-false, eqb-true, not-false, not-true}
+use Prim.Native.Nat.{◌*◌, ◌+◌, ◌-◌}
 use lib.Dec.{eqb}
 use Rattle.table.specs.Pick.{pick}
-use Rattle.homomorphism_search.proofs.Walks.{walk_end, walk_found, walk_less}
-use Rattle.homomorphism_search.proofs.Searches.{checked_has, row_apart, row_deep, row_leaf, row_marked, takes_row}
-use Rattle.homomorphism_search.proofs.Traces.{ImageAt, ServedAt, apart_refl, found_deep, found_leaf, found_marked, image_all, image_found, image_missed, image_not, image_other, image_start, missed_deep, missed_label, served_all, served_end, served_found, served_next, served_none, served_start, served_stop, served_written}
+use Rattle.homomorphism_search.proofs.Traces.{ImageAt, ServedAt}
 use Rattle.homomorphism_search.proofs.search.+lowest_image_row_maps_unserved.Given as goal
 
 abbrev pub decreases-lowest_image : goal.decreases-lowest_image

@@ -1,6 +1,5 @@
 -- The row test of the two roots, as in `row_maps`.
-use borrow.Author.Rules.{rules}
-use borrow.Author.Tests.{eqb-false, eqb-true, not-false, not-true}
+use borrow.Author.Tests.{eqb-false, eqb-true}
 use mathlib.Core.Bool.{false≢true}
 use mathlib.Core.Path.{◌∙◌, sym}
 use native.Mathlib.Omega.{arith}

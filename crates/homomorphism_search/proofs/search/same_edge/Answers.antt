@@ -1,6 +1,5 @@
 -- Of rows other than 0 the bytes of kind and role say the same as kinds and roles.
 use borrow.Author.Tests.{eq-eqb, ne_eqb}
-use borrow.Author.Rules.{rules}
 use lib.Dec.{eqb}
 use mathlib.Core.Bool.{◌&&◌}
 use mathlib.Core.Path.{◌≡◌, ◌∙◌, sym}

@@ -1,7 +1,6 @@
 -- The rows that were built are over the limit exactly where those of the product are, and within it the table is the common picture.
 use native.Mathlib.Omega.{arith}
 use Rattle.lcs_call.proofs.Calls.{made_few, made_many}
-use borrow.Author.Rules.{rules}
 use Rattle.lcs_call.proofs.call.write_common.Goals as goal
 
 pub build-table-requires : goal.build-table-requires

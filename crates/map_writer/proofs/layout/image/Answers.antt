@@ -1,6 +1,5 @@
 -- The two bytes at the place that `image_place` gives.
 use Prim.Native.Nat.{ℕ}
-use borrow.Author.Rules.{rules}
 use mathlib.Core.Path.{◌∙◌, ap}
 use Rattle.table.specs.Layout.{number_size}
 use Rattle.table.specs.Number.{be}

@@ -1,7 +1,6 @@
 -- Row 0 goes to row 0. Another row's image is told by its parent's, which stands in the file: that itself if it is marked, else what the search
 -- left behind (Maps: `image-kept`).
 use Prim.Native.Nat.{◌<◌}
-use borrow.Author.Rules.{rules}
 use mathlib.Core.Path.{◌≡◌, ◌∙◌, ap}
 use native.Mathlib.Omega.{arith}
 use Rattle.table.specs.Fields.{parent_of}

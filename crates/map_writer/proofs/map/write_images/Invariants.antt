@@ -1,14 +1,11 @@
 -- At the loop's head the images of the rows below i stand in the file, and all else is as it was. The measure is how many rows are left.
-use Prim.Native.Nat.{ℕ, ◌-◌, ◌<◌, ◌≤◌}
-use borrow.Author.Rules.{rules}
+use Prim.Native.Nat.{◌-◌, ◌≤◌}
 use lib.ListN.{length}
-use mathlib.Core.Path.{◌≡◌, ◌∙◌, ap, refl}
-use native.Mathlib.Omega.{arith}
+use mathlib.Core.Path.{◌≡◌}
 use Rattle.table.specs.Put.{put}
-use Rattle.homomorphism.specs.Layout.{image_of, «image_place»}
+use Rattle.homomorphism.specs.Layout.{«image_place»}
 use Rattle.homomorphism.specs.Map.{image_bytes}
-use Rattle.map_writer.proofs.Maps.{image_below, image_row}
-use Rattle.homomorphism.proofs.MapFiles.{images_none, images_read, images_turn}
+use Rattle.map_writer.proofs.Maps.{image_row}
 use Rattle.map_writer.proofs.map.write_images.Given as goal
 
 abbrev pub invariant-loop-i : goal.invariant-loop-i

@@ -1,5 +1,4 @@
 -- Head, images and end field are put one after the other, which is putting the file: `map-put`.
-use borrow.Author.Rules.{rules}
 use native.Mathlib.Omega.{arith}
 use Rattle.map_writer.proofs.Maps.{image_row, lowest_map_counted}
 use Rattle.homomorphism.proofs.MapFiles.{length_map_file, map_put}

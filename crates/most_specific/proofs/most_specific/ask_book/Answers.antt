@@ -1,6 +1,4 @@
 -- The questions in their order.
-use borrow.Author.Rules.{rules}
-use borrow.Author.Tests.{not-false, not-true}
 use mathlib.Core.Bool.{true}
 use mathlib.Core.Path.{◌∙◌, ◌≡◌, sym}
 use Rattle.book.specs.Call.{no_book}

@@ -1,5 +1,4 @@
 -- Once all is answered yes, what was found in both books is what 14 needs.
-use borrow.Author.Rules.{rules}
 use Rattle.most_specific.specs.Asking.{after_cards, after_definitions, word_under}
 use Rattle.most_specific.proofs.Calls.{definitions_passed, definitions_prepared, definitions_refused}
 use Rattle.most_specific.proofs.Calls.{left_as, stopped}

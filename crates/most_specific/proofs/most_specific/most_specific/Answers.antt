@@ -1,7 +1,6 @@
 -- 1, the case, and then the book.
 use Prim.Native.Nat.{◌≤◌}
 use native.Mathlib.Omega.{arith}
-use borrow.Author.Rules.{rules}
 use lib.ListN.{length}
 use Rattle.workspace.specs.Prepare.{work_size}
 use Rattle.most_specific.proofs.Calls.{case_passed, case_readable, case_refused, short_call}

@@ -1,8 +1,6 @@
-use Prim.Native.Nat.{◌-◌}
 use native.Mathlib.Omega.{arith}
-use borrow.Author.Rules.{rules}
 use mathlib.Core.Path.{◌∙◌, ◌≡◌, ap}
-use Rattle.picture.proofs.ReadInTurn.{ReadTo, read_all, read_next, read_refused, read_start}
+use Rattle.picture.proofs.ReadInTurn.{read_all, read_next, read_refused, read_start}
 use Rattle.picture.specs.Read.{answer_of}
 use Rattle.picture.specs.declared.answer.Input.TheVariants.{Card}
 use Rattle.book.specs.Form.{card}

@@ -1,7 +1,6 @@
 -- Where 14 is answered yes for all, the word is that of the most specific cards; else nothing is written.
 use Prim.Native.Nat.{◌+◌}
 use native.Mathlib.Omega.{arith}
-use borrow.Author.Rules.{rules}
 use lib.ListN.{drop, length, take}
 use lib.Seq.{length-take-le}
 use mathlib.Core.List.{◌++◌}

@@ -1,8 +1,7 @@
-use mathlib.Core.Bool.{Bool, true}
+use mathlib.Core.Bool.{true}
 use mathlib.Core.Logic.{inl, inr}
 use mathlib.Core.Path.{◌≡◌, ap, refl, sym, ◌∙◌}
 use native.Mathlib.Omega.{arith}
-use borrow.Author.Rules.{rules}
 use Rattle.table.specs.Layout.{kind_exists, kind_for_all, roles}
 use Rattle.ale.specs.Merged.{label_of_set}
 use Rattle.ale.specs.PictureSignature.{picture_signature}
@@ -10,16 +9,14 @@ use Rattle.ale.specs.Rows.{filter_below}
 use Rattle.ale.specs.Tree.{cons, exists, forAll, nil}
 use Rattle.meaning.specs.Meaning.{kind_at, picture_table}
 use Rattle.row_sets.specs.Rows.{also, hangs, holds, of_role}
-use Rattle.normal_writer.specs.Grown.{Grown}
-use Rattle.row_sets.specs.Labels.{Valued}
-use Rattle.row_sets.specs.Parts.{exists_part_at, roles_at, successors_at}
+use Rattle.row_sets.specs.Parts.{roles_at, successors_at}
 use Rattle.normal_writer.proofs.Growth.{entered_length, entered_room, grown_append, grown_full, grown_nil, grown_over, grown_room, grown_same, grown_some}
 use Rattle.row_sets.proofs.LabelLaws.{known_with, valued_with}
 use Rattle.row_sets.proofs.Masks.{edge_row}
 use Rattle.normal_writer.proofs.Nodes.{grown_node}
 use Rattle.row_sets.proofs.PartLaws.{code_later, merged_leaf, merged_node, role_parts_is, roles_more, roles_none, successors_leaf, successors_roles, successors_same, unused_roles, value_none, value_one}
 use Rattle.normal_writer.proofs.Turns.{role_on, role_turn, turn_end, turn_full, turn_on, turn_start}
-use Prim.Native.Nat.{ℕ, ◌*◌, ◌+◌, ◌-◌, ◌<◌, min}
+use Prim.Native.Nat.{◌+◌, ◌-◌, ◌<◌, min}
 use Rattle.normal_writer.proofs.grow.+graft_graft_exists_graft_role_graft_roles_graft_row_graft_value.Goals as goal
 
 pub graft-overflow_add-result : goal.graft-overflow_add-result

@@ -6,7 +6,6 @@ use Rattle.row_sets.specs.Rows.{also}
 use Rattle.row_sets.proofs.LabelLaws.{valued_none, valued_with}
 use Rattle.normal_writer.proofs.Roots.{grown_built}
 use Rattle.table_rows.proofs.Stores.{blank}
-use borrow.Author.Rules.{rules}
 use Rattle.normal_writer.proofs.grow.build.Goals as goal
 
 pub fill_links-requires : goal.fill_links-requires

@@ -5,7 +5,6 @@ use Prim.Native.Nat.{◌<◌}
 use Rattle.ale.specs.Tree.{nil}
 use Rattle.normal_writer.proofs.Growth.{entered_length, entered_room, grown_nil, grown_over}
 use Rattle.normal_writer.proofs.Nodes.{grown_node}
-use borrow.Author.Rules.{rules}
 use Rattle.normal_writer.proofs.node.graft_leaf.Goals as goal
 
 pub overflow_add-result : goal.overflow_add-result

@@ -1,7 +1,6 @@
 -- Each test that fails decides.
-use borrow.Author.Tests.{eq-eqb, ne_eqb, not-true, not-false, le-leb, lt-leb, lt-ltb, le-ltb}
-use mathlib.Core.Path.{◌≡◌, sym, ◌∙◌, refl, ap}
-use borrow.Author.Rules.{rules}
+use borrow.Author.Tests.{eq-eqb, ne_eqb}
+use mathlib.Core.Path.{sym, ◌∙◌}
 use Rattle.normal_writer.proofs.node.is_dropped.Goals as goal
 
 pub returns-then-edge-ne-KIND_FOR_ALL : goal.returns-then-edge-ne-KIND_FOR_ALL

@@ -1,7 +1,6 @@
 -- Each way out is one of the three ways in which a row is left.
 use mathlib.Core.Path.{refl, sym, ◌∙◌}
 use Rattle.normal_writer.proofs.Leavings.{left_inconsistent, left_dropped, left_whole}
-use borrow.Author.Rules.{rules}
 use Rattle.normal_writer.proofs.node.leave.Goals as goal
 
 pub returns-then-is_inconsistent : goal.returns-then-is_inconsistent

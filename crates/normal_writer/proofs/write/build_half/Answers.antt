@@ -1,7 +1,6 @@
 -- Since 14 is answered yes, the part holds the normal file from the first byte on; zeros go right after it, to the end.
 use Prim.Native.Nat.{◌≤◌}
 use native.Mathlib.Omega.{arith}
-use borrow.Author.Rules.{rules}
 use lib.ListN.{length}
 use mathlib.Core.Path.{◌∙◌}
 use Rattle.table.specs.Bounds.{max_rows}

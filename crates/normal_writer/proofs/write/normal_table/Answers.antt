@@ -2,7 +2,6 @@
 use native.Mathlib.Omega.{arith}
 use Rattle.row_sets.proofs.Checks.{readable_rows}
 use Rattle.normal_writer.proofs.Tablings.{tabled_none, tabled_rows}
-use borrow.Author.Rules.{rules}
 use Rattle.normal_writer.proofs.write.normal_table.Goals as goal
 
 pub build-built-requires : goal.build-built-requires

@@ -4,7 +4,6 @@ use mathlib.Core.Path.{◌≡◌, ap}
 use native.Mathlib.Omega.{arith}
 use lib.ListN.{drop, take}
 use Rattle.table.specs.Layout.{end_size, «place»}
-use borrow.Author.Rules.{rules}
 use Rattle.normal_writer.proofs.write.table_at.Goals as goal
 
 pub returns : goal.returns

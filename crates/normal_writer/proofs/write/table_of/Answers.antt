@@ -1,6 +1,5 @@
 -- The part is as long as a table of so many rows.
 use native.Mathlib.Omega.{arith}
-use borrow.Author.Rules.{rules}
 use lib.ListN.{take}
 use lib.Seq.{length-take-le}
 use mathlib.Core.Path.{ap, sym}

@@ -2,7 +2,6 @@
 use mathlib.Core.Path.{sym}
 use native.Mathlib.Omega.{arith}
 use lib.Seq.{length-take-le}
-use borrow.Author.Rules.{rules}
 use Rattle.normal_writer.proofs.Tablings.{table_put}
 use Rattle.normal_writer.proofs.write.write_table.Goals as goal
 

@@ -1,5 +1,4 @@
 -- No row says that 14 is answered no.
-use borrow.Author.Rules.{rules}
 use borrow.Author.Tests.{eq-eqb, ne_eqb}
 use mathlib.Core.Path.{refl}
 use Rattle.normalize_call.proofs.normalize.give_table.Goals as goal

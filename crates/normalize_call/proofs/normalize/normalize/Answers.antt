@@ -2,7 +2,6 @@
 use mathlib.Core.Path.{◌∙◌, sym}
 use native.Mathlib.Omega.{arith}
 use lib.ListN.{length}
-use borrow.Author.Rules.{rules}
 use Rattle.picture.proofs.Orders.{refused_no, rows_yes}
 use Rattle.picture.proofs.Readables.{answer_reading}
 use Rattle.picture.specs.declared.answer.Input.TheVariants.{First}

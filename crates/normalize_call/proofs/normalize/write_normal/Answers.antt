@@ -1,6 +1,5 @@
 -- The table that was made, or no row, fits; what is given of it is `table-written`.
 use native.Mathlib.Omega.{arith}
-use borrow.Author.Rules.{rules}
 use lib.ListN.{length, length-take}
 use Prim.Native.Nat.{◌≤◌}
 use Rattle.table.specs.Bounds.{max_rows, picture_size}

@@ -1,6 +1,5 @@
 -- Under the end field alone nothing is asked, and the picture is its own unfolded picture. Else the questions of the
 -- book decide, and where all is answered yes the unfolded picture is tabulated.
-use borrow.Author.Rules.{rules}
 use mathlib.Core.Path.{◌∙◌, ◌≡◌, sym}
 use Rattle.picture.specs.declared.answer.Asked.TheVariants.{Yes}
 use Rattle.definitions.proofs.Questions.{asked_definable}

@@ -1,5 +1,4 @@
 -- The rows before the field are at most the limit, so their number and the field's place fit two bytes each.
-use borrow.Author.Rules.{rules}
 use Rattle.picture.proofs.answer.refuse_at.Goals as goal
 
 pub returns : goal.returns

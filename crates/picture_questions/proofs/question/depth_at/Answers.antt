@@ -6,13 +6,11 @@ use Rattle.table.specs.Fields.{parent_of}
 use Rattle.picture.proofs.Depths.{depth_root}
 use Rattle.picture_questions.proofs.Depths.{depth_known}
 use Rattle.picture.proofs.Questions.{parent_below}
-use borrow.Author.Rules.{rules}
 use Rattle.picture_questions.proofs.question.depth_at.Goals as goal
 
 pub returns-then-n-eq0 : goal.returns-then-n-eq0
 returns-then-n-eq0 c = sym (rw c.if-n-eq0.true (depth_root (parent_of c.args.s.now)))
 
--- LEFT c.before.before.before is a place
 pub bounds-depths-parent : goal.bounds-depths-parent
 bounds-depths-parent c =
     let a = c.args in

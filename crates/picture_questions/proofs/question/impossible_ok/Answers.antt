@@ -1,6 +1,5 @@
 -- The byte that is tested is the row's.
 use mathlib.Core.Path.{sym}
-use borrow.Author.Rules.{rules}
 use Rattle.picture_questions.proofs.question.impossible_ok.Goals as goal
 
 pub returns : goal.returns

@@ -2,7 +2,6 @@
 use borrow.Author.Tests.{eq-eqb, ne_eqb}
 use Rattle.picture.specs.Questions.{kind_ok}
 use mathlib.Core.Path.{sym}
-use borrow.Author.Rules.{rules}
 use Rattle.picture_questions.proofs.question.kind_ok.Goals as goal
 
 pub returns-in-0 : goal.returns-in-0

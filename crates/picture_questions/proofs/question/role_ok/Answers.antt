@@ -2,7 +2,6 @@
 use borrow.Author.Tests.{eq-eqb, ne_eqb}
 use Rattle.picture.specs.Questions.{role_ok}
 use mathlib.Core.Path.{sym}
-use borrow.Author.Rules.{rules}
 use Rattle.picture_questions.proofs.question.role_ok.Goals as goal
 
 pub returns-then-n-eq0 : goal.returns-then-n-eq0

@@ -3,7 +3,6 @@ use borrow.Author.Tests.{eq-eqb, ne_eqb, lt-ltb}
 use Rattle.picture.specs.Questions.{end_field}
 use mathlib.Core.Path.{sym}
 use native.Mathlib.Omega.{arith}
-use borrow.Author.Rules.{rules}
 use Rattle.picture_reader.proofs.field.end_field.Goals as goal
 
 pub returns-then-n-eq0 : goal.returns-then-n-eq0

@@ -1,11 +1,10 @@
 -- Each return follows from the tests on the way to it: the head's bytes, the tag, the length.
-use borrow.Author.Tests.{eq-eqb, ne_eqb, le-leb, lt-leb, not-true, not-false}
+use borrow.Author.Tests.{eq-eqb, ne_eqb, le-leb, lt-leb}
 use Rattle.picture.specs.Questions.{field_at}
 use Rattle.table.specs.Layout.{head_size, «place»}
 use lib.ListN.{length}
 use mathlib.Core.Path.{sym, ◌∙◌}
 use native.Mathlib.Omega.{arith}
-use borrow.Author.Rules.{rules}
 use Rattle.picture_reader.proofs.field.field_at.Goals as goal
 
 pub returns-then-s-place : goal.returns-then-s-place

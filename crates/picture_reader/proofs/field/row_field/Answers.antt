@@ -3,7 +3,6 @@ use borrow.Author.Tests.{lt-ltb, le-ltb, le-leb, lt-leb}
 use Rattle.picture.specs.Questions.{row_field}
 use mathlib.Core.Path.{sym}
 use native.Mathlib.Omega.{arith}
-use borrow.Author.Rules.{rules}
 use Rattle.picture_reader.proofs.field.row_field.Goals as goal
 
 pub returns-then-limits-n : goal.returns-then-limits-n
@@ -16,11 +15,10 @@ pub returns-then-s-place : goal.returns-then-s-place
 unfolding row_field
 returns-then-s-place c = rw (sym c.place.ensures) (simp (lt-ltb _ _ c.if-limits-n.false, lt-leb _ _ c.if-s-place.true))
 
--- LEFT c.before.before.before.before.before is a place
 pub value_field-requires : goal.value_field-requires
 value_field-requires c =
     let pre = c.requires in
-    (pre.0, ((omega (arith, c), omega (arith, c.place.ensures)), pre.1))
+    (pre.0, ((omega arith, omega (arith, c.place.ensures)), pre.1))
 
 pub returns : goal.returns
 unfolding row_field

@@ -1,8 +1,7 @@
 -- Each return follows from the tests on the way to it; the depth is asked for once 11 was answered yes.
-use borrow.Author.Tests.{le-leb, lt-leb, not-true, not-false}
+use borrow.Author.Tests.{le-leb, lt-leb}
 use Rattle.picture.specs.Questions.{value_field}
 use mathlib.Core.Path.{sym, ◌∙◌}
-use borrow.Author.Rules.{rules}
 use Rattle.picture_reader.proofs.field.value_field.Goals as goal
 
 pub returns-then-not-kind_ok : goal.returns-then-not-kind_ok

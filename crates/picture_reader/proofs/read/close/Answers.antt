@@ -1,5 +1,4 @@
 -- By the field's cases.
-use borrow.Author.Rules.{rules}
 use Rattle.picture_reader.proofs.read.close.Goals as goal
 
 pub returns-in-Row : goal.returns-in-Row

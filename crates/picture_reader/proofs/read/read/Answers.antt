@@ -3,7 +3,6 @@ use mathlib.Core.Path.{◌∙◌, sym}
 use native.Mathlib.Omega.{arith}
 use Rattle.picture.proofs.Readables.{failed_field, failed_most}
 use Rattle.picture.specs.Read.{answer_of}
-use borrow.Author.Rules.{rules}
 use Rattle.picture_reader.proofs.read.read.Goals as goal
 
 pub returns-in-Rows : goal.returns-in-Rows

@@ -6,7 +6,6 @@ use Rattle.picture.specs.Questions.{field_at}
 use Rattle.picture.specs.declared.read.Reading.TheVariants.{Rows}
 use Rattle.picture.proofs.Scans.{reading_first, reading_second, rest_same}
 use Rattle.picture_questions.proofs.Depths.{known_root}
-use borrow.Author.Rules.{rules}
 use Rattle.picture_reader.proofs.read.scan_one.Goals as goal
 
 pub field_at-requires : goal.field_at-requires

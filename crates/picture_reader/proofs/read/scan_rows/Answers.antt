@@ -1,14 +1,10 @@
 use mathlib.Core.Path.{◌≡◌, refl, sym, ◌∙◌}
-use Prim.Native.Nat.{suc, ◌≤◌, ◌-◌}
 use native.Mathlib.Nat.{sub-zero}
 use native.Mathlib.Omega.{arith}
-use lib.ListN.{length, length-set}
-use borrow.Author.Rules.{rules}
-use Rattle.table.specs.Bounds.{max_rows}
+use lib.ListN.{length-set}
 use Rattle.table.specs.Fields.{parent_of}
 use Rattle.picture.specs.Depth.{depth}
-use Rattle.picture_questions.specs.Depths.{Known}
-use Rattle.picture.specs.Read.{scan_from, reading_of}
+use Rattle.picture.specs.Read.{reading_of}
 use Rattle.picture.proofs.Fields.{RowOk, row_ok}
 use Rattle.picture.proofs.Scans.{scan_step}
 use Rattle.picture_questions.proofs.Depths.{known_none, known_next}
@@ -18,11 +14,10 @@ pub loop-depth-init : goal.loop-depth-init
 unfolding reading_of
 loop-depth-init c = (omega arith, (refl, (known_none _ _, rw sub-zero)))
 
--- LEFT c.before.before.before is a place
 pub field_at-field-requires : goal.field_at-field-requires
 field_at-field-requires c =
     let l = c.loop-depth in
-    (c.requires, (omega (arith, c, l.invariant.0), l.invariant.1.1.0))
+    (c.requires, (omega (arith, l.invariant.0), l.invariant.1.1.0))
 
 pub bounds-depths-n : goal.bounds-depths-n
 bounds-depths-n c =

@@ -1,19 +1,11 @@
 -- At the loop's head n rows have been read, the table has their depths, and the reading is that of the scan from row n on.
 -- The measure is the number of rows that may still come.
-use mathlib.Core.Path.{◌≡◌, refl, sym, ◌∙◌}
+use mathlib.Core.Path.{◌≡◌}
 use Prim.Native.Nat.{suc, ◌≤◌, ◌-◌}
-use native.Mathlib.Nat.{sub-zero}
-use native.Mathlib.Omega.{arith}
-use lib.ListN.{length, length-set}
-use borrow.Author.Rules.{rules}
+use lib.ListN.{length}
 use Rattle.table.specs.Bounds.{max_rows}
-use Rattle.table.specs.Fields.{parent_of}
-use Rattle.picture.specs.Depth.{depth}
 use Rattle.picture_questions.specs.Depths.{Known}
 use Rattle.picture.specs.Read.{scan_from, reading_of}
-use Rattle.picture.proofs.Fields.{RowOk, row_ok}
-use Rattle.picture.proofs.Scans.{scan_step}
-use Rattle.picture_questions.proofs.Depths.{known_none, known_next}
 use Rattle.picture_reader.proofs.read.scan_rows.Given as goal
 
 abbrev pub invariant-loop-depth : goal.invariant-loop-depth

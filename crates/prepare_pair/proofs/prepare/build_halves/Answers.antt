@@ -4,7 +4,6 @@ use Prim.Native.Nat.{◌+◌}
 use mathlib.Core.Path.{◌∙◌, refl, sym}
 use native.Mathlib.Omega.{arith}
 use lib.Seq.{length-take-le}
-use borrow.Author.Rules.{rules}
 use Rattle.workspace.proofs.Halves.{length_upper}
 use Rattle.prepare_pair.proofs.TabledPairs.{half_long, halves_built}
 use Rattle.prepare_pair.proofs.prepare.build_halves.Goals as goal

@@ -6,7 +6,6 @@ use mathlib.Core.Path.{◌∙◌, sym}
 use native.Mathlib.Omega.{arith}
 use Rattle.workspace.proofs.Lendings.{room_long, room_no}
 use Rattle.workspace.specs.Prepare.{work_size}
-use borrow.Author.Rules.{rules}
 use Rattle.prepare_pair.proofs.prepare.has_room.Goals as goal
 
 pub returns-then-half-work : goal.returns-then-half-work

@@ -1,7 +1,6 @@
 -- An empty book changes nothing. A no of another one is the answer; where all of it is answered yes, its definitions
 -- are what 14 needs.
 -- the ways back: from the test to the entry, from what the book has answered to the test
-use borrow.Author.Rules.{rules}
 use mathlib.Core.Path.{◌∙◌, sym}
 use Rattle.picture.proofs.Keeping.{kept_no}
 use Rattle.picture.proofs.Orders.{on_no}

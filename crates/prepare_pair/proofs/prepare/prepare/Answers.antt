@@ -1,6 +1,4 @@
 -- 1 is answered no, or the questions of the pair decide.
-use borrow.Author.Rules.{rules}
-use borrow.Author.Tests.{not-false, not-true}
 use mathlib.Core.Path.{sym}
 use Rattle.picture.proofs.Keeping.{kept_no}
 use Rattle.picture.proofs.Orders.{on_no}

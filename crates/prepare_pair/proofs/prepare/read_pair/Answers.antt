@@ -1,7 +1,6 @@
 -- The first reading that refuses is the answer; of two readable pictures the questions of the book are asked.
 -- the way back from the reading of the first to the entry
 use mathlib.Core.Path.{◌∙◌, sym}
-use borrow.Author.Rules.{rules}
 use Rattle.picture.proofs.Readables.{answer_reading}
 use Rattle.picture.specs.declared.answer.Input.TheVariants.{First, Second}
 use Rattle.picture.proofs.Orders.{on_no}

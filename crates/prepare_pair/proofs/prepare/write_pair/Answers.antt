@@ -1,7 +1,6 @@
 -- 14 is asked of both before a byte is written; then both halves are built.
 use Prim.Native.Nat.{◌≤◌}
-use borrow.Author.Rules.{rules}
-use borrow.Author.Tests.{leb-true, not-false, not-true}
+use borrow.Author.Tests.{leb-true}
 use mathlib.Core.Path.{◌∙◌, ap, sym}
 use Rattle.meaning.specs.NormalTable.{merged_count}
 use Rattle.picture.proofs.Orders.{on_no, on_yes}

@@ -3,7 +3,6 @@ use mathlib.Core.Path.{ap, sym}
 use native.Mathlib.Omega.{arith}
 use lib.ListN.{take}
 use lib.Seq.{length-take-le}
-use borrow.Author.Rules.{rules}
 use Rattle.prepare_pair.proofs.tables.first_table.Goals as goal
 
 pub slice_bounds-result-end : goal.slice_bounds-result-end

@@ -2,7 +2,6 @@
 use Prim.Native.Nat.{ℕ}
 use mathlib.Core.Path.{◌∙◌, ap}
 use Rattle.normal_writer.specs.Tables.{table_in}
-use borrow.Author.Rules.{rules}
 use Rattle.prepare_pair.proofs.tables.second_table.Goals as goal
 
 pub returns : goal.returns

@@ -1,8 +1,7 @@
 -- 14 is asked of both, unfolded, before a byte is written; then both halves are built.
 -- the ways back: from 14 of the first to the entry, from 14 of the second to the former
 use Prim.Native.Nat.{◌≤◌}
-use borrow.Author.Rules.{rules}
-use borrow.Author.Tests.{leb-true, not-false, not-true}
+use borrow.Author.Tests.{leb-true}
 use mathlib.Core.Path.{◌∙◌, ap, sym}
 use Rattle.meaning.specs.NormalTable.{merged_count}
 use Rattle.picture.proofs.Orders.{on_no, on_yes}

@@ -1,7 +1,5 @@
-use Prim.Native.Nat.{ℕ, ◌*◌, ◌+◌, ◌-◌, ◌<◌}
+use Prim.Native.Nat.{◌+◌, ◌-◌, ◌<◌}
 use native.Mathlib.Omega.{arith}
-use borrow.Author.Rules.{rules}
-use lib.Dec.{eqb}
 use lib.ListN.{get_or}
 use mathlib.Core.Path.{◌∙◌, refl}
 use Rattle.ale.specs.PictureSignature.{picture_signature}
@@ -10,11 +8,10 @@ use Rattle.homomorphism_search.proofs.Searches.{checked_has}
 use Rattle.homomorphism_search.specs.Search.{tree_at}
 use Rattle.meaning.specs.Meaning.{kind_at, picture_table}
 use Rattle.table.specs.Bounds.{max_rows}
-use Rattle.table.specs.Pick.{pick}
 use Rattle.product_rows.specs.Siblings.{forest_from}
 use Rattle.product_rows.proofs.Copies.{copy_end, copy_leaf, copy_over, copy_row, copy_start, rows_parts}
 use Rattle.product_rows.proofs.Edges.{code_kept}
-use Rattle.product_rows.proofs.Growth.{Onward, onward_full, onward_next}
+use Rattle.product_rows.proofs.Growth.{onward_full, onward_next}
 use Rattle.product_rows.proofs.Nodes.{pushed_length, pushed_room}
 use Rattle.product_rows.proofs.SiblingRows.{first_below, next_below, siblings_less}
 use Rattle.product_rows.proofs.copy.+copy_below_copy_tree.Goals as goal

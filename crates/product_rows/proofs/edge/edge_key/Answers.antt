@@ -1,5 +1,4 @@
 -- The kind's byte tells all from some.
-use borrow.Author.Rules.{rules}
 use mathlib.Core.Path.{◌∙◌}
 use Rattle.product_rows.proofs.Edges.{key_all, key_some}
 use Rattle.product_rows.proofs.edge.edge_key.Goals as goal

@@ -1,11 +1,7 @@
-use Prim.Native.Nat.{◌+◌, ◌-◌}
-use borrow.Author.Rules.{rules}
-use lib.Dec.{eqb}
 use mathlib.Core.Path.{refl}
 use native.Mathlib.Omega.{arith}
-use Rattle.table.specs.Pick.{pick}
 use Rattle.homomorphism_search.proofs.Searches.{checked_has}
-use Rattle.product_rows.proofs.SiblingRows.{SeekAt, seek_end, seek_found, seek_next, siblings_less}
+use Rattle.product_rows.proofs.SiblingRows.{seek_end, seek_found, seek_next, siblings_less}
 use Rattle.product_rows.proofs.edge.seek.Goals as goal
 
 pub loop-at-init : goal.loop-at-init

@@ -1,12 +1,8 @@
 -- The loop goes along the links past every row that stands before the place.
 use Prim.Native.Nat.{◌+◌, ◌-◌}
-use borrow.Author.Rules.{rules}
 use lib.Dec.{eqb}
-use mathlib.Core.Path.{refl}
-use native.Mathlib.Omega.{arith}
 use Rattle.table.specs.Pick.{pick}
-use Rattle.homomorphism_search.proofs.Searches.{checked_has}
-use Rattle.product_rows.proofs.SiblingRows.{SeekAt, seek_end, seek_found, seek_next, siblings_less}
+use Rattle.product_rows.proofs.SiblingRows.{SeekAt}
 use Rattle.product_rows.proofs.edge.seek.Given as goal
 
 abbrev pub invariant-loop-at : goal.invariant-loop-at

@@ -1,5 +1,4 @@
 -- By its test: the row is written, or nothing is done.
-use borrow.Author.Rules.{rules}
 use mathlib.Core.Path.{refl}
 use native.Mathlib.Omega.{arith}
 use Rattle.product_rows.proofs.node.enter.Goals as goal

@@ -1,14 +1,12 @@
 -- A row is entered and left at once: grown by nothing in between.
 use Prim.Native.Nat.{◌≤◌}
 use mathlib.Core.Bool.{false}
-use mathlib.Core.Logic.{⊎_elim}
 use mathlib.Core.Path.{◌∙◌, ◌≡◌, sym}
 use native.Mathlib.Omega.{arith}
 use Rattle.ale.specs.Tree.{nil}
 use Rattle.product_rows.specs.Grown.{stays}
 use Rattle.product_rows.proofs.Growth.{grown_nil}
 use Rattle.product_rows.proofs.Nodes.{entered_room, grown_node, grown_stays}
-use borrow.Author.Rules.{rules}
 use Rattle.product_rows.proofs.node.graft_leaf.Goals as goal
 use Rattle.product_rows.proofs.node.graft_leaf.Goals.{then-limit-table+else-is_kept, else-limit-table}
 

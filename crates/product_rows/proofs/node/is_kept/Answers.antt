@@ -1,5 +1,4 @@
 -- A some-successor is kept; of an all-successor the names decide.
-use borrow.Author.Rules.{rules}
 use borrow.Author.Tests.{eq-eqb, ne_eqb}
 use Rattle.product_rows.proofs.node.is_kept.Goals as goal
 

@@ -1,5 +1,4 @@
 -- Each test that fails decides.
-use borrow.Author.Rules.{rules}
 use borrow.Author.Tests.{eq-eqb, le-ltb, lt-ltb, ne_eqb}
 use mathlib.Core.Path.{◌∙◌, sym}
 use Rattle.product_rows.proofs.node.leave.Goals as goal

@@ -1,5 +1,4 @@
 -- The row is made of the edge and the label, its mark being the label's.
-use borrow.Author.Rules.{rules}
 use mathlib.Core.Path.{◌∙◌, ap}
 use Prim.Native.Nat.{ℕ}
 use Rattle.table.specs.Fields.{row_of}

@@ -4,7 +4,6 @@ use native.Mathlib.Omega.{arith}
 use Rattle.table_rows.proofs.Stores.{blank}
 use Rattle.product_writer.specs.Tables.{product_at}
 use Rattle.product_rows.proofs.Growth.{built_root}
-use borrow.Author.Rules.{rules}
 use Rattle.product_writer.proofs.graft.build.Goals as goal
 
 pub fill_links-requires : goal.fill_links-requires

@@ -1,8 +1,7 @@
 -- Each question of the definition is asked in its order; the number of individuals that is found is small enough for the loop that follows.
 use mathlib.Core.Path.{◌∙◌, sym}
 use native.Mathlib.Omega.{arith}
-use borrow.Author.Rules.{rules}
-use borrow.Author.Tests.{le-leb, le-ltb, lt-leb, lt-ltb, not-false, not-true}
+use borrow.Author.Tests.{le-leb, le-ltb, lt-leb, lt-ltb}
 use Rattle.countermodel.specs.Individual.{refutation_form}
 use Rattle.countermodel.proofs.Individuals.{count_whole, within_most}
 use Rattle.refutation_reader.proofs.individual.has_refutation_form.Goals as goal

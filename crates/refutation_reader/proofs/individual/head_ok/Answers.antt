@@ -1,6 +1,5 @@
 -- The tag and the length that the definition asks for, at the places that `individual_place` gives.
 use mathlib.Core.Path.{sym}
-use borrow.Author.Rules.{rules}
 use borrow.Author.Tests.{eq-eqb, ne_eqb}
 use Rattle.countermodel.specs.Individual.{individual_head}
 use Rattle.refutation_reader.proofs.individual.head_ok.Goals as goal

@@ -1,6 +1,5 @@
 -- The readers give what the definition tests; the first test tells individual 0 from the later ones.
 use mathlib.Core.Path.{sym}
-use borrow.Author.Rules.{rules}
 use borrow.Author.Tests.{eq-eqb, lt-ltb, le-ltb, ne_eqb}
 use Rattle.countermodel.specs.Individual.{individual_ok}
 use Rattle.refutation_reader.proofs.individual.individual_ok.Goals as goal

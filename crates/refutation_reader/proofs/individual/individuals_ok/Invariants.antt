@@ -1,10 +1,6 @@
 -- At the loop's head every individual before k passes.
 use Prim.Native.Nat.{◌≤◌, ◌-◌}
-use mathlib.Core.Path.{◌∙◌, ◌≡◌, sym}
-use native.Mathlib.Nat.{sub-zero}
-use native.Mathlib.Omega.{arith}
-use borrow.Author.Tests.{not-false, not-true}
-use Rattle.table.proofs.Ranges.{each_done, each_fails, each_on}
+use mathlib.Core.Path.{◌≡◌}
 use Rattle.table.specs.Range.{each}
 use Rattle.countermodel.specs.Individual.{individual_ok}
 use Rattle.refutation_reader.proofs.individual.individuals_ok.Given as goal

@@ -1,6 +1,5 @@
 -- The set at the place that `individual_place` gives.
 use mathlib.Core.Path.{◌∙◌}
-use borrow.Author.Rules.{rules}
 use Rattle.refutation_reader.proofs.individual.names.Goals as goal
 
 pub returns : goal.returns

@@ -1,6 +1,5 @@
 -- At no limits is the product more than 3,328.
 use native.Mathlib.Omega.{arith}
-use borrow.Author.Rules.{rules}
 use Rattle.countermodel.proofs.Individuals.{within_most}
 use Rattle.refutation_reader.proofs.layout.individuals_within.Goals as goal
 

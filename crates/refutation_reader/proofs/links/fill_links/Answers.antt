@@ -1,6 +1,6 @@
-use Prim.Native.Nat.{◌≤◌, ◌<◌, ◌-◌}
+use Prim.Native.Nat.{◌<◌, ◌-◌}
 use native.Mathlib.Omega.{arith}
-use Rattle.table_rows.proofs.Links.{LinkedFrom, link_done, link_next, link_none}
+use Rattle.table_rows.proofs.Links.{link_done, link_next, link_none}
 use Rattle.table.proofs.Ranges.{each_at}
 use Rattle.countermodel.specs.Individual.{individual_ok, individual_parent}
 use Rattle.countermodel.specs.Layout.{most_individuals}

@@ -1,11 +1,8 @@
 -- At the loop's head the links have the individuals from k on. Each one becomes the lowest of its parent's.
-use Prim.Native.Nat.{◌≤◌, ◌<◌, ◌-◌}
-use native.Mathlib.Omega.{arith}
-use Rattle.table_rows.proofs.Links.{LinkedFrom, link_done, link_next, link_none}
-use Rattle.table.proofs.Ranges.{each_at}
-use Rattle.countermodel.specs.Individual.{individual_ok, individual_parent}
+use Prim.Native.Nat.{◌≤◌}
+use Rattle.table_rows.proofs.Links.{LinkedFrom}
+use Rattle.countermodel.specs.Individual.{individual_parent}
 use Rattle.countermodel.specs.Layout.{most_individuals}
-use Rattle.countermodel.proofs.Individuals.{individual_parent_is}
 use Rattle.refutation_reader.proofs.links.fill_links.Given as goal
 
 abbrev pub invariant-loop-k : goal.invariant-loop-k

@@ -1,7 +1,6 @@
 -- The row is marked, or the label was.
 use borrow.Author.Tests.{eq-eqb, ne_eqb}
 use mathlib.Core.Path.{sym}
-use borrow.Author.Rules.{rules}
 use Rattle.row_sets.proofs.label.bottom_with.Goals as goal
 
 pub returns-then-impossible-eq1 : goal.returns-then-impossible-eq1

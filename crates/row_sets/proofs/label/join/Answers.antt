@@ -1,7 +1,6 @@
 -- Each part of the label is joined with that of the row; the row's sets were read from eight bytes.
 use Prim.Native.Nat.{◌<◌, ◌^◌}
 use mathlib.Core.Path.{subst, ap, ◌∙◌}
-use borrow.Author.Rules.{rules}
 use Rattle.table.specs.Layout.{name_count}
 use Rattle.table.specs.NameSet.{union}
 use Rattle.table.specs.NameValues.{set_of}

@@ -2,7 +2,6 @@
 use Prim.Native.Nat.{◌^◌, ◌≤◌}
 use native.Mathlib.Omega.{arith}
 use lib.Pow.{pow_mono}
-use borrow.Author.Rules.{rules}
 use Rattle.row_sets.proofs.rows.bit.Goals as goal
 
 pub returns : goal.returns

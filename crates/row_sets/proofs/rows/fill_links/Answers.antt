@@ -1,8 +1,8 @@
-use Prim.Native.Nat.{◌≤◌, ◌<◌, ◌-◌}
+use Prim.Native.Nat.{◌<◌, ◌-◌}
 use native.Mathlib.Omega.{arith}
 use Rattle.table.specs.Bounds.{max_rows}
 use Rattle.table.specs.Fields.{parent_of}
-use Rattle.table_rows.proofs.Links.{LinkedFrom, link_done, link_next, link_none}
+use Rattle.table_rows.proofs.Links.{link_done, link_next, link_none}
 use Rattle.row_sets.proofs.rows.fill_links.Goals as goal
 
 pub loop-j-init : goal.loop-j-init

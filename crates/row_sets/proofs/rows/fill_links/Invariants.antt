@@ -1,9 +1,8 @@
 -- At the loop's head the tables have the rows from j on. Each row becomes the lowest of its parent's.
-use Prim.Native.Nat.{◌≤◌, ◌<◌, ◌-◌}
-use native.Mathlib.Omega.{arith}
+use Prim.Native.Nat.{◌≤◌}
 use Rattle.table.specs.Bounds.{max_rows}
 use Rattle.table.specs.Fields.{parent_of}
-use Rattle.table_rows.proofs.Links.{LinkedFrom, link_done, link_next, link_none}
+use Rattle.table_rows.proofs.Links.{LinkedFrom}
 use Rattle.row_sets.proofs.rows.fill_links.Given as goal
 
 abbrev pub invariant-loop-j : goal.invariant-loop-j

@@ -1,10 +1,9 @@
-use Prim.Native.Nat.{ℕ, ◌-◌, ◌%◌, ◌<◌}
+use Prim.Native.Nat.{ℕ, ◌%◌, ◌<◌}
 use native.Mathlib.Omega.{arith}
-use borrow.Author.Rules.{rules}
-use mathlib.Core.Path.{◌≡◌, ap, refl, ◌∙◌}
+use mathlib.Core.Path.{ap, refl, ◌∙◌}
 use Rattle.table.specs.Bounds.{max_rows}
 use Rattle.table.specs.Layout.{roles}
-use Rattle.row_sets.proofs.Masks.{MaskedTo, mask_done, mask_next, mask_none}
+use Rattle.row_sets.proofs.Masks.{mask_done, mask_next, mask_none}
 use Rattle.row_sets.proofs.rows.fill_masks.Goals as goal
 
 pub loop-j-init : goal.loop-j-init

@@ -1,11 +1,6 @@
 -- At the loop's head the table has the rows before j.
-use Prim.Native.Nat.{ℕ, ◌-◌, ◌%◌, ◌<◌}
-use native.Mathlib.Omega.{arith}
-use borrow.Author.Rules.{rules}
-use mathlib.Core.Path.{◌≡◌, ap, refl, ◌∙◌}
-use Rattle.table.specs.Bounds.{max_rows}
-use Rattle.table.specs.Layout.{roles}
-use Rattle.row_sets.proofs.Masks.{MaskedTo, mask_done, mask_next, mask_none}
+use Prim.Native.Nat.{◌-◌}
+use Rattle.row_sets.proofs.Masks.{MaskedTo}
 use Rattle.row_sets.proofs.rows.fill_masks.Given as goal
 
 abbrev pub invariant-loop-j : goal.invariant-loop-j

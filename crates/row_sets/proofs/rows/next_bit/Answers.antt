@@ -3,7 +3,6 @@ use Prim.Native.Nat.{◌/◌, ◌^◌}
 use native.Mathlib.Omega.{arith}
 use lib.Count.{trailing_le}
 use Rattle.row_sets.proofs.Words.{next_clear, next_set}
-use borrow.Author.Rules.{rules}
 use Rattle.row_sets.proofs.rows.next_bit.Goals as goal
 
 pub overflow_cast-result : goal.overflow_cast-result

@@ -1,10 +1,7 @@
 use mathlib.Core.Bool.{true}
-use mathlib.Core.Path.{◌≡◌}
-use Prim.Native.Nat.{◌-◌, ◌<◌}
 use native.Mathlib.Omega.{arith}
-use borrow.Author.Rules.{rules}
 use Rattle.row_sets.specs.Rows.{holds}
-use Rattle.row_sets.proofs.Gathers.{Gathered, gather_done, gather_none, gather_yes}
+use Rattle.row_sets.proofs.Gathers.{gather_done, gather_none, gather_yes}
 use Rattle.row_sets.proofs.LabelLaws.{valued_none}
 use Rattle.row_sets.proofs.values.gather.Goals as goal
 

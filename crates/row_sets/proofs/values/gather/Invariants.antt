@@ -2,11 +2,8 @@
 use mathlib.Core.Bool.{true}
 use mathlib.Core.Path.{◌≡◌}
 use Prim.Native.Nat.{◌-◌, ◌<◌}
-use native.Mathlib.Omega.{arith}
-use borrow.Author.Rules.{rules}
 use Rattle.row_sets.specs.Rows.{holds}
-use Rattle.row_sets.proofs.Gathers.{Gathered, gather_done, gather_none, gather_yes}
-use Rattle.row_sets.proofs.LabelLaws.{valued_none}
+use Rattle.row_sets.proofs.Gathers.{Gathered}
 use Rattle.row_sets.proofs.values.gather.Given as goal
 
 abbrev pub invariant-loop-j : goal.invariant-loop-j

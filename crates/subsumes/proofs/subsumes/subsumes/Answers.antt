@@ -1,6 +1,5 @@
 -- 1, and then what `prepare` has answered and written; the verdict is on the tables that it has put into the work space.
 -- the ways back: from the answer to 1 and from what `prepare` has given to the entry, from the parts to the latter
-use borrow.Author.Rules.{rules}
 use lib.ListN.{length}
 use Prim.Native.Nat.{◌≤◌}
 use mathlib.Core.Bool.{true}

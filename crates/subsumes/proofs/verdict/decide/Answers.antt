@@ -3,7 +3,6 @@ use mathlib.Core.Path.{refl}
 use lib.ListN.{length}
 use Rattle.table_rows.proofs.Stores.{blank}
 use Rattle.subsumes.proofs.Decisions.{decided_no, decided_yes, map_fits, mapped}
-use borrow.Author.Rules.{rules}
 use Rattle.subsumes.proofs.verdict.decide.Goals as goal
 
 pub fill_links-requires : goal.fill_links-requires

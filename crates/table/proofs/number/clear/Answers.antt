@@ -1,11 +1,8 @@
-use mathlib.Core.Path.{◌≡◌, ap, refl, ◌∙◌}
+use mathlib.Core.Path.{ap, refl, ◌∙◌}
 use mathlib.Core.List.{List}
-use Prim.Native.Nat.{ℕ, ◌-◌, ◌≤◌}
+use Prim.Native.Nat.{ℕ}
 use native.Mathlib.Omega.{arith}
-use lib.ListN.{length, length-set, set}
-use lib.Seq.{paste}
-use borrow.Author.Rules.{rules}
-use Rattle.table.specs.Put.{zeros}
+use lib.ListN.{length-set, set}
 use Rattle.table.proofs.Puts.{clear_end, clear_start, clear_step}
 use Rattle.table.proofs.number.clear.Goals as goal
 

@@ -1,13 +1,9 @@
 -- At the loop's head the first j bytes of src stand at their place, and all else is as it was.
 -- The measure is what is left of src.
-use mathlib.Core.Path.{◌≡◌, refl, ap, ◌∙◌}
-use Prim.Native.Nat.{ℕ, ◌+◌, ◌-◌, ◌≤◌, ◌<◌}
-use native.Mathlib.Omega.{arith}
-use native.Mathlib.Numerals.{add-one}
-use lib.ListN.{length, length-set}
-use lib.Seq.{paste, paste-zero, paste-suc}
-use borrow.Author.Rules.{rules}
-use Rattle.table.proofs.Puts.{put_paste}
+use mathlib.Core.Path.{◌≡◌}
+use Prim.Native.Nat.{◌-◌, ◌≤◌}
+use lib.ListN.{length}
+use lib.Seq.{paste}
 use Rattle.table.proofs.number.copy_in.Given as goal
 
 abbrev pub invariant-loop-j : goal.invariant-loop-j

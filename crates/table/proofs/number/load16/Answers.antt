@@ -1,7 +1,6 @@
 -- Two bytes, the first with weight 256: `be-two`.
 use native.Mathlib.Omega.{arith}
 use Rattle.table.proofs.Numbers.{be_two}
-use borrow.Author.Rules.{rules}
 use Rattle.table.proofs.number.load16.Goals as goal
 
 pub returns : goal.returns

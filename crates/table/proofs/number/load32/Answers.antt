@@ -1,7 +1,6 @@
 -- One byte more, each time: `be-more`.
 use native.Mathlib.Omega.{arith}
 use Rattle.table.proofs.Numbers.{be_more}
-use borrow.Author.Rules.{rules}
 use Rattle.table.proofs.number.load32.Goals as goal
 
 pub returns : goal.returns

@@ -1,6 +1,5 @@
 -- One byte more, each time: `be-more`.
 use Rattle.table.proofs.Numbers.{be_more}
-use borrow.Author.Rules.{rules}
 use Rattle.table.proofs.number.load64.Goals as goal
 
 pub returns : goal.returns

@@ -1,7 +1,6 @@
 -- The length says where an end field could stand; its tag and its length are what the definition asks for.
 use Prim.Native.Nat.{◌+◌}
 use native.Mathlib.Omega.{arith}
-use borrow.Author.Rules.{rules}
 use borrow.Author.Tests.{eq-eqb, ne_eqb}
 use lib.ListN.{length}
 use Rattle.table.specs.Fields.{ends_at}

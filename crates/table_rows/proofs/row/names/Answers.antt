@@ -1,6 +1,5 @@
 -- The set at the place that `place` gives.
 use mathlib.Core.Path.{◌∙◌}
-use borrow.Author.Rules.{rules}
 use Rattle.table_rows.proofs.row.names.Goals as goal
 
 pub returns : goal.returns

@@ -1,7 +1,6 @@
 -- The three bytes of the end field are put there.
 use Rattle.table.specs.Number.{be_bytes}
 use Rattle.table.specs.Fields.{end_bytes}
-use borrow.Author.Rules.{rules}
 use Rattle.table_rows.proofs.row.write_end.Goals as goal
 
 pub returns : goal.returns

@@ -1,19 +1,14 @@
 use mathlib.Core.Path.{◌∙◌, ◌≡◌, refl, sym}
 use mathlib.Core.Bool.{true}
-use Prim.Native.Nat.{◌-◌, ◌≤◌}
 use native.Mathlib.Omega.{arith}
 use borrow.Author.Tests.{le-leb, lt-leb}
-use lib.ListN.{length, length-set}
+use lib.ListN.{length-set}
 use Rattle.table.proofs.Ranges.{each_done, each_fails, each_on}
-use Rattle.table.specs.Bounds.{max_rows}
 use Rattle.table.specs.Fields.{parent_of}
-use Rattle.table.specs.Range.{each}
 use Rattle.picture.proofs.Questions.{ok_parent}
 use Rattle.picture.specs.Depth.{depth}
 use Rattle.picture.specs.Questions.{parent_ok}
 use Rattle.picture_questions.proofs.Depths.{known_next, known_root}
-use Rattle.picture_questions.specs.Depths.{Known}
-use Rattle.unfold_depth.specs.Depths.{shallow}
 use Rattle.unfold_depth.proofs.ShallowRows.{shallow_at, shallow_root}
 use Rattle.unfold_depth.proofs.depth.is_shallow.Goals as goal
 

@@ -1,22 +1,13 @@
 -- At the loop's head the depths of the rows before row n are noted, n is not 0, and what is left to ask is the test
 -- from row n on.
-use mathlib.Core.Path.{◌∙◌, ◌≡◌, refl, sym}
-use mathlib.Core.Bool.{true}
+use mathlib.Core.Path.{◌≡◌}
 use Prim.Native.Nat.{◌-◌, ◌≤◌}
-use native.Mathlib.Omega.{arith}
-use borrow.Author.Tests.{le-leb, lt-leb}
-use lib.ListN.{length, length-set}
-use Rattle.table.proofs.Ranges.{each_done, each_fails, each_on}
+use lib.ListN.{length}
 use Rattle.table.specs.Bounds.{max_rows}
-use Rattle.table.specs.Fields.{parent_of}
 use Rattle.table.specs.Range.{each}
-use Rattle.picture.proofs.Questions.{ok_parent}
-use Rattle.picture.specs.Depth.{depth}
-use Rattle.picture.specs.Questions.{parent_ok}
-use Rattle.picture_questions.proofs.Depths.{known_next, known_root}
 use Rattle.picture_questions.specs.Depths.{Known}
 use Rattle.unfold_depth.specs.Depths.{shallow}
-use Rattle.unfold_depth.proofs.ShallowRows.{shallow_at, shallow_root}
+use Rattle.unfold_depth.proofs.ShallowRows.{shallow_at}
 use Rattle.unfold_depth.proofs.depth.is_shallow.Given as goal
 
 abbrev pub invariant-loop-n : goal.invariant-loop-n

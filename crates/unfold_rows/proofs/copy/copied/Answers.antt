@@ -1,5 +1,4 @@
 -- Each field is read from the row.
-use borrow.Author.Rules.{rules}
 use mathlib.Core.Path.{sym}
 use Rattle.unfold_rows.proofs.Copying.{set_whole}
 use Rattle.unfold_rows.proofs.copy.copied.Goals as goal

@@ -1,6 +1,4 @@
-use Prim.Native.Nat.{◌-◌, ◌≤◌}
 use native.Mathlib.Omega.{arith}
-use borrow.Author.Rules.{rules}
 use mathlib.Core.Path.{◌∙◌, ◌≡◌, subst}
 use Rattle.unfold_rows.specs.Copies.{Added, copy_bytes}
 use Rattle.unfold_rows.proofs.Copying.{added_none, added_own}

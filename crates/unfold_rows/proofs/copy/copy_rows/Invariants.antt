@@ -1,10 +1,7 @@
 -- At the loop's head k rows have been pushed.
 use Prim.Native.Nat.{◌-◌, ◌≤◌}
-use native.Mathlib.Omega.{arith}
-use borrow.Author.Rules.{rules}
-use mathlib.Core.Path.{◌∙◌, ◌≡◌, subst}
+use mathlib.Core.Path.{◌≡◌}
 use Rattle.unfold_rows.specs.Copies.{Added, copy_bytes}
-use Rattle.unfold_rows.proofs.Copying.{added_none, added_own}
 use Rattle.unfold_rows.proofs.copy.copy_rows.Given as goal
 
 abbrev pub invariant-loop-k : goal.invariant-loop-k

@@ -1,12 +1,9 @@
 -- At the loop's head rows 1 to k - 1 of the definition have been pushed.
 use Prim.Native.Nat.{◌+◌, ◌-◌, ◌<◌, ◌≤◌}
-use native.Mathlib.Omega.{arith}
-use mathlib.Core.Path.{◌∙◌, ◌≡◌, ap, refl, subst}
+use mathlib.Core.Path.{◌≡◌}
 use Rattle.ale.specs.PictureSignature.{picture_signature}
 use Rattle.tbox.specs.Unfold.{parent_in}
-use Rattle.picture.specs.Readable.{row_count}
 use Rattle.unfold_rows.specs.Copies.{Added, copy_bytes}
-use Rattle.unfold_rows.proofs.Copying.{added_hung, added_none}
 use Rattle.unfold_rows.proofs.copy.hang.Given as goal
 
 abbrev pub invariant-loop-k : goal.invariant-loop-k

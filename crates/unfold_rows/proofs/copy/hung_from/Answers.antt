@@ -1,5 +1,4 @@
 -- Row suc p of a definition becomes row first + p.
-use borrow.Author.Rules.{rules}
 use Rattle.unfold_rows.proofs.Copying.{hung_later}
 use Rattle.unfold_rows.proofs.copy.hung_from.Goals as goal
 

@@ -2,7 +2,6 @@
 use lib.ListN.{take}
 use lib.Seq.{length-take-le}
 use native.Mathlib.Omega.{arith}
-use borrow.Author.Rules.{rules}
 use mathlib.Core.Path.{ap, sym}
 use Rattle.unfold_rows.proofs.file.file_part.Goals as goal
 

@@ -7,7 +7,6 @@ use Rattle.table.specs.Layout.{«place»}
 use Rattle.table.specs.NameSet.{intersection}
 use Rattle.table.specs.NameValues.{set_of}
 use Rattle.table.specs.Put.{put}
-use borrow.Author.Rules.{rules}
 use Rattle.unfold_rows.proofs.relabel.relabel.Goals as goal
 
 pub returns : goal.returns

@@ -1,7 +1,6 @@
 -- The lowest bit of the names that are wanted, defined and not taken in.
 use Rattle.table.specs.NameValues.{set_of}
 use Rattle.unfold_rows.proofs.TakingLaws.{lowest_wanted}
-use borrow.Author.Rules.{rules}
 use Rattle.unfold_rows.proofs.take.next_name.Goals as goal
 
 pub returns : goal.returns

@@ -1,4 +1,4 @@
-use Prim.Native.Nat.{◌<◌, ◌^◌, ◌≤◌, ℕ}
+use Prim.Native.Nat.{◌<◌}
 use native.Mathlib.Omega.{arith}
 use mathlib.Core.Bool.{true}
 use mathlib.Core.Path.{◌≡◌, refl, subst, sym}
@@ -8,7 +8,7 @@ use Rattle.table.specs.NameValues.{set_of}
 use Rattle.table_rows.specs.Rows.{HasRow}
 use Rattle.definition_parts.proofs.Parts.{opened_has, opened_some}
 use Rattle.unfold_rows.specs.Takings.{Took}
-use Rattle.unfold_rows.proofs.TakingLaws.{Onward, known_next, known_none, name_below, name_defined, onward_done, onward_next, onward_stop, taken_below}
+use Rattle.unfold_rows.proofs.TakingLaws.{known_next, known_none, name_below, name_defined, onward_done, onward_next, onward_stop, taken_below}
 use Rattle.unfold_rows.proofs.take.take_in.Goals as goal
 
 pub loop-left-init : goal.loop-left-init

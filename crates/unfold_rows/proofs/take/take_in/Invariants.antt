@@ -1,15 +1,11 @@
 -- At the loop's head: once the rounds that are left are over, all is taken in (`Onward`).
 use Prim.Native.Nat.{◌<◌, ◌^◌, ◌≤◌, ℕ}
-use native.Mathlib.Omega.{arith}
 use mathlib.Core.Bool.{true}
-use mathlib.Core.Path.{◌≡◌, refl, subst, sym}
+use mathlib.Core.Path.{◌≡◌}
 use Rattle.table.specs.Layout.{name_count}
 use Rattle.table.specs.NameSet.{has}
 use Rattle.table.specs.NameValues.{set_of}
-use Rattle.table_rows.specs.Rows.{HasRow}
-use Rattle.definition_parts.proofs.Parts.{opened_has, opened_some}
-use Rattle.unfold_rows.specs.Takings.{Took}
-use Rattle.unfold_rows.proofs.TakingLaws.{Onward, known_next, known_none, name_below, name_defined, onward_done, onward_next, onward_stop, taken_below}
+use Rattle.unfold_rows.proofs.TakingLaws.{Onward}
 use Rattle.unfold_rows.proofs.take.take_in.Given as goal
 
 abbrev pub invariant-loop-left : goal.invariant-loop-left

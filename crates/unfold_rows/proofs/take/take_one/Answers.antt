@@ -6,7 +6,6 @@ use Rattle.table.specs.Layout.{name_count}
 use Rattle.table.specs.NameSet.{union}
 use Rattle.table.specs.NameValues.{set_of}
 use Rattle.table.specs.Pick.{pick}
-use borrow.Author.Rules.{rules}
 use Rattle.unfold_rows.proofs.take.take_one.Goals as goal
 
 pub returns : goal.returns

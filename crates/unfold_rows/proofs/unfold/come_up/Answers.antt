@@ -1,8 +1,6 @@
 -- Row i stands as it was copied. Where it wants no defined name it stays; else it is written anew, and what it took in
 -- is hung to it.
 use native.Mathlib.Omega.{arith}
-use borrow.Author.Rules.{rules}
-use borrow.Author.Tests.{not-true}
 use mathlib.Core.Bool.{false}
 use mathlib.Core.Path.{◌∙◌, ◌≡◌, ap, refl, sym}
 use Rattle.table.specs.Fields.{wanted_of}

@@ -1,16 +1,12 @@
-use Prim.Native.Nat.{◌+◌, ◌-◌, ◌≤◌}
-use lib.ListN.{length}
 use native.Mathlib.Omega.{arith}
-use borrow.Author.Rules.{rules}
 use mathlib.Core.Bool.{true}
 use mathlib.Core.Path.{◌∙◌, ◌≡◌, refl, subst, sym}
-use Rattle.table.specs.Layout.{name_count}
 use Rattle.table.specs.NameSet.{has}
 use Rattle.table.specs.NameValues.{set_of}
 use Rattle.picture.specs.Readable.{row_count}
-use Rattle.definition_parts.proofs.NameWalks.{Walk, walk_held, walk_later, walk_next, walk_start}
+use Rattle.definition_parts.proofs.NameWalks.{walk_held, walk_later, walk_next, walk_start}
 use Rattle.unfold_rows.specs.Copies.{Source}
-use Rattle.unfold_rows.proofs.Attaching.{Onward, hung_most, hung_of, names_after, names_first, onward_end, onward_next, onward_start, readable_source}
+use Rattle.unfold_rows.proofs.Attaching.{hung_most, hung_of, names_after, names_first, onward_end, onward_next, onward_start, readable_source}
 use Rattle.unfold_rows.proofs.unfold.hang_all.Goals as goal
 
 pub loop-name-init : goal.loop-name-init

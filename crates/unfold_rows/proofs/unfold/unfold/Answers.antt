@@ -1,11 +1,10 @@
-use Prim.Native.Nat.{◌-◌, ◌≤◌}
 use lib.ListN.{length}
 use native.Mathlib.Omega.{arith}
 use mathlib.Core.Path.{◌∙◌, ◌≡◌, refl, subst, sym}
 use Rattle.table.specs.NameValues.{set_of}
 use Rattle.unfold_rows.specs.Copies.{Source}
 use Rattle.unfold_rows.proofs.Attaching.{readable_source}
-use Rattle.unfold_rows.proofs.Unfolding.{Grows, grows_end, grows_next, grows_start, grows_stop}
+use Rattle.unfold_rows.proofs.Unfolding.{grows_end, grows_next, grows_start, grows_stop}
 use Rattle.unfold_rows.proofs.unfold.unfold.Goals as goal
 
 pub copy_rows-table-requires : goal.copy_rows-table-requires

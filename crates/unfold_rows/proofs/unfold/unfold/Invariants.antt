@@ -1,12 +1,9 @@
 -- At the loop's head: the table has the rows after i of them have come up, or more than the limit (`Grows`).
 use Prim.Native.Nat.{◌-◌, ◌≤◌}
 use lib.ListN.{length}
-use native.Mathlib.Omega.{arith}
-use mathlib.Core.Path.{◌∙◌, ◌≡◌, refl, subst, sym}
+use mathlib.Core.Path.{◌≡◌}
 use Rattle.table.specs.NameValues.{set_of}
-use Rattle.unfold_rows.specs.Copies.{Source}
-use Rattle.unfold_rows.proofs.Attaching.{readable_source}
-use Rattle.unfold_rows.proofs.Unfolding.{Grows, grows_end, grows_next, grows_start, grows_stop}
+use Rattle.unfold_rows.proofs.Unfolding.{Grows}
 use Rattle.unfold_rows.proofs.unfold.unfold.Given as goal
 
 abbrev pub invariant-loop-i : goal.invariant-loop-i

@@ -1,14 +1,9 @@
 -- At the loop's head no row before j wants a defined name.
 use Prim.Native.Nat.{◌-◌, ◌<◌, ◌≤◌, ℕ}
-use native.Mathlib.Nat.{eq-or-lt_of_le}
-use native.Mathlib.Omega.{arith}
-use borrow.Author.Rules.{rules}
 use mathlib.Core.Bool.{false}
-use mathlib.Core.Logic.{⊎_elim}
-use mathlib.Core.Path.{◌∙◌, ◌≡◌, subst, sym}
+use mathlib.Core.Path.{◌≡◌}
 use Rattle.table.specs.NameValues.{set_of}
-use Rattle.picture.specs.Readable.{row_count}
-use Rattle.unfold_rows.proofs.Wanting.{asks, asks_read, wants_found, wants_none}
+use Rattle.unfold_rows.proofs.Wanting.{asks}
 use Rattle.unfold_rows.proofs.wants.wants_defined.Given as goal
 
 abbrev pub invariant-loop-j : goal.invariant-loop-j

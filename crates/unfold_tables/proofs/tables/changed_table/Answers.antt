@@ -1,6 +1,5 @@
 -- The part is the unfolded picture, which can be read.
 use Prim.Native.Nat.{ℕ}
-use borrow.Author.Rules.{rules}
 use mathlib.Core.List.{List}
 use mathlib.Core.Path.{◌∙◌, ◌≡◌, subst}
 use Rattle.table.specs.NameValues.{set_of}

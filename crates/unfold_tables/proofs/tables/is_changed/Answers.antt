@@ -1,5 +1,4 @@
 -- Without names nothing is wanted; else it is `wants_defined`.
-use borrow.Author.Rules.{rules}
 use borrow.Author.Tests.{eqb-true}
 use mathlib.Core.Path.{◌∙◌, ap, refl, sym}
 use Rattle.table.specs.NameSet.{none}

@@ -1,5 +1,4 @@
 -- The part is the unfolded picture, which can be read.
-use borrow.Author.Rules.{rules}
 use lib.Dec.{leb}
 use mathlib.Core.List.{List}
 use mathlib.Core.Path.{◌∙◌, ◌≡◌, ap}

@@ -1,5 +1,4 @@
 -- 29 is answered yes, so the file is written whole; since a row wants a defined name, it is the unfolded picture.
-use borrow.Author.Rules.{rules}
 use mathlib.Core.Path.{refl}
 use native.Mathlib.Omega.{arith}
 use Rattle.table.specs.NameValues.{set_of}

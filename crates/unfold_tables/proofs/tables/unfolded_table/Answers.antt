@@ -1,6 +1,5 @@
 -- A picture that unfolding does not change is its own unfolded picture.
 use Prim.Native.Nat.{ℕ}
-use borrow.Author.Rules.{rules}
 use mathlib.Core.List.{List}
 use mathlib.Core.Path.{◌∙◌, subst, sym}
 use Rattle.table.specs.NameValues.{set_of}

@@ -1,6 +1,5 @@
 -- The mark, or a name both wanted and excluded.
 use borrow.Author.Tests.{eq-eqb, ne_eqb}
-use borrow.Author.Rules.{rules}
 use Rattle.row_sets.proofs.label.Label.clashes.Goals as goal
 
 pub returns-then-self-eq1 : goal.returns-then-self-eq1

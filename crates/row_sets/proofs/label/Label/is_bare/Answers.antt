@@ -1,7 +1,5 @@
 -- No wanted names, and then no excluded ones.
-use borrow.Author.Tests.{not-true, not-false}
 use mathlib.Core.Path.{sym, ◌∙◌}
-use borrow.Author.Rules.{rules}
 use Rattle.row_sets.proofs.label.Label.is_bare.Goals as goal
 
 pub returns-then-not-is_none : goal.returns-then-not-is_none

@@ -2,10 +2,7 @@
 use Prim.Native.Nat.{ℕ, ◌≤◌, ◌<◌, ◌-◌}
 use mathlib.Core.Bool.{false}
 use mathlib.Core.Path.{◌≡◌}
-use native.Mathlib.Omega.{arith}
-use borrow.Author.Rules.{rules}
 use Rattle.row_sets.specs.Rows.{holds}
-use Rattle.row_sets.proofs.Words.{at_word, before_word}
 use Rattle.row_sets.proofs.rows.RowSet.next.Given as goal
 
 abbrev pub invariant-loop-at : goal.invariant-loop-at

@@ -2,7 +2,6 @@
 use mathlib.Core.Path.{ap, refl, ◌∙◌}
 use Prim.Native.Nat.{ℕ, ◌*◌, ◌+◌, ◌%◌}
 use Rattle.row_sets.proofs.Words.{meet_row}
-use borrow.Author.Rules.{rules}
 use Rattle.row_sets.proofs.rows.RowSet.of_edge.Goals as goal
 
 pub returns : goal.returns

@@ -3,7 +3,6 @@ use mathlib.Core.Path.{ap}
 use Prim.Native.Nat.{ℕ}
 use lib.Bits.{bit_or}
 use Rattle.row_sets.proofs.Words.{with_row}
-use borrow.Author.Rules.{rules}
 use Rattle.row_sets.proofs.rows.RowSet.with.Goals as goal
 
 pub returns : goal.returns

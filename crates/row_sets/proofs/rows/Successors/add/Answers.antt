@@ -1,15 +1,12 @@
-use mathlib.Core.Path.{◌≡◌, subst, sym}
-use Prim.Native.Nat.{◌+◌, ◌-◌, ◌<◌}
+use mathlib.Core.Path.{subst, sym}
+use Prim.Native.Nat.{◌+◌}
 use native.Mathlib.Omega.{arith}
-use borrow.Author.Rules.{rules}
-use lib.Dec.{eqb}
 use lib.ListN.{get_or}
 use Rattle.table.specs.Bounds.{max_rows}
-use Rattle.table.specs.Pick.{pick}
 use Rattle.table.specs.Fields.{parent_of}
 use Rattle.table_rows.specs.Links.{Nearest}
 use Rattle.table_rows.proofs.Links.{walk_less}
-use Rattle.row_sets.proofs.Links.{Walked, walk_done, walk_next, walk_none}
+use Rattle.row_sets.proofs.Links.{walk_done, walk_next, walk_none}
 use Rattle.row_sets.proofs.rows.Successors.add.Goals as goal
 
 pub bounds-links-c : goal.bounds-links-c

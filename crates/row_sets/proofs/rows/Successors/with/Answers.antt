@@ -4,7 +4,6 @@ use Prim.Native.Nat.{ℕ, ◌^◌}
 use native.Mathlib.Omega.{arith}
 use Rattle.table.specs.Fields.{role_of}
 use Rattle.row_sets.proofs.Words.{bit_more}
-use borrow.Author.Rules.{rules}
 use Rattle.row_sets.proofs.rows.Successors.with.Goals as goal
 
 pub bit-new-requires : goal.bit-new-requires

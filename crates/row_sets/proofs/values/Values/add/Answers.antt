@@ -1,6 +1,5 @@
 -- The label is joined with that of the row, and what hangs from the row is added.
 use mathlib.Core.Path.{refl}
-use borrow.Author.Rules.{rules}
 use Rattle.row_sets.proofs.values.Values.add.Goals as goal
 
 pub returns : goal.returns

@@ -1,7 +1,6 @@
 -- The bytes of the word are those that `beBytes` computes.
 use native.Mathlib.Nat.{div-one}
 use Rattle.table.specs.Number.{be_bytes}
-use borrow.Author.Rules.{rules}
 use Rattle.table.proofs.names.Names.bytes.Goals as goal
 
 pub returns : goal.returns

@@ -1,6 +1,5 @@
 -- The bytes of the set are put at the place.
 use mathlib.Core.Path.{◌∙◌}
-use borrow.Author.Rules.{rules}
 use Rattle.table.proofs.names.Names.store.Goals as goal
 
 pub returns : goal.returns

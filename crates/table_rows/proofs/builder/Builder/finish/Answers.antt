@@ -1,6 +1,5 @@
 -- The end field is put after the last row.
 use mathlib.Core.Path.{◌∙◌}
-use borrow.Author.Rules.{rules}
 use Rattle.table_rows.proofs.builder.Builder.finish.Goals as goal
 
 pub returns : goal.returns

@@ -6,10 +6,8 @@ use Rattle.table.specs.Layout.{«place»}
 use Rattle.table.specs.Number.{be_bytes}
 use Rattle.table.specs.Fields.{row_of}
 use Rattle.table.proofs.Puts.{put_three}
-use borrow.Author.Rules.{rules}
 use Rattle.table_rows.proofs.builder.Builder.push.Goals as goal
 
--- LEFT c.before.before.before.before.before.before.before.before.before.before.before.before.before.before.before.before.before.before.before.before.before is a place
 pub returns : goal.returns
 unfolding row_of be_bytes
 returns c =
@@ -21,5 +19,5 @@ returns c =
       rw div-one
           (put_three a.out.now p.new.dst q.new.out r.new.out (place a.self.rows 0) _ _ _ _ _ _
           c.place.ensures (omega (arith, c.place-2.ensures)) (omega (arith, c.place-3.ensures))
-          p.ensures q.ensures r.ensures (omega (arith, c))),
+          p.ensures q.ensures r.ensures (omega arith)),
     )
