@@ -16,7 +16,7 @@ use table::layout::{END_SIZE, HEAD_SIZE, MAX_ROWS, ROW_SIZE};
 const SPACE: usize = ROW_SIZE * (MAX_ROWS + 1) + END_SIZE;
 
 // A picture of so many rows, in a chain or under one root.
-fn counted(rt: &impl Print, label: &str, count: usize, chain: bool) -> io::Result<()> {
+fn counted(rt: &impl Print, label: &[u8], count: usize, chain: bool) -> io::Result<()> {
     let mut s = [0u8; SPACE];
     let m = rows(&mut s, count, chain);
     let n = end(&mut s, m);
@@ -25,24 +25,24 @@ fn counted(rt: &impl Print, label: &str, count: usize, chain: bool) -> io::Resul
 
 // 5, and that it is asked before 6; 12.
 fn sizes(rt: &impl Print) -> io::Result<()> {
-    counted(rt, "one empty row", 1, false)?;
-    counted(rt, "256 rows", 256, false)?;
-    counted(rt, "257 rows", 257, false)?;
+    counted(rt, b"one empty row", 1, false)?;
+    counted(rt, b"256 rows", 256, false)?;
+    counted(rt, b"257 rows", 257, false)?;
     let mut s = [0u8; SPACE];
     let n = rows(&mut s, 256, false);
     row(&mut s, n, 0, 1, 8, 0);
     tell(
         rt,
-        "257 rows, the last cut after its head",
+        b"257 rows, the last cut after its head",
         &s,
         n + HEAD_SIZE,
     )?;
-    counted(rt, "depth 12", 13, true)?;
-    counted(rt, "depth 13", 14, true)
+    counted(rt, b"depth 12", 13, true)?;
+    counted(rt, b"depth 13", 14, true)
 }
 
 // The normal table of a picture of so many rows, in a chain or under one root.
-fn normal_counted(rt: &impl Print, label: &str, count: usize, chain: bool) -> io::Result<()> {
+fn normal_counted(rt: &impl Print, label: &[u8], count: usize, chain: bool) -> io::Result<()> {
     let mut s = [0u8; SPACE];
     let m = rows(&mut s, count, chain);
     let n = end(&mut s, m);
@@ -50,7 +50,7 @@ fn normal_counted(rt: &impl Print, label: &str, count: usize, chain: bool) -> io
 }
 
 // That of one all r with so many some s, and so many some r.
-fn normal_shared(rt: &impl Print, label: &str, below: usize, beside: usize) -> io::Result<()> {
+fn normal_shared(rt: &impl Print, label: &[u8], below: usize, beside: usize) -> io::Result<()> {
     let mut s = [0u8; SPACE];
     let m = shared(&mut s, below, beside);
     let n = end(&mut s, m);
@@ -60,21 +60,21 @@ fn normal_shared(rt: &impl Print, label: &str, below: usize, beside: usize) -> i
 // Pictures at the limits.
 fn normals(rt: &impl Print) -> io::Result<()> {
     let mut s = [0u8; SPACE];
-    normal_counted(rt, "one empty row", 1, false)?;
-    normal_counted(rt, "256 rows", 256, false)?;
-    normal_counted(rt, "257 rows", 257, false)?;
-    normal_counted(rt, "depth 12", 13, true)?;
-    normal_counted(rt, "depth 13", 14, true)?;
+    normal_counted(rt, b"one empty row", 1, false)?;
+    normal_counted(rt, b"256 rows", 256, false)?;
+    normal_counted(rt, b"257 rows", 257, false)?;
+    normal_counted(rt, b"depth 12", 13, true)?;
+    normal_counted(rt, b"depth 13", 14, true)?;
     let m = alls(&mut s, 255);
     let k = end(&mut s, m);
-    tell_normal(rt, "255 all r", &s, k)
+    tell_normal(rt, b"255 all r", &s, k)
 }
 
 // 14: what is shared by an all-successor is counted for each some-successor, before dropping.
 fn merged(rt: &impl Print) -> io::Result<()> {
-    normal_shared(rt, "one all r with 16 some s, and 14 some r", 16, 14)?;
-    normal_shared(rt, "one all r with 15 some s, and 15 some r", 15, 15)?;
-    normal_shared(rt, "one all r, and 254 some r", 0, 254)
+    normal_shared(rt, b"one all r with 16 some s, and 14 some r", 16, 14)?;
+    normal_shared(rt, b"one all r with 15 some s, and 15 some r", 15, 15)?;
+    normal_shared(rt, b"one all r, and 254 some r", 0, 254)
 }
 
 // That of 003, Example 26, so many edges deep.
@@ -94,7 +94,7 @@ fn nestings(rt: &impl Print) -> io::Result<()> {
 }
 
 // The common picture of two pictures of so many rows, all under the root by one role.
-fn common_counted(rt: &impl Print, label: &str, one: usize, other: usize) -> io::Result<()> {
+fn common_counted(rt: &impl Print, label: &[u8], one: usize, other: usize) -> io::Result<()> {
     let mut s = [0u8; SPACE];
     let a = rows(&mut s, one, false);
     let n = end(&mut s, a);
@@ -106,9 +106,9 @@ fn common_counted(rt: &impl Print, label: &str, one: usize, other: usize) -> io:
 
 // 15: each some-successor of the first is paired with each of the second.
 fn commons(rt: &impl Print) -> io::Result<()> {
-    common_counted(rt, "15 some r with 17 some r", 16, 18)?;
-    common_counted(rt, "16 some r with 16 some r", 17, 17)?;
-    common_counted(rt, "255 some r with one empty row", 256, 1)
+    common_counted(rt, b"15 some r with 17 some r", 16, 18)?;
+    common_counted(rt, b"16 some r with 16 some r", 17, 17)?;
+    common_counted(rt, b"255 some r with one empty row", 256, 1)
 }
 
 fn main(rt: HostRuntime) -> io::Result<()> {

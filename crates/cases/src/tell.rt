@@ -56,8 +56,8 @@ fn tell_first(rt: &impl Print, s: &[u8], n: usize) -> io::Result<()> {
     Ok(())
 }
 
-pub fn tell(rt: &impl Print, label: &str, s: &[u8], n: usize) -> io::Result<()> {
-    print!(rt; "{label}")?;
+pub fn tell(rt: &impl Print, label: &[u8], s: &[u8], n: usize) -> io::Result<()> {
+    rt.write_all(label)?;
     tell_first(rt, s, n)
 }
 
@@ -76,9 +76,10 @@ fn tell_first_normal(rt: &impl Print, s: &[u8], n: usize, out: &mut [u8]) -> io:
     Ok(())
 }
 
-pub fn tell_normal(rt: &impl Print, label: &str, s: &[u8], n: usize) -> io::Result<()> {
+pub fn tell_normal(rt: &impl Print, label: &[u8], s: &[u8], n: usize) -> io::Result<()> {
     let mut out = [0u8; RESULT];
-    print!(rt; "normal table of {label}")?;
+    print!(rt; "normal table of ")?;
+    rt.write_all(label)?;
     tell_first_normal(rt, s, n, &mut out)
 }
 
@@ -116,12 +117,13 @@ fn tell_first_least(rt: &impl Print, s: &[u8], n: usize, t: &[u8], m: usize) -> 
 
 pub fn tell_common(
     rt: &impl Print,
-    label: &str,
+    label: &[u8],
     s: &[u8],
     n: usize,
     t: &[u8],
     m: usize,
 ) -> io::Result<()> {
-    print!(rt; "common picture of {label}")?;
+    print!(rt; "common picture of ")?;
+    rt.write_all(label)?;
     tell_first_least(rt, s, n, t, m)
 }
