@@ -1,7 +1,7 @@
 -- What is not normal.
 use Prim.Native.Nat.{◌<◌, ◌≤◌, ℕ}
 use mathlib.Core.Bool.{false, true}
-use mathlib.Core.Path.{ap}
+use mathlib.Core.Path.{ap, ◌≡◌}
 use native.Mathlib.Omega.{arith}
 use Rattle.table.specs.NameSet.{has}
 use Rattle.ale.specs.Theory.{CanonicalBottom, Ordered, Reduced, Saturated}

@@ -16,6 +16,7 @@
 --   stack_equivalent                                folding in any order, with repetition
 --   k9_ordered, k9_bottoms                          the product's successors are ordered, its ⊥ nodes bare
 --   k7_lowest, k7_exists, k7_whenever, k7_no_lower  our map by rows is a homomorphism, whenever there is one, and the lowest
+use mathlib.Core.Path.{◌≡◌}
 use Prim.Native.Nat.{◌*◌, ◌≤◌, suc, zero, ℕ}
 use lib.Dec.{T, lit<, lit≤, ltb}
 use lib.ListN.{length}
