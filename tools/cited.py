@@ -1,5 +1,5 @@
 #!/usr/bin/env python3
-"""Checks that what README.md and docs/*.md cite is there: paths, and names between backticks.
+"""Checks that what README.md and docs/*.md, but for docs/PORT.md, cite is there: paths, and names between backticks.
 
     tools/cited.py [DOCUMENT ..]
 
@@ -19,6 +19,7 @@ import sys
 ROOT = os.path.dirname(os.path.dirname(os.path.abspath(__file__)))
 FOLDERS = ['crates', 'include', 'tests', 'tools', 'examples', 'bench', 'samples', 'package']
 CLAIMS = 'docs/CLAIMS.md'
+FORMER = {'docs/PORT.md'}                  # says what was there before
 MADE = {'build', 'target'}                 # folders that make writes
 KIT = {'cond', 'packet'}                   # the toolchain's, and not used here
 LAW = re.compile(r"[^\W\d](?:[\w'′]|-(?=\w))*")
@@ -124,7 +125,7 @@ def main():
     documents = [os.path.relpath(d, ROOT) for d in sys.argv[1:]]
     os.chdir(ROOT)
     tops = set(os.listdir('.')) | set(os.listdir('crates')) | {'specs', 'proofs', 'src', 'must-fail'}
-    documents, there, told = documents or ['README.md', *sorted(glob.glob('docs/*.md'))], names(), []
+    documents, there, told = documents or ['README.md', *sorted(set(glob.glob('docs/*.md')) - FORMER)], names(), []
     for document in documents:
         for number, text in paragraphs(read(document)):
             told += [(f'{document}:{number}: {what} is not there', good) for what, good in cited(text, there, tops)]
