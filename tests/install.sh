@@ -208,8 +208,8 @@ ends_well() {
         >"$room/printed" && tail -n 1 "$room/shown" | diff - "$room/printed"
 }
 
-# And by SIGPIPE, 13, where nobody reads the pipe that it writes to: the other end is closed before.
-ends_by_signal() {
+# And where nobody reads the pipe that it writes to: the other end is closed before. No signal ends it.
+ends_unread() {
     rm -f "$room/closed"
     {
         until [ -e "$room/closed" ]; do :; done
@@ -219,7 +219,7 @@ ends_by_signal() {
         exec <&-
         : >"$room/closed"
     }
-    [ "$(cat "$room/status")" -eq $((128 + 13)) ]
+    [ "$(cat "$room/status")" -eq 0 ]
 }
 
 # whole VARIABLE..: an installation with these variables, from beginning to end.
@@ -231,7 +231,7 @@ whole() {
     check "install $*: filled in" whole_text
     check "install $*: verdict" page_runs
     check "install $*: verdict ends" ends_well
-    check "install $*: verdict ends by a signal" ends_by_signal
+    check "install $*: verdict ends, unread" ends_unread
     check "install $*: verdict by its name" by_name
     if command -v pkg-config >/dev/null; then
         check "install $*: version" says "$version" --modversion
