@@ -10,7 +10,9 @@ An edit names the fact that it makes false in a line of its own, `false: MODULE:
     law, need  any other. A proof of it can fail for its text's sake while it holds, so the line says when it is false:
                `false: MODULE: STATEMENT: WHEN`
 
-That a contract is false, or when a law is, no script can tell: the line is there to be read beside the edit.
+That a contract is false, or when a law is, no script can tell: the line is there to be read beside the edit. Where the
+proof of a statement that still holds no longer fits, and rt meets it before the false one, a line `first: MODULE:
+STATEMENT` names it; the false one is then below it in the whole log of the crate's check.
 
 Marked with ! are edits whose first error is in another statement than the one named, in a law or need with no `WHEN`,
 or about a proof file that does not fit any more, and edits that were not tried. The exit status is 1 if there is one.
@@ -21,7 +23,7 @@ import sys
 
 ROOT = os.path.dirname(os.path.dirname(os.path.abspath(__file__)))
 TRIED = re.compile(r'^rt: must-fail (\w+)/(\w+)[.]edit: refused, as it must be: (.*)', re.M)
-FIRST = re.compile(r'(?:\S*/)?((?:proofs|specs)/\S+?):\d+:\d+: error: (?:`([^`]+)`: )?(.*)')
+FIRST = re.compile(r'(?:\S*/)?((?:proofs|specs)/\S+?):\d+:\d+: error: (?:`([^`]+)(?:`: |`?$))?(.*)')
 # of a goal that has no answer of its own
 UNANSWERED = re.compile(r'note: (?:\S*/)?(src/\S+?):(\d+):\d+: (it is not proved that .*?) \(`([^`]+)`\)')
 # what is said where an edit changes the code's shape and the proof's text no longer fits it
@@ -35,6 +37,12 @@ def claim(crate, edit):
         named = next((line[len('false: '):].strip() for line in f if line.startswith('false: ')), '')
     module, statement, when = (named.split(': ', 2) + ['', ''])[:3]
     return f'{module}: {statement}', when
+
+
+def met_before(crate, edit):
+    """The statement that rt meets before the false one, if the edit names one."""
+    with open(f'{ROOT}/crates/{crate}/must-fail/{edit}.edit', encoding='utf8') as f:
+        return next((line[len('first: '):].strip() for line in f if line.startswith('first: ')), '')
 
 
 def function(crate, path, line):
@@ -67,7 +75,10 @@ def refusal(crate, edit, said):
         return False, f'{crate}/{edit}: no error that names a fact: {said[:160]}'
     what = kind(crate, path, statement)
     named, when = claim(crate, edit)
-    fits = f'{place}: {statement}' == named and (when or what in ('case', 'contract')) and not UNFIT.search(message)
+    expected = met_before(crate, edit) or named
+    # rt cuts what it prints
+    there = f'{place}: {statement}' == expected or not message and expected.startswith(f'{place}: {statement}')
+    fits = there and (when or what in ('case', 'contract')) and not UNFIT.search(message)
     told = f'{crate}/{edit}: {what} {place}: {statement}'
     return fits, told + ('' if fits else f' (named: {named}): {message[:160]}')
 
