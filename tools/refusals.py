@@ -25,10 +25,11 @@ ROOT = os.path.dirname(os.path.dirname(os.path.abspath(__file__)))
 TRIED = re.compile(r'^rt: must-fail (\w+)/(\w+)[.]edit: refused, as it must be: (.*)', re.M)
 FIRST = re.compile(r'(?:\S*/)?((?:proofs|specs)/\S+?):\d+:\d+: error: (?:`([^`]+)(?:`: |`?$))?(.*)')
 # of a goal that has no answer of its own
-UNANSWERED = re.compile(r'note: (?:\S*/)?(src/\S+?):(\d+):\d+: (it is not proved that .*?) \(`([^`]+)`\)')
+UNANSWERED = re.compile(r'note: (?:\S*/)?(src/\S+?):(\d+):\d+: (.*?) \(`([^`]+)`\)')
 # what is said where an edit changes the code's shape and the proof's text no longer fits it
 UNFIT = re.compile('that can be named from here|not in scope|was not admitted|has no field')
-OWN_PROOF = ('/Answers.antt', '/Invariants.antt')
+# a function's own proof; a lemma file may be called so too, but stands right in proofs/
+OWN_PROOF = re.compile(r'proofs/.+/(Answers|Invariants)[.]antt$')
 
 
 def claim(crate, edit):
@@ -55,7 +56,7 @@ def function(crate, path, line):
 
 def kind(crate, path, statement):
     """What kind of statement that is: case, contract, law or need."""
-    if path.startswith('src/') or path.endswith(OWN_PROOF):
+    if path.startswith('src/') or OWN_PROOF.match(path):
         return 'contract' if re.search(r'(^|-)returns(-|$)', statement) else 'need'
     with open(f'{ROOT}/crates/{crate}/{path}', encoding='utf8') as f:
         name = re.escape(statement)
@@ -67,7 +68,7 @@ def refusal(crate, edit, said):
     """Whether an edit is refused by the fact that it names, and a line about it."""
     if first := FIRST.match(said):
         path, statement, message = first[1], first[2] or 'text', first[3]
-        place = re.sub(r'(/Answers|/Invariants)?[.]antt$', '', path).split('/')[-1]
+        place = path.split('/')[-2 if OWN_PROOF.match(path) else -1].removesuffix('.antt')
     elif first := UNANSWERED.match(said):
         path, statement, message = first[1], first[4], first[3]
         place = function(crate, path, int(first[2]))
