@@ -79,7 +79,7 @@ def refusal(crate, edit, said):
     expected = met_before(crate, edit) or named
     # rt cuts what it prints
     there = f'{place}: {statement}' == expected or not message and expected.startswith(f'{place}: {statement}')
-    fits = there and (when or what in ('case', 'contract')) and not UNFIT.search(message)
+    fits = there and (when or met_before(crate, edit) or what in ('case', 'contract')) and not UNFIT.search(message)
     told = f'{crate}/{edit}: {what} {place}: {statement}'
     return fits, told + ('' if fits else f' (named: {named}): {message[:160]}')
 
