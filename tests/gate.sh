@@ -37,6 +37,8 @@ if ! grep -q '^rt: ok' build/rt-ci.log || grep -q '^rt: ok.*, [1-9][0-9]* bad' b
     finish 1
 fi
 
+sh tools/build.sh program || finish 1
+
 # Each edit is refused first by the fact that it names.
 if ! command -v python3 >/dev/null; then
     echo 'refusals: by which facts the edits are refused is not tested, no python3'
@@ -45,7 +47,6 @@ elif ! tools/refusals.py build/rt-ci.log >build/refusals.log; then
     text=$((text + 1))
 fi
 
-sh tools/build.sh program || finish 1
 if ! sh tests/run.sh target/staticlib/libzuvaropy.a target/bin/verdict; then
     failed=$(cat build/tests/failed)
     finish "${failed:-1}"

@@ -12,14 +12,17 @@ An edit names the fact that it makes false in a line of its own, `false: MODULE:
 
 That a contract is false, or when a law is, no script can tell: the line is there to be read beside the edit. Where the
 proof of a statement that still holds no longer fits, and rt meets it before the false one, a line `first: MODULE:
-STATEMENT` names it; the false one is then below it in the whole log of the crate's check.
+STATEMENT` names it; the crate is then checked here with the edit made, and the false one has to fail too.
 
 Marked with ! are edits whose first error is in another statement than the one named, in a law or need with no `WHEN`,
 or about a proof file that does not fit any more, and edits that were not tried. The exit status is 1 if there is one.
 """
 import os
 import re
+import shutil
+import subprocess
 import sys
+import tempfile
 
 ROOT = os.path.dirname(os.path.dirname(os.path.abspath(__file__)))
 TRIED = re.compile(r'^rt: must-fail (\w+)/(\w+)[.]edit: refused, as it must be: (.*)', re.M)
@@ -27,7 +30,9 @@ FIRST = re.compile(r'(?:\S*/)?((?:proofs|specs)/\S+?):\d+:\d+: error: (?:`([^`]+
 # of a goal that has no answer of its own
 UNANSWERED = re.compile(r'note: (?:\S*/)?(src/\S+?):(\d+):\d+: (.*?) \(`([^`]+)`\)')
 # what is said where an edit changes the code's shape and the proof's text no longer fits it
-UNFIT = re.compile('that can be named from here|not in scope|was not admitted|has no field')
+UNFIT = re.compile('that can be named from here|not in scope|was not admitted|has no field|expected type `goal[.]')
+# rt cuts what it prints of a refusal
+CUT = 155
 # a function's own proof; a lemma file may be called so too, but stands right in proofs/
 OWN_PROOF = re.compile(r'proofs/.+/(Answers|Invariants)[.]antt$')
 
@@ -64,8 +69,37 @@ def kind(crate, path, statement):
     return 'law' if not said or re.search(r'[({][^(){}]* : |→ ⊥', said[1]) else 'case'
 
 
-def refusal(crate, edit, said):
-    """Whether an edit is refused by the fact that it names, and a line about it."""
+def edited(crate, edit, folder):
+    """Copies the crates with the edit made."""
+    shutil.copy(f'{ROOT}/crates.txt', folder)
+    shutil.copytree(f'{ROOT}/crates', f'{folder}/crates', ignore=shutil.ignore_patterns('out'))
+    with open(f'{ROOT}/crates/{crate}/must-fail/{edit}.edit', encoding='utf8') as f:
+        lines = [line.partition(': ') for line in f.read().split('\n')]
+    path = old = None
+    for word, _, text in lines:
+        if word == 'file':
+            path = f'{folder}/crates/{crate}/{text}'
+        elif word == 'old':
+            old = text
+        elif word == 'new':
+            with open(path, encoding='utf8') as f:
+                now = f.read().replace(old, text)
+            with open(path, 'w', encoding='utf8') as f:
+                f.write(now)
+
+
+def fails_too(crate, edit, named):
+    """Whether the named fact is among all that a check of the edited crate refuses."""
+    with tempfile.TemporaryDirectory() as folder:
+        edited(crate, edit, folder)
+        run = subprocess.run(['rt', 'check'], cwd=f'{folder}/crates/{crate}', stdout=subprocess.PIPE,
+                             stderr=subprocess.STDOUT, text=True)
+    met = [met for line in run.stdout.split('\n') if (met := refused(crate, line.strip()))]
+    return any(f'{place}: {statement}' == named and not UNFIT.search(message) for place, statement, _, message in met)
+
+
+def refused(crate, said):
+    """Where a refusal is, of what statement, of what kind that is, and the message."""
     if first := FIRST.match(said):
         path, statement, message = first[1], first[2] or 'text', first[3]
         place = path.split('/')[-2 if OWN_PROOF.match(path) else -1].removesuffix('.antt')
@@ -73,13 +107,24 @@ def refusal(crate, edit, said):
         path, statement, message = first[1], first[4], first[3]
         place = function(crate, path, int(first[2]))
     else:
+        return None
+    return place, statement, kind(crate, path, statement), message
+
+
+def refusal(crate, edit, said):
+    """Whether an edit is refused by the fact that it names, and a line about it."""
+    met = refused(crate, said)
+    if not met:
         return False, f'{crate}/{edit}: no error that names a fact: {said[:160]}'
-    what = kind(crate, path, statement)
+    place, statement, what, message = met
     named, when = claim(crate, edit)
-    expected = met_before(crate, edit) or named
-    # rt cuts what it prints
-    there = f'{place}: {statement}' == expected or not message and expected.startswith(f'{place}: {statement}')
-    fits = there and (when or met_before(crate, edit) or what in ('case', 'contract')) and not UNFIT.search(message)
+    before = met_before(crate, edit)
+    cut = not message and len(said) >= CUT and (before or named).startswith(f'{place}: {statement}')
+    fits = (cut or f'{place}: {statement}' == (before or named)) and not UNFIT.search(message)
+    if before:
+        fits = fits and fails_too(crate, edit, named)
+    else:
+        fits = fits and bool(when or what in ('case', 'contract'))
     told = f'{crate}/{edit}: {what} {place}: {statement}'
     return fits, told + ('' if fits else f' (named: {named}): {message[:160]}')
 

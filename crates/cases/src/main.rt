@@ -1,8 +1,8 @@
 #![tactic(auto)]
 
-// Runs the cases that are too large to compute in a proof: the limits of the reader, of the merged table and of the
-// common picture. A line for each: what the picture is, and the answer. Small pictures, each question at least once,
-// are computed in picture/proofs/Cases.
+// Runs the cases of paper 01 that are too large to compute in a proof: the limits of the reader, of the merged table and
+// of the common picture. A line for each: what the picture is, and the answer. Small pictures, each question at least
+// once, are computed in picture/proofs/Cases.
 mod make;
 mod tell;
 
