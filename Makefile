@@ -151,6 +151,10 @@ SHARED_NAME = $(LINK_NAME).$(VERSION)
 # link_shared FOLDER: the names by which programs and linkers find the shared library.
 link_shared = ln -sf $(SHARED_NAME) '$(1)/$(SONAME)' && ln -sf $(SONAME) '$(1)/$(LINK_NAME)'
 
+# copy_shared FOLDER: the same names in the checkout, as copies, since rt takes no link there.
+copy_shared = for name in $(SONAME) $(LINK_NAME); do \
+    rm -f '$(1)'/$$name && cp '$(1)/$(SHARED_NAME)' '$(1)'/$$name || exit; done
+
 shared: $(SHARED)/$(SHARED_NAME)
 
 # Without start files, since there is nothing to start: they would bring symbols of their own.
@@ -158,7 +162,7 @@ $(SHARED)/$(SHARED_NAME): $(LIBRARY) package/zuvaropy.map
 	@mkdir -p $(@D)
 	@$(CC) -shared -nostartfiles $(LDFLAGS) -Wl,-soname,$(SONAME) -Wl,--version-script=package/zuvaropy.map \
 	    -Wl,-z,defs,-z,relro,-z,now -Wl,--whole-archive $(LIBRARY) -Wl,--no-whole-archive -o $@
-	@$(call link_shared,$(@D))
+	@$(call copy_shared,$(@D))
 
 # The date of the version is that of its entry in the changelog, so that what is installed depends on the sources alone.
 DATE := $(shell sed -n 's/^.. $(VERSION) (\(.*\))$$/\1/p' CHANGELOG.md)
