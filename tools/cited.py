@@ -1,5 +1,6 @@
 #!/usr/bin/env python3
-"""Checks that what README.md and docs/*.md, but for docs/PORT.md, cite is there: paths, and names between backticks.
+"""Checks that what README.md and docs/*.md cite is there: paths, and names between backticks. docs/PORT.md and
+docs/DESIGN-PASS.md say what was there before, and are left out.
 
     tools/cited.py [DOCUMENT ..]
 
@@ -19,7 +20,7 @@ import sys
 ROOT = os.path.dirname(os.path.dirname(os.path.abspath(__file__)))
 FOLDERS = ['crates', 'include', 'tests', 'tools', 'examples', 'bench', 'samples', 'package']
 CLAIMS = 'docs/CLAIMS.md'
-FORMER = {'docs/PORT.md'}                  # says what was there before
+FORMER = {'docs/PORT.md', 'docs/DESIGN-PASS.md'}   # say what was there before
 MADE = {'build', 'target'}                 # folders that make writes
 KIT = {'cond', 'packet'}                   # the toolchain's, and not used here
 LAW = re.compile(r"[^\W\d](?:[\w'′]|-(?=\w))*")

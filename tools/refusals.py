@@ -54,7 +54,11 @@ def met_before(crate, edit):
 def function(crate, path, line):
     """The function whose code stands at a line of the source."""
     with open(f'{ROOT}/crates/{crate}/{path}', encoding='utf8') as f:
-        before = f.read().split('\n')[:line + 12]
+        lines = f.read().split('\n')
+    # rt names the line where a function's attributes begin
+    while lines[line - 1].lstrip().startswith('#['):
+        line += 1
+    before = lines[:line + 12]
     names = [(n, it[1]) for n, text in enumerate(before, 1) if (it := re.match(r'\s*(?:pub )?(?:extern "C" )?fn (\w+)', text))]
     return next((name for n, name in reversed(names) if n <= line), names[0][1] if names else '')
 

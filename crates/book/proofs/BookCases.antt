@@ -7,6 +7,7 @@ use Prim.Native.Nat.{ℕ}
 use lib.ListN.{length, replicate}
 use mathlib.Core.List.{List, [], ◌++◌, ◌∷◌}
 use mathlib.Core.Path.{◌≡◌, refl}
+use Rattle.std.proofs.Common.{Err, Ok, Result}
 use Rattle.table.specs.Bounds.{bench_limits}
 use Rattle.table.specs.Fields.{ends_at}
 use Rattle.table.specs.Number.{be}
@@ -29,13 +30,12 @@ use Rattle.order.specs.Preorder.{minimal, is_passed_over}
 use Rattle.book.specs.Call.{book_asked, most_specific_answer, most_specific_work}
 use Rattle.fields.specs.Form.{field_count, field_place, field_value, field_with, fields_form, fields_from}
 use Rattle.table.specs.NameSet.{set_below}
+use Rattle.picture.specs.declared.answer.Refusal.{Refusal}
 use Rattle.book.specs.Selection.{most_specific, most_specific_cards}
-use Rattle.book.specs.declared.answer.Selected.{Selected}
-use Rattle.book.specs.declared.answer.Selected.TheVariants.{Cards, Refused}
 
 pub data Case : Type 0 where
-  told : List ℕ → List (List ℕ) → Selected → Case
-  asked : Limits → List ℕ → List ℕ → ℕ → Selected → Case
+  told : List ℕ → List (List ℕ) → Result ℕ Refusal → Case
+  asked : Limits → List ℕ → List ℕ → ℕ → Result ℕ Refusal → Case
   left : Limits → List ℕ → List ℕ → ℕ → List ℕ → Case
 
 -- ---- books, byte by byte
@@ -60,8 +60,8 @@ abbrev pub run_all : List Case → List Case
 run_all [] = []
 run_all (c ∷ cs) = ran c ∷ run_all cs
 
-abbrev refused : ℕ → Input → Selected
-refused q input = Refused (refusal q input)
+abbrev refused : ℕ → Input → Result ℕ Refusal
+refused q input = Err (refusal q input)
 
 -- ---- pictures
 
@@ -90,46 +90,46 @@ bad_length = 0x10 ∷ 0 ∷ 20 ∷ []
 abbrev pub cases : List Case
 cases =
     -- no card
-    told (names 8) [] (Cards 0)
+    told (names 8) [] (Ok 0)
     -- K1 covers every picture; the card that is the case; one that does not cover it
-    ∷ told (names 40) (empty ∷ []) (Cards 1)
-    ∷ told (names 40) (names 40 ∷ []) (Cards 1)
-    ∷ told (names 8) (names 32 ∷ []) (Cards 0)
-    ∷ told (names 8) (names 40 ∷ []) (Cards 0)
-    ∷ told (names 8) (names 32 ∷ names 8 ∷ names 40 ∷ []) (Cards 2)
+    ∷ told (names 40) (empty ∷ []) (Ok 1)
+    ∷ told (names 40) (names 40 ∷ []) (Ok 1)
+    ∷ told (names 8) (names 32 ∷ []) (Ok 0)
+    ∷ told (names 8) (names 40 ∷ []) (Ok 0)
+    ∷ told (names 8) (names 32 ∷ names 8 ∷ names 40 ∷ []) (Ok 2)
     -- a chain, in three orders
-    ∷ told (names 104) (empty ∷ names 8 ∷ names 40 ∷ []) (Cards 4)
-    ∷ told (names 104) (names 40 ∷ names 8 ∷ empty ∷ []) (Cards 1)
-    ∷ told (names 104) (names 8 ∷ names 40 ∷ empty ∷ []) (Cards 2)
+    ∷ told (names 104) (empty ∷ names 8 ∷ names 40 ∷ []) (Ok 4)
+    ∷ told (names 104) (names 40 ∷ names 8 ∷ empty ∷ []) (Ok 1)
+    ∷ told (names 104) (names 8 ∷ names 40 ∷ empty ∷ []) (Ok 2)
     -- only cards that cover the case make one redundant
-    ∷ told (names 8) (names 8 ∷ names 40 ∷ empty ∷ []) (Cards 1)
+    ∷ told (names 8) (names 8 ∷ names 40 ∷ empty ∷ []) (Ok 1)
     -- a diamond, and one without its lowest card
-    ∷ told (names 104) (empty ∷ names 8 ∷ names 32 ∷ names 40 ∷ []) (Cards 8)
-    ∷ told (names 104) (empty ∷ names 8 ∷ names 32 ∷ []) (Cards 6)
+    ∷ told (names 104) (empty ∷ names 8 ∷ names 32 ∷ names 40 ∷ []) (Ok 8)
+    ∷ told (names 104) (empty ∷ names 8 ∷ names 32 ∷ []) (Ok 6)
     -- twins, of the same bytes or of others with the same meaning, are both nearest or both passed over
-    ∷ told (names 8) (names 8 ∷ names 8 ∷ []) (Cards 3)
-    ∷ told (names 40) (empty ∷ names 8 ∷ names 8 ∷ []) (Cards 6)
-    ∷ told (names 40) (names 8 ∷ names 8 ∷ names 40 ∷ []) (Cards 4)
-    ∷ told (all_of 40) (all_of 40 ∷ all_two 8 32 ∷ []) (Cards 3)
-    ∷ told (all_of 40) (all_two 8 32 ∷ all_two 32 8 ∷ []) (Cards 3)
-    ∷ told empty (empty ∷ all_of 0 ∷ []) (Cards 3)
-    ∷ told impossible (impossible ∷ broken ∷ names 8 ∷ []) (Cards 3)
+    ∷ told (names 8) (names 8 ∷ names 8 ∷ []) (Ok 3)
+    ∷ told (names 40) (empty ∷ names 8 ∷ names 8 ∷ []) (Ok 6)
+    ∷ told (names 40) (names 8 ∷ names 8 ∷ names 40 ∷ []) (Ok 4)
+    ∷ told (all_of 40) (all_of 40 ∷ all_two 8 32 ∷ []) (Ok 3)
+    ∷ told (all_of 40) (all_two 8 32 ∷ all_two 32 8 ∷ []) (Ok 3)
+    ∷ told empty (empty ∷ all_of 0 ∷ []) (Ok 3)
+    ∷ told impossible (impossible ∷ broken ∷ names 8 ∷ []) (Ok 3)
     -- a marked case is covered by all
-    ∷ told impossible (names 8 ∷ names 32 ∷ []) (Cards 3)
-    ∷ told impossible (names 8 ∷ names 40 ∷ []) (Cards 2)
-    ∷ told broken (names 32 ∷ impossible ∷ []) (Cards 2)
+    ∷ told impossible (names 8 ∷ names 32 ∷ []) (Ok 3)
+    ∷ told impossible (names 8 ∷ names 40 ∷ []) (Ok 2)
+    ∷ told broken (names 32 ∷ impossible ∷ []) (Ok 2)
     -- a marked card covers only marked cases
-    ∷ told (names 8) (impossible ∷ names 8 ∷ []) (Cards 2)
+    ∷ told (names 8) (impossible ∷ names 8 ∷ []) (Ok 2)
     -- K7, K8
-    ∷ told (one 40) (two 8 32 ∷ one 40 ∷ []) (Cards 2)
-    ∷ told (two 8 32) (two 8 32 ∷ one 40 ∷ []) (Cards 1)
-    ∷ told none_reached (all_of 32 ∷ one 0 ∷ []) (Cards 1)
+    ∷ told (one 40) (two 8 32 ∷ one 40 ∷ []) (Ok 2)
+    ∷ told (two 8 32) (two 8 32 ∷ one 40 ∷ []) (Ok 1)
+    ∷ told none_reached (all_of 32 ∷ one 0 ∷ []) (Ok 1)
     -- the first card and the last of 32
-    ∷ told (names 8) (names 8 ∷ replicate 31 (names 32)) (Cards 1)
-    ∷ told (names 8) (replicate 31 (names 32) ++ (names 8 ∷ [])) (Cards 2147483648)
+    ∷ told (names 8) (names 8 ∷ replicate 31 (names 32)) (Ok 1)
+    ∷ told (names 8) (replicate 31 (names 32) ++ (names 8 ∷ [])) (Ok 2147483648)
     -- 24: no byte, another tag, a picture, a head or a value cut short, no end field, one cut short, one with a length, bytes after it
     ∷ asked bench_limits empty [] 12294 (refused 24 Book)
-    ∷ asked bench_limits empty end 12294 (Cards 0)
+    ∷ asked bench_limits empty end 12294 (Ok 0)
     ∷ asked bench_limits empty (0x52 ∷ 0 ∷ 0 ∷ end) 12294 (refused 24 Book)
     ∷ asked bench_limits empty empty 12294 (refused 24 Book)
     ∷ asked bench_limits empty (0x51 ∷ 0 ∷ []) 12294 (refused 24 Book)
@@ -149,7 +149,7 @@ cases =
     ∷ asked bench_limits empty (empty_cards 33) 12294 (refused 24 Book)
     -- 1, before all others; a longer work space is as good
     ∷ asked bench_limits (names 8) (book_of (names 8 ∷ [])) 12293 (refused 1 Buffer)
-    ∷ asked bench_limits (names 8) (book_of (names 8 ∷ [])) 12295 (Cards 1)
+    ∷ asked bench_limits (names 8) (book_of (names 8 ∷ [])) 12295 (Ok 1)
     ∷ asked bench_limits bad_tag [] 12293 (refused 1 Buffer)
     ∷ asked four_rows grows [] 197 (refused 1 Buffer)
     -- the case, 24, the cards in turn
@@ -160,9 +160,9 @@ cases =
     ∷ asked bench_limits empty (book_of (bad_length ∷ bad_tag ∷ [])) 12294 (refused 4 (Card 0))
     ∷ asked bench_limits empty (book_of (empty ∷ bad_length ∷ [])) 12294 (refused 4 (Card 1))
     -- with the row and the byte of the one that is refused, from its own first byte
-    ∷ asked bench_limits (root 0 ++ bad_tag) (book_of (bad_tag ∷ [])) 12294 (Refused (refusal_at 3 First 1))
+    ∷ asked bench_limits (root 0 ++ bad_tag) (book_of (bad_tag ∷ [])) 12294 (Err (refusal_at 3 First 1))
     ∷ asked bench_limits empty (book_of (names 8 ∷ (root 0 ++ (some_row 0 8 2 ++ bad_length)) ∷ bad_tag ∷ [])) 12294
-    (Refused (refusal_at 4 (Card 1) 2))
+    (Err (refusal_at 4 (Card 1) 2))
     -- 14 after these, of the case and then of the cards in turn
     ∷ asked four_rows grows [] 198 (refused 24 Book)
     ∷ asked four_rows grows (book_of (bad_tag ∷ [])) 198 (refused 3 (Card 0))

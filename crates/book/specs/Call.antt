@@ -7,13 +7,12 @@
 --   most_specific_asked      1, and those
 --   most_specific_answer     the word of the most specific cards, after these
 --   most_specific_work       the work space: zero up to the length named where all is answered yes; else nothing written
-use Rattle.std.specs.Prelude.{ℕ, ◌<◌, ◌≤◌, leb, length, true, List, ◌≡◌}
+use Rattle.std.specs.Prelude.{ℕ, ◌<◌, ◌≤◌, leb, length, true, List, ◌≡◌, Ok, Result}
 use Rattle.table.specs.Put.{put, zeros}
 use Rattle.table.specs.declared.layout.Limits.{Limits}
-use Rattle.picture.specs.Asked.{and_then, asked, asked_from, kept, on_asked, read_asked, room_asked}
+use Rattle.picture.specs.Asked.{and_then, asked, asked_from, kept, on_asked, read_asked, room_asked, Asked}
 use Rattle.picture.specs.Readable.{Readable}
 use Rattle.picture.specs.Refusal.{refusal}
-use Rattle.picture.specs.declared.answer.Asked.{Asked}
 use Rattle.picture.specs.declared.answer.Input.TheVariants.{Book, Card, First}
 use Rattle.picture.specs.declared.answer.Refusal.{Refusal}
 use Rattle.meaning.specs.NormalTable.{merged_count}
@@ -21,8 +20,6 @@ use Rattle.normal.specs.Call.{merged_asked}
 use Rattle.workspace.specs.Prepare.{work_size}
 use Rattle.book.specs.Form.{book_form, card, card_count}
 use Rattle.book.specs.Selection.{most_specific_cards}
-use Rattle.book.specs.declared.answer.Selected.{Selected}
-use Rattle.book.specs.declared.answer.Selected.TheVariants.{Cards, Refused}
 
 pub record AcceptableBook (limits : Limits) (case book : List ℕ) : Type 0 where
   pub case_readable : Readable limits case
@@ -54,9 +51,9 @@ book_asked limits case book =
 abbrev pub most_specific_asked : Limits → List ℕ → List ℕ → ℕ → Asked
 most_specific_asked limits case book room = and_then (room_asked (leb (work_size limits) room)) (book_asked limits case book)
 
-unfoldable pub most_specific_answer : Limits → List ℕ → List ℕ → ℕ → Selected
+unfoldable pub most_specific_answer : Limits → List ℕ → List ℕ → ℕ → Result ℕ Refusal
 most_specific_answer limits case book room =
-    on_asked Refused (most_specific_asked limits case book room) (Cards (most_specific_cards limits case book))
+    on_asked (most_specific_asked limits case book room) (Ok (most_specific_cards limits case book))
 
 abbrev pub most_specific_work : Limits → List ℕ → List ℕ → List ℕ → List ℕ
 most_specific_work limits case book work =

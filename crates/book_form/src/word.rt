@@ -11,6 +11,7 @@ pub fn bit(k: usize) -> u32
     1u32 << k
 }
 
+#[tactic(auto, using(crate::proofs::CardSets::with_bit))]
 pub fn with_card(word: u32, k: usize) -> u32
     requires { k < most_cards }
     ensures { (i : ℕ) → has result i ≡ (has word i || eqb i k) }

@@ -1,8 +1,8 @@
 -- Laws of the word of the redundant cards, those that are passed over, as pairs of covering cards are compared.
 --   none_compared     no pair yet
 --   cards_left        cards that do not cover the case
---   earlier_next      card m: the next card to compare it with; those that are redundant, or do not cover the case, are
---                     left out
+--   earlier_skipped   card m: cards that are redundant, or do not cover the case, are left out
+--   earlier_there     the next card to compare it with
 --   earlier_ended     with all earlier ones
 --   paired            the word that has the one of two cards that covers the other strictly
 --   pair_compared     one pair more
@@ -11,7 +11,7 @@
 --   selected_bits     and what is left of the covering cards are the others
 --   cleared           a work space cleared from its first byte to its last
 use Prim.Native.Nat.{◌+◌, ◌-◌, ◌<◌, ◌≤◌, ℕ}
-use borrow.Author.Tests.{eq-eqb, eqb-true, not-true}
+use borrow.Author.Tests.{eq-eqb, eqb-true, ne_eqb, not-true}
 use lib.Dec.{eqb}
 use lib.ListN.{length}
 use mathlib.Core.Bool.{Bool, ◌&&◌, ◌||◌, false, false≢true, not, true}
@@ -30,10 +30,11 @@ use Rattle.table.specs.declared.layout.Limits.{Limits}
 use Rattle.order.proofs.Minima.{is_strict, minimal_is, over_passed, over_strict, strict_minimal, strict_not, strict_under}
 use Rattle.order.specs.Preorder.{Preorder, is_passed_over, strict}
 use Rattle.workspace.proofs.Halves.{put_whole}
-use Rattle.book.specs.Form.{card_count, most_cards}
+use Rattle.book.specs.Form.{card_count}
 use Rattle.book.specs.Selection.{card_covers}
 use Rattle.book_form.specs.Words.{WithEach}
-use Rattle.book_selection.specs.Comparing.{Compared, ComparedTo, Earlier, NextCard, Ordered, Paired}
+use Rattle.book_selection.specs.Comparing.{Compared, ComparedTo, Earlier, Ordered, Paired}
+use Rattle.book_selection.specs.Next.{NoneMet}
 use Rattle.book_selection.specs.declared.compare.Order.{Order}
 
 or_left : (a b : Bool) → a ≡ true → (a || b) ≡ true
@@ -59,10 +60,11 @@ paired limits book m n word r order is marked =
     r) a
     (subst (λ (y : Bool). WithEach word m (order.over && not y) n (y && not order.over) r) b marked)
 
-left_card : (covering redundant left n : ℕ) → ((k : ℕ) → has left k ≡ (has covering k && not (has redundant k))) →
-    has left n ≡ true → (has covering n ≡ true) × (has redundant n ≡ false)
-left_card covering redundant left n is h =
-    let (a, b) = both (has covering n) (not (has redundant n)) (sym (is n) ∙ h) in (a, not-true (has redundant n) b)
+-- what neither of two cards is, stays
+pub other_kept : (word m n r : ℕ) (s t : Bool) → WithEach word m s n t r → (k : ℕ) → (k ≡ m → ⊥) → (k ≡ n → ⊥) →
+    has r k ≡ has word k
+other_kept word m n r s t marked k u v =
+    marked k ∙ rw (ne_eqb k m u, ne_eqb k n v) (by_test (has word k) (λ e. rw e) (λ e. rw e))
 
 module _ (limits : Limits) (book : List ℕ) (covering : ℕ) where
   abbrev over : ℕ → ℕ → Bool
@@ -114,39 +116,35 @@ module _ (limits : Limits) (book : List ℕ) (covering : ℕ) where
         ]
         earlier i j a l (inr (s, x)) = absurd (omega (arith, x))
 
-    earlier_skipped : (left n next : ℕ) → ((k : ℕ) → has left k ≡ (has covering k && not (has redundant k))) →
-        ((k : ℕ) → n ≤ k → k < next → has left k ≡ false) →
-        ComparedTo limits book covering m n redundant → ComparedTo limits book covering m next redundant
-    earlier_skipped left n next is none so =
-        record {
-          sound = so.sound;
-          decided = λ i j a b l e c.
-              ⊎_elim {C = OneOf redundant i j} (λ x. so.decided i j a b l x c) (λ x. inr (shown j b x.0 x.1))
-              (parted i j e);
-        }
-      where
-        shown : (j : ℕ) → has covering j ≡ true → n ≤ j → j < next → has redundant j ≡ true
-        shown j b own other =
-            by_test (has redundant j) (λ e. e)
-            (λ e. absurd (false≢true (sym (none j own other) ∙ is j ∙ rw (b, e))))
+    module _ (left n : ℕ) (is : (k : ℕ) → n ≤ k → k < m → has left k ≡ (has covering k && not (has redundant k)))
+        (so : ComparedTo limits book covering m n redundant) where
+      pub earlier_skipped : (next : ℕ) → NoneMet left n next → ComparedTo limits book covering m next redundant
+      earlier_skipped next none =
+          record {
+            sound = so.sound;
+            decided = λ i j a b l e c.
+                ⊎_elim {C = OneOf redundant i j} (λ x. so.decided i j a b l x c) (λ x. inr (shown j b x.0 x.1.0 x.1.1))
+                (parted i j l e);
+          }
+        where
+          shown : (j : ℕ) → has covering j ≡ true → n ≤ j → j < next → j < m → has redundant j ≡ true
+          shown j b own other inside =
+              by_test (has redundant j) (λ e. e)
+              (λ e. absurd (false≢true (sym (none j own other) ∙ is j own inside ∙ rw (b, e))))
 
-        parted : (i j : ℕ) → Earlier m next i j → Earlier m n i j ⊎ ((n ≤ j) × (j < next))
-        parted i j (inl x) = inl (inl x)
-        parted i j (inr (s, x)) = elim (dec_lt j n) [
-          | yes y ↦ inl (inr (s, y))
-          | no y ↦ inr (omega (arith, y), x)
-        ]
+          parted : (i j : ℕ) → j < i → Earlier m next i j → Earlier m n i j ⊎ ((n ≤ j) × ((j < next) × (j < m)))
+          parted i j l (inl x) = inl (inl x)
+          parted i j l (inr (s, x)) = elim (dec_lt j n) [
+            | yes y ↦ inl (inr (s, y))
+            | no y ↦ inr (omega (arith, y), (x, omega (arith, l, s)))
+          ]
 
-    -- the next card that m is to be compared with
-    pub earlier_next : (left n next : ℕ) → ((k : ℕ) → has left k ≡ (has covering k && not (has redundant k))) →
-        NextCard left n next →
-        m < most_cards → ComparedTo limits book covering m n redundant →
-        (next < m → (has covering next ≡ true) × (has redundant next ≡ false))
-        × ComparedTo limits book covering m next redundant
-    earlier_next left n next is found small so = (
-      λ l. left_card covering redundant left next is (found.there (omega (arith, l, small))),
-      earlier_skipped left n next is found.none so,
-    )
+      -- the next card that m is to be compared with
+      pub earlier_there : (next : ℕ) → n ≤ next → next < m → has left next ≡ true →
+          (has covering next ≡ true) × (has redundant next ≡ false)
+      earlier_there next later below there =
+          let (a, b) = both (has covering next) (not (has redundant next)) (sym (is next later below) ∙ there) in
+          (a, not-true (has redundant next) b)
 
     module _ (n r : ℕ) (so : ComparedTo limits book covering m n redundant) (before : n < m)
         (inside : m < card_count book)

@@ -1,3 +1,5 @@
--- Where the tables stand, and what the comparison of the cards has found.
+-- Where the tables stand, the walk over cards, and what their comparison has found.
 pub mod Standing
+pub mod Next
+pub mod Walk
 pub mod Comparing

@@ -1,108 +1,106 @@
-// The tables of the unfolded cards while these are compared: each stands in the cache or, where that has had no room
-// for it, in the work space.
-ghost use Rattle.std.specs.Prelude.{List, ◌≡◌, false, ℕ, length};
-ghost use Rattle.book.specs.Form.{«card»};
-ghost use Rattle.normal_writer.specs.Tables.{Tabled};
+// The tables of the unfolded cards while these are compared: each is kept in the cache or, where that has had no room
+// for it, made anew in a part of the work space.
+ghost use Rattle.std.specs.Prelude.{List, ◌≡◌, ◌+◌, ◌≤◌, ◌<◌, ℕ, length};
+ghost use Rattle.table.specs.Bounds.{Bounded, max_rows, picture_size};
+ghost use Rattle.table_rows.specs.Links.{Zeros};
+ghost use Rattle.book.specs.Form.{«card», card_count, most_cards};
 ghost use Rattle.under.specs.Book.{unfolded_book};
-ghost use Rattle.book_tables.specs.Cache.{Cached};
+ghost use Rattle.book_tables.specs.Cache.{Cached, TableAt};
 ghost use Rattle.book_tables.specs.Tables.{TakenUnder};
-ghost use Rattle.book_selection.specs.Standing.{Found, Inside, Keepable, Makeable, Placeable, Stands, table_at};
+ghost use Rattle.book_selection.specs.Standing.{Checkable, Comparable, Stands, bytes_at};
 
-use book_form::form::{MAX_CARDS, card, find_cards};
-use book_tables::cache::{SPANS, store};
+use book_form::form::{card, find_cards};
+use book_tables::cache::{Cache, Span};
+use definition_parts::opened::Tbox;
 use definitions_reader::index::index_of;
 use field_places::places::{BookKind, find_fields};
 use normal_writer::write::table_at;
+use row_sets::linked::Table;
+use row_sets::rows::LINKS;
 use table::layout::Limits;
 use unfold_tables::tables::unfolded_table;
 
-// Where a card's table stands: from a byte of the tables on if it is cached, else of the work space; and its rows.
+// Where a card's table is: in the cache, or at the start of a part, of so many rows.
 #[derive(Clone, Copy)]
-pub struct Spot {
-    pub card: usize,
-    pub cached: bool,
-    pub start: usize,
-    pub rows: usize,
+pub enum Spot {
+    Kept(Span),
+    Made(usize),
 }
 
-// The table there.
-pub fn spot_table<'a>(tables: &'a [u8], work: &'a [u8], spot: Spot) -> &'a [u8]
-    requires { Inside tables.now work.now spot }
-    ensures { result.now ≡ table_at tables.now work.now spot }
+// The table there, with its links.
+pub fn table_of<'a>(
+    cache: &'a Cache,
+    part: &'a [u8],
+    spot: Spot,
+    links: &'a mut [u8; LINKS],
+) -> Table<'a>
+    requires checkable { Checkable cache.now part.now spot }
+    requires empty { Zeros (max_rows + max_rows) links.old }
+    ensures { result.bytes.now ≡ bytes_at cache.now part.now spot }
 {
-    if spot.cached {
-        return table_at(tables, spot.start, spot.rows);
+    match spot {
+        Spot::Kept(span) => {
+            let table = table_at(&cache.tables, span.start, span.rows);
+            Table::new(table, span.rows, links)
+        }
+        Spot::Made(rows) => {
+            let table = table_at(part, 0, rows);
+            Table::new(table, rows, links)
+        }
     }
-    table_at(work, spot.start, spot.rows)
 }
 
 // Makes the table of card k, unfolded, at the start of a lent part, and gives its rows. The card and the definitions
 // are looked for in the books anew, which costs little beside making the table.
 fn make_table(tbox: &[u8], book: &[u8], k: usize, limits: Limits, out: &mut [u8]) -> usize
-    requires { Makeable limits tbox.now book.now k out.old }
-    ensures { Tabled limits («card» (unfolded_book limits tbox.now book.now) k)
-        out.old result out.new }
+    requires bounded { Bounded limits }
+    requires taken { TakenUnder limits tbox.now book.now }
+    requires below { k < card_count book.now }
+    requires room { picture_size limits ≤ length out.old }
+    ensures { TableAt limits («card» (unfolded_book limits tbox.now book.now) k) out.new result }
 {
     let cards = find_cards(book);
     let fields = find_fields(tbox, BookKind::Definitions);
-    let index = index_of(tbox, fields);
-    let starts = index.starts;
-    let defined = index.defined;
-    unfolded_table(card(book, cards, k), tbox, &starts, defined, limits, out)
+    let found = index_of(tbox, fields);
+    let index = found.as_ref().unwrap();
+    let opened = Tbox {
+        bytes: tbox,
+        starts: &index.starts,
+        defined: index.defined,
+    };
+    unfolded_table(card(book, cards, k), &opened, limits, out)
 }
 
-// Where card k's table stands; if it is not cached it is made in the work space, from a byte on.
+// Where card k's table is; if it is not kept it is made in a lent part.
 pub fn find_table(
     tbox: &[u8],
     book: &[u8],
     k: usize,
     limits: Limits,
-    tables: &[u8],
-    spans: &[usize; SPANS],
-    work: &mut [u8],
-    from: usize,
+    cache: &Cache,
+    part: &mut [u8],
 ) -> Spot
-    requires { (TakenUnder limits tbox.now book.now)
-        × (Placeable limits (unfolded_book limits tbox.now book.now) k tables.now spans.now work.old from) }
-    ensures { Found limits (unfolded_book limits tbox.now book.now) k tables.now
-        work.old from result work.new }
+    requires known { Comparable limits tbox.now book.now cache.now }
+    requires below { k < card_count book.now }
+    requires room { picture_size limits ≤ length part.old }
+    ensures { Stands limits («card» (unfolded_book limits tbox.now book.now) k) cache.now part.new result }
 {
-    let rows = spans[MAX_CARDS + k];
-    if rows == 0 {
-        let made = make_table(tbox, book, k, limits, &mut work[from..]);
-        return Spot {
-            card: k,
-            cached: false,
-            start: from,
-            rows: made,
-        };
-    }
-    let start = spans[k];
-    Spot {
-        card: k,
-        cached: true,
-        start,
-        rows,
+    match cache.find(k) {
+        Some(span) => Spot::Kept(span),
+        None => Spot::Made(make_table(tbox, book, k, limits, part)),
     }
 }
 
-// Caches a table that stands at the start of the work space, if it fits behind the others; where they end then.
-pub fn cache_table(
-    work: &[u8],
-    spot: Spot,
-    at: usize,
-    tables: &mut [u8],
-    spans: &mut [usize; SPANS],
-) -> usize
-    requires { Keepable work.now spot at tables.old spans.old }
-    ensures { ((limits : Limits) (book : List ℕ) → Cached limits book tables.old spans.old at →
-        Stands limits book tables.old work.now spot →
-        (Cached limits book tables.new spans.new result)
-        × (Stands limits book tables.new work.now spot))
-        × (length tables.new ≡ length tables.old) }
+// Keeps the table of card k for the cards that come later, if it was made, and if it fits.
+pub fn keep_made(cache: &mut Cache, k: usize, part: &[u8], spot: Spot)
+    requires below { k < most_cards }
+    requires inside { cache.old.end ≤ length cache.old.tables }
+    requires checkable { Checkable cache.old part.now spot }
+    ensures { (limits : Limits) (book : List ℕ) → Cached limits book cache.old
+        → Stands limits («card» book k) cache.old part.now spot
+        → Cached limits book cache.new × Stands limits («card» book k) cache.new part.now spot }
 {
-    if spot.cached {
-        return at;
+    if let Spot::Made(rows) = spot {
+        cache.keep(k, part, rows);
     }
-    store(work, spot.rows, spot.card, at, tables, spans)
 }

@@ -1,39 +1,35 @@
 -- Laws of the tables that are kept.
---   tabled_at                           a table at the start of a part
---   table_same                          one at the start of a part with the same bytes
---   table_few, table_checked            it has as many rows as it may, and all that a search needs
---   made_same, made_table, made_ends    one that was made in the part from a byte on
---   none_cached                         none is kept
---   cached_same                         those that end before a place stay when only bytes from there on change
---   cached_within                       they end before any later place
---   cached_more                         one table more, after those that are there
---   cached_stored                       one that was put there
-use Prim.Native.Nat.{◌+◌, ◌-◌, ◌<◌, ◌≤◌, ℕ}
+--   tabled_at                    a table at the start of a part
+--   table_few, table_checked     it has as many rows as it may, and all that a search needs
+--   none_cached                  none is kept
+--   cached_more                  one more is put behind those that are there
+use Prim.Native.Nat.{◌+◌, ◌<◌, ◌≤◌, suc, zero, ℕ}
 use borrow.Author.Tests.{le-leb}
-use borrow.Rule.Slice.PartMut.{mid_of, put_mid, take_put}
-use lib.ListN.{drop, get_or, length, length-set, set, take}
+use borrow.Rule.Slice.PartMut.{put_mid, take_put}
+use lib.ListN.{drop, get_or, length, replicate, set, take}
 use lib.Seq.{get_or-set_other, get_or-set_same, length-take-le, take_all}
 use mathlib.Core.Bool.{Bool}
 use mathlib.Core.List.{List}
-use mathlib.Core.Path.{◌∙◌, ◌≡◌, ap, subst, sym}
+use mathlib.Core.Path.{◌∙◌, ◌≡◌, ap, refl, subst, sym}
 use native.Mathlib.Decide.{ℕ_discrete}
 use native.Mathlib.Omega.{arith}
+use Rattle.std.proofs.Common.{None, Option, Some}
 use Rattle.meaning.proofs.Normals.{normal_length, normal_reads, normal_size}
 use Rattle.meaning.specs.NormalTable.{merged_count, normal_file}
 use Rattle.row_sets.proofs.Checks.{readable_checked}
 use Rattle.row_sets.specs.Rows.{Checked}
 use Rattle.normal_writer.specs.Tables.{Tabled, table_rows}
 use Rattle.table.proofs.Puts.{length_put}
-use Rattle.table.specs.Bounds.{Bounded, max_rows, picture_size}
+use Rattle.table.specs.Bounds.{Bounded, picture_size}
 use Rattle.table.specs.Layout.{end_size, «place»}
-use Rattle.table_rows.specs.Links.{Zeros}
 use Rattle.table.specs.Pick.{pick}
 use Rattle.table.specs.Put.{put}
 use Rattle.table.specs.declared.layout.Limits.{Limits}
-use Rattle.book.specs.Form.{card, most_cards}
-use Rattle.book_tables.specs.Cache.{Cached, CachedAt, TableAt, with_span}
-use Rattle.book_tables.proofs.Parts.{front_same, made_long, made_part, part_long, part_there}
-use Rattle.book_tables.proofs.Parts.{put_part, with_upper}
+use Rattle.book.specs.Form.{card}
+use Rattle.book_tables.specs.Cache.{Cached, CachedAt, TableAt}
+use Rattle.book_tables.specs.declared.cache.Cache.{Cache}
+use Rattle.book_tables.specs.declared.cache.Span.{Span}
+use Rattle.book_tables.proofs.Parts.{front_same, part_there, put_part}
 
 pub tabled_at : (limits : Limits) (s out : List ℕ) (r : ℕ) (end : List ℕ) → Tabled limits s out r end → merged_count limits s ≤ limits.rows → TableAt limits s end r
 tabled_at limits s out r end tabled few =
@@ -41,15 +37,6 @@ tabled_at limits s out r end tabled few =
       few = few;
       rows_are = tabled.rows_are ∙ ap (λ (b : Bool). pick b (table_rows limits s) 0) (le-leb (merged_count limits s) limits.rows few);
       is = tabled.file few;
-    }
-
-pub none_cached : (limits : Limits) (book tables spans : List ℕ) → Zeros (most_cards + most_cards) spans →
-    Cached limits book tables spans 0
-none_cached limits book tables spans blank =
-    record {
-      long = omega arith;
-      spanned = blank.size;
-      each = λ j l some. absurd (some (blank.zeros (most_cards + j)));
     }
 
 table_same : {limits : Limits} {s part : List ℕ} {rows : ℕ} → TableAt limits s part rows → (part₂ : List ℕ) →
@@ -68,135 +55,91 @@ table_checked {limits} {s} {part} {rows} bounded so =
     subst (λ t. Checked t rows) (sym so.is)
     (subst (λ n. Checked (normal_file limits s) n) (sym so.rows_are) whole)
 
--- ---- a table that was made in the part from a byte on
-
-module _ (limits : Limits) (s work : List ℕ) (from r : ℕ) (end : List ℕ) (bounded : Bounded limits)
-    (few : merged_count limits s ≤ limits.rows) (room : from + picture_size limits ≤ length work)
-    (tabled : Tabled limits s (mid_of from (length work - from) work) r end) where
-  pub made_same : length (with_upper work from end) ≡ length work
-  made_same = made_long work from end (omega (arith, room)) (tabled.same ∙ part_long work from)
-
-  pub made_table : TableAt limits s (drop from (with_upper work from end)) r
-  made_table =
-      subst (λ d. TableAt limits s d r) (sym (made_part work from end (omega (arith, room))))
-      (tabled_at limits s (mid_of from (length work - from) work) r end tabled few)
-
-  pub made_ends : (r ≤ max_rows) × (from + place r end_size ≤ length (with_upper work from end))
-  made_ends =
-      let fits = table_few made_table in (omega (arith, fits, bounded.0), omega (arith, fits, made_same, room))
-
 -- ---- those that are kept
 
-module _ (limits : Limits) (book tables spans : List ℕ) (at : ℕ) (so : Cached limits book tables spans at) where
-  cached_same : (tables₂ : List ℕ) → at ≤ length tables₂ → take at tables₂ ≡ take at tables →
-      Cached limits book tables₂ spans at
-  cached_same tables₂ inside same =
-      record {
-        long = inside;
-        spanned = so.spanned;
-        each = λ j b some.
-            let old = so.each j b some in
-            let start : ℕ = get_or spans j 0 in
-            let n : ℕ = place (get_or spans (most_cards + j) 0) end_size in
-            record {
-              ends = old.ends;
-              table = table_same old.table (drop start tables₂)
-                  (front_same tables tables₂ at start n so.long inside same old.ends);
-            };
-      }
+none_there : (n j : ℕ) → get_or {A = Option Span} (replicate n None) j None ≡ None
+none_there zero j = refl
+none_there (suc n) zero = refl
+none_there (suc n) (suc j) = none_there n j
 
-  cached_within : (end : ℕ) → at ≤ end → end ≤ length tables → Cached limits book tables spans end
-  cached_within end later inside =
-      record {
-        long = inside;
-        spanned = so.spanned;
-        each = λ j b some.
-            let old = so.each j b some in record { ends = omega (arith, old.ends); table = old.table };
-      }
+pub none_cached : (limits : Limits) (book : List ℕ) {cache : Cache} → cache.end ≡ 0 → (n : ℕ) → cache.spans ≡ replicate n None →
+    Cached limits book cache
+none_cached limits book {cache} first n none =
+    record {
+      inside = omega arith;
+      each = λ j span is. let e : None ≡ Some span = sym (ap (λ spans. get_or spans j None) none ∙ none_there n j) ∙ is in cc;
+    }
 
-module _ (limits : Limits) (book tables spans : List ℕ) (at m k : ℕ) (so : Cached limits book tables spans at)
-    (l : k < most_cards) (table : TableAt limits (card book k) (drop at tables) m)
-    (room : at + place m end_size ≤ length tables) where
-  abbrev new : List ℕ
-  new = with_span spans k at m
+-- those that end before a place stay when only bytes from there on change
+kept_at : {limits : Limits} {s tables : List ℕ} {span : Span} {end : ℕ} → CachedAt limits s tables span end →
+    (tables₂ : List ℕ) → end ≤ length tables → end ≤ length tables₂ → take end tables₂ ≡ take end tables →
+    CachedAt limits s tables₂ span end
+kept_at {tables = tables} {span} {end} so tables₂ inside inside₂ same =
+    record {
+      ends = so.ends;
+      table = table_same so.table (drop span.start tables₂)
+          (front_same tables tables₂ end span.start (place span.rows end_size) inside inside₂ same so.ends);
+    }
 
-  abbrev end : ℕ
-  end = at + place m end_size
-
-  -- what is true of a span holds of the new spans where they say the same
-  spanned_same : (j start rows : ℕ) → get_or new j 0 ≡ start → get_or new (most_cards + j) 0 ≡ rows →
-      CachedAt limits (card book j) tables start rows end →
-      CachedAt limits (card book j) tables (get_or new j 0) (get_or new (most_cards + j) 0) end
-  spanned_same j start rows same_start same_rows there-is =
-      subst (λ r. CachedAt limits (card book j) tables (get_or new j 0) r end) (sym same_rows)
-      (subst (λ a. CachedAt limits (card book j) tables a rows end) (sym same_start) there-is)
-
-  last : CachedAt limits (card book k) tables (get_or new k 0) (get_or new (most_cards + k) 0) end
-  last =
-      spanned_same k at m
-      (get_or-set_other (set spans k at) (most_cards + k) k m 0 (λ z. omega (arith, z))
-      ∙ get_or-set_same spans k at 0 (omega (arith, so.spanned)))
-      (get_or-set_same (set spans k at) (most_cards + k) m 0 (omega (arith, length-set spans k at, so.spanned)))
-      (record { ends = omega arith; table = table })
-
-  same_rows : (j : ℕ) → (j ≡ k → ⊥) → j < most_cards → get_or new (most_cards + j) 0 ≡ get_or spans (most_cards + j) 0
-  same_rows j u b =
-      get_or-set_other (set spans k at) (most_cards + k) (most_cards + j) m 0 (λ z. u (omega (arith, z)))
-      ∙ get_or-set_other spans k (most_cards + j) at 0 (λ z. omega (arith, z))
-
-  earlier : (j : ℕ) → j < most_cards → (j ≡ k → ⊥) → (get_or new (most_cards + j) 0 ≡ 0 → ⊥) →
-      CachedAt limits (card book j) tables (get_or new j 0) (get_or new (most_cards + j) 0) end
-  earlier j b u some =
-      let wider = cached_within limits book tables spans at so end (omega arith) room in
-      spanned_same j (get_or spans j 0) (get_or spans (most_cards + j) 0)
-      (get_or-set_other (set spans k at) (most_cards + k) j m 0 (λ z. omega (arith, z)) ∙ get_or-set_other spans k j at 0 u)
-      (same_rows j u b) (wider.each j b (λ z. some (same_rows j u b ∙ z)))
-
-  cached_more : Cached limits book tables new end
-  cached_more =
-      record {
-        long = room;
-        spanned = length-set (set spans k at) (most_cards + k) m ∙ length-set spans k at ∙ so.spanned;
-        each = λ j b some. elim (ℕ_discrete j k) [
-          | yes s ↦
-              subst (λ i. CachedAt limits (card book i) tables (get_or new i 0) (get_or new (most_cards + i) 0) end) (sym s)
-              last
-          | no u ↦ earlier j b u some
-        ];
-      }
+kept_within : {limits : Limits} {s tables : List ℕ} {span : Span} {end : ℕ} → CachedAt limits s tables span end →
+    {end₂ : ℕ} → end ≤ end₂ → CachedAt limits s tables span end₂
+kept_within so later = record { ends = omega (arith, so.ends); table = so.table }
 
 -- a table of n bytes that was put behind those that are kept
-module _ (limits : Limits) (book tables spans : List ℕ) (at : ℕ) (so : Cached limits book tables spans at)
-    (scratch : List ℕ) (m k n : ℕ) (tables₂ : List ℕ) (l : k < most_cards)
-    (table : TableAt limits (card book k) scratch m) (e : n ≡ place m end_size) (inside : n ≤ length scratch)
-    (room : at + n ≤ length tables) (written : tables₂ ≡ put tables at (take n scratch)) where
-  abbrev part : List ℕ
-  part = take n scratch
+module _ (limits : Limits) (book : List ℕ) (cache : Cache) (so : Cached limits book cache) (part : List ℕ)
+    (k rows n : ℕ) (table : TableAt limits (card book k) part rows) (is : n ≡ place rows end_size)
+    (whole : n ≤ length part) (room : cache.end + n ≤ length cache.tables) (tables₂ : List ℕ)
+    (written : tables₂ ≡ put cache.tables cache.end (take n part)) where
+  abbrev new : List ℕ
+  new = take n part
 
-  as_many : length part ≡ n
-  as_many = length-take-le n scratch inside
+  as_many : length new ≡ n
+  as_many = length-take-le n part whole
 
-  is_put : tables₂ ≡ put_mid at (length part) tables part
-  is_put = written ∙ put_part tables at part
+  is_put : tables₂ ≡ put_mid cache.end (length new) cache.tables new
+  is_put = written ∙ put_part cache.tables cache.end new
 
-  as_long : length tables₂ ≡ length tables
-  as_long = ap length written ∙ length_put tables at part (omega (arith, as_many, room))
+  as_long : length tables₂ ≡ length cache.tables
+  as_long = ap length written ∙ length_put cache.tables cache.end new (omega (arith, as_many, room))
 
-  kept : Cached limits book tables₂ spans at
-  kept =
-      cached_same limits book tables spans at so tables₂ (omega (arith, as_long, so.long))
-      (ap (take at) is_put ∙ take_put at (length part) tables part so.long)
+  abbrev span : Span
+  span = record { start = cache.end; rows = rows }
 
-  stored : TableAt limits (card book k) (drop at tables₂) m
-  stored =
-      table_same table (drop at tables₂)
-      (ap (λ (i : ℕ). take i (drop at tables₂)) (sym e)
-      ∙ ap (λ (d : List ℕ). take n (drop at d)) is_put
-      ∙ part_there tables at (length part) part n so.long (omega (arith, as_many))
-      ∙ take_all n part (omega (arith, as_many))
-      ∙ ap (λ (i : ℕ). take i scratch) e)
+  last : CachedAt limits (card book k) tables₂ span (cache.end + n)
+  last =
+      record {
+        ends = omega (arith, is);
+        table =
+            table_same table (drop cache.end tables₂)
+            (ap (λ (i : ℕ). take i (drop cache.end tables₂)) (sym is)
+            ∙ ap (λ (d : List ℕ). take n (drop cache.end d)) is_put
+            ∙ part_there cache.tables cache.end (length new) new n so.inside (omega (arith, as_many))
+            ∙ take_all n new (omega (arith, as_many))
+            ∙ ap (λ (i : ℕ). take i part) is);
+      }
 
-  pub cached_stored : Cached limits book tables₂ (with_span spans k at m) (at + n)
-  cached_stored =
-      subst (λ i. Cached limits book tables₂ (with_span spans k at m) (at + i)) (sym e)
-      (cached_more limits book tables₂ spans at m k kept l stored (omega (arith, e, as_long, room)))
+  earlier : (j : ℕ) (old : Span) → get_or cache.spans j None ≡ Some old → CachedAt limits (card book j) tables₂ old (cache.end + n)
+  earlier j old at =
+      kept_within
+      (kept_at (so.each j old at) tables₂ so.inside (omega (arith, as_long, so.inside))
+      (ap (take cache.end) is_put ∙ take_put cache.end (length new) cache.tables new so.inside)) (omega arith)
+
+  abbrev spans₂ : List (Option Span)
+  spans₂ = set cache.spans k (Some span)
+
+  pub cached_more : k < length cache.spans →
+      Cached limits book (record { tables = tables₂; spans = spans₂; end = cache.end + n })
+  cached_more l = record { inside = omega (arith, as_long, room); each = each }
+    where
+      here : (s : Span) → get_or spans₂ k None ≡ Some s → CachedAt limits (card book k) tables₂ s (cache.end + n)
+      here s at =
+          let e : Some span ≡ Some s = sym (get_or-set_same cache.spans k (Some span) None l) ∙ at in
+          let same : span ≡ s = cc in subst (λ u. CachedAt limits (card book k) tables₂ u (cache.end + n)) same last
+
+      each : (j : ℕ) (s : Span) → get_or spans₂ j None ≡ Some s → CachedAt limits (card book j) tables₂ s (cache.end + n)
+      each j s at = elim (ℕ_discrete j k) [
+        | yes e ↦
+            subst (λ i. CachedAt limits (card book i) tables₂ s (cache.end + n)) (sym e)
+            (here s (subst (λ i. get_or spans₂ i None ≡ Some s) e at))
+        | no u ↦ earlier j s (sym (get_or-set_other cache.spans k j (Some span) None u) ∙ at)
+      ]

@@ -5,10 +5,12 @@
 --   card_unfolding   what unfolding that part needs
 --   card_room        and what making its table needs
 --   card_tabled      the table of that part, unfolded, is that of the unfolded card
+--   card_made        and stands where it was made
 use Prim.Native.Nat.{◌<◌, ◌≤◌, ℕ}
 use lib.ListN.{length}
 use mathlib.Core.List.{List}
 use mathlib.Core.Path.{◌∙◌, ◌≡◌, ap, subst, sym}
+use native.Mathlib.Omega.{arith}
 use Rattle.table.specs.Bounds.{Bounded, picture_size}
 use Rattle.table.specs.declared.layout.Limits.{Limits}
 use Rattle.normal_writer.specs.Tables.{Tabled}
@@ -17,7 +19,9 @@ use Rattle.definitions.specs.Unfolded.{unfolded_file}
 use Rattle.under.proofs.Books.{book_unfolded, unfolded_card, unfolded_count_is}
 use Rattle.under.specs.Book.{PreparedBook, unfolded_book}
 use Rattle.unfold_tables.specs.Ready.{Ready, TableSpace, Unfolding}
+use Rattle.book_tables.specs.Cache.{TableAt}
 use Rattle.book_tables.specs.Tables.{BookTaken, TakenUnder}
+use Rattle.book_tables.proofs.Caches.{tabled_at}
 
 pub card_unfolding : {limits : Limits} {tbox case book starts : List ℕ} {defined : ℕ} →
     Ready limits tbox starts defined → PreparedBook limits tbox case book → (k : ℕ) → k < card_count book →
@@ -49,3 +53,8 @@ module _ {limits : Limits} {tbox book : List ℕ} (bounded : Bounded limits) (ta
     card_tabled {out} {r} {end} =
         subst (λ s. Tabled limits s out r end)
         (ap (unfolded_file limits tbox) is ∙ sym (unfolded_card limits bounded tbox taken.case book ok k l))
+
+    pub card_made : {out : List ℕ} {r : ℕ} {end : List ℕ} → Tabled limits (unfolded_file limits tbox part) out r end →
+        TableAt limits (card (unfolded_book limits tbox book) k) end r
+    card_made tabled =
+        tabled_at limits _ _ _ _ (card_tabled tabled) (cards_taken.few k (omega (arith, l, count_is)))

@@ -1,5 +1,5 @@
 -- The laws of the tables of the cards.
 pub mod Parts
-pub mod CardTables
 pub mod Caches
+pub mod CardTables
 pub mod CardTests

@@ -11,20 +11,21 @@ use Rattle.picture.specs.Readable.{Readable}
 use Rattle.meaning.specs.NormalTable.{merged_count, normal_file}
 use Rattle.homomorphism_search.specs.Search.{row_maps}
 use Rattle.book.specs.Form.{card, card_count, card_tag}
+use Rattle.definition_parts.specs.declared.opened.Tbox.{Tbox}
 use Rattle.field_places.specs.Places.{Placed}
+use Rattle.field_places.specs.declared.places.Fields.{Fields}
 use Rattle.under.specs.Book.{AcceptableBookUnder, PreparedBook}
 use Rattle.unfold_tables.specs.Ready.{Ready, Unfolding}
-use Rattle.book_tables.specs.declared.books.Books.{Books}
 
-pub record CardsRead (limits : Limits) (tbox book : List ℕ) (books : Books) : Type 0 where
-  pub places_are : Placed card_tag book books.cards
-  pub each : (k : ℕ) → k < books.cards.count →
-      Unfolding limits tbox books.starts (set_of books.defined) (card book k)
+pub record CardsRead (limits : Limits) (tbox : Tbox) (book : List ℕ) (cards : Fields) : Type 0 where
+  pub places_are : Placed card_tag book cards
+  pub each : (k : ℕ) → k < cards.count →
+      Unfolding limits tbox.bytes.now tbox.starts.now (set_of tbox.defined) (card book k)
 
-pub record AllRead (limits : Limits) (tbox case book : List ℕ) (books : Books) : Type 0 where
-  pub ready : Ready limits tbox books.starts (set_of books.defined)
-  pub places_are : Placed card_tag book books.cards
-  pub prepared : PreparedBook limits tbox case book
+pub record AllRead (limits : Limits) (tbox : Tbox) (case book : List ℕ) (cards : Fields) : Type 0 where
+  pub ready : Ready limits tbox.bytes.now tbox.starts.now (set_of tbox.defined)
+  pub places_are : Placed card_tag book cards
+  pub prepared : PreparedBook limits tbox.bytes.now case book
 
 pub record BookTaken (limits : Limits) (book : List ℕ) : Type 0 where
   pub readable : (k : ℕ) → k < card_count book → Readable limits (card book k)

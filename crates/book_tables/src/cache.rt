@@ -1,7 +1,10 @@
-// The tables of covering cards in an array of the call's own, one after the other, so that they need not be made again.
-ghost use Rattle.std.specs.Prelude.{◌≡◌, ◌+◌, ◌<◌, length};
-ghost use Rattle.book.specs.Form.{most_cards};
-ghost use Rattle.book_tables.specs.Cache.{Storable, Stored, with_span};
+// The tables of covering cards, one after the other, so that they need not be made again.
+ghost use Rattle.std.specs.Prelude.{List, ◌≡◌, ◌≤◌, ◌<◌, ℕ, get_or, length};
+ghost use Rattle.table.specs.Bounds.{max_rows};
+ghost use Rattle.table.specs.Layout.{end_size, «place»};
+ghost use Rattle.table.specs.declared.layout.Limits.{Limits};
+ghost use Rattle.book.specs.Form.{«card», most_cards};
+ghost use Rattle.book_tables.specs.Cache.{Cached, TableAt};
 
 use book_form::form::MAX_CARDS;
 use normal_writer::write::TABLE;
@@ -11,37 +14,56 @@ use table::number::copy_in;
 // As many bytes as the cache has: twice as many as the longest table. Nothing that is proved asks how many.
 pub const TABLES: usize = 2 * TABLE;
 
-// For each card where its table begins, and then for each card its rows; 0 if it is not cached.
-pub const SPANS: usize = 2 * MAX_CARDS;
-
-// Says where the table of card k begins, and its rows.
-pub fn keep_span(k: usize, start: usize, rows: usize, spans: &mut [usize; SPANS])
-    requires { (k < most_cards) × (length spans.old ≡ most_cards + most_cards) }
-    ensures { spans.new ≡ with_span spans.old k start rows }
-{
-    spans[k] = start;
-    spans[MAX_CARDS + k] = rows;
+// Where a table begins, and its rows.
+#[derive(Clone, Copy)]
+pub struct Span {
+    pub start: usize,
+    pub rows: usize,
 }
 
-// Stores the table of card k, of m rows, if it fits after those that end at a place; the place where all end then.
-pub fn store(
-    part: &[u8],
-    m: usize,
-    k: usize,
-    at: usize,
-    tables: &mut [u8],
-    spans: &mut [usize; SPANS],
-) -> usize
-    requires { Storable part.now m k at tables.old spans.old }
-    ensures { (Stored part.now m k at tables.old spans.old result
-        tables.new spans.new)
-        × (length tables.new ≡ length tables.old) }
-{
-    let size = place(m, END_SIZE);
-    if tables.len() - at < size {
-        return at;
+// The tables, for each card where its own is, and where all end.
+#[derive(Drop)]
+pub struct Cache {
+    pub tables: [u8; TABLES],
+    pub spans: [Option<Span>; MAX_CARDS],
+    pub end: usize,
+}
+
+impl Cache {
+    pub fn new() -> Cache
+        ensures { (limits : Limits) (book : List ℕ) → Cached limits book result }
+    {
+        Cache {
+            tables: [0u8; TABLES],
+            spans: [None; MAX_CARDS],
+            end: 0,
+        }
     }
-    copy_in(tables, at, &part[..size]);
-    keep_span(k, at, m, spans);
-    at + size
+
+    // Where the table of card k is, if it is kept.
+    pub fn find(&self, k: usize) -> Option<Span>
+        requires { k < most_cards }
+        ensures { result ≡ get_or self.now.spans k None }
+    {
+        self.spans[k]
+    }
+
+    // Keeps the table of card k, of so many rows, if it fits after the others.
+    pub fn keep(&mut self, k: usize, part: &[u8], rows: usize)
+        requires few { rows ≤ max_rows }
+        requires whole { «place» rows end_size ≤ length part.now }
+        requires below { k < most_cards }
+        requires inside { self.old.end ≤ length self.old.tables }
+        ensures { (limits : Limits) (book : List ℕ) → Cached limits book self.old → TableAt limits («card» book k) part.now rows
+            → Cached limits book self.new }
+    {
+        let size = place(rows, END_SIZE);
+        let start = self.end;
+        if TABLES - start < size {
+            return;
+        }
+        copy_in(&mut self.tables, start, &part[..size]);
+        self.spans[k] = Some(Span { start, rows });
+        self.end = start + size;
+    }
 }

@@ -6,41 +6,41 @@ ghost use Rattle.definitions.specs.Unfolded.{unfolded_file};
 ghost use Rattle.under.specs.Asked.{card_few};
 ghost use Rattle.book_tables.specs.Tables.{AllRead, CardsRead};
 
-use crate::books::Books;
 use book_form::form::card;
-use picture::answer::{Asked, Input, too_many};
+use definition_parts::opened::Tbox;
+use field_places::places::Fields;
+use picture::answer::{Input, Refusal, too_many};
 use table::layout::Limits;
 use unfold_tables::tables::is_unfolded_within;
 
 // 14 of each card in turn.
-fn ask_cards(tbox: &[u8], book: &[u8], books: Books, limits: Limits) -> Asked
-    requires { CardsRead limits tbox.now book.now books }
-    ensures { result ≡ asked_from (card_few limits tbox.now book.now) books.cards.count 0 }
+fn ask_cards(tbox: &Tbox<'_>, book: &[u8], cards: Fields, limits: Limits) -> Result<(), Refusal>
+    requires { CardsRead limits tbox.now book.now cards }
+    ensures { result ≡ asked_from (card_few limits tbox.now.bytes.now book.now) cards.count 0 }
 {
-    let cards = books.cards;
-    let starts = books.starts;
-    let defined = books.defined;
-    let mut k = 0;
-    while k < cards.count {
-        if !is_unfolded_within(card(book, cards, k), tbox, &starts, defined, limits) {
-            return Asked::No(too_many(Input::Card(k as u8)));
+    for k in 0..cards.count {
+        if !is_unfolded_within(card(book, cards, k), tbox, limits) {
+            return Err(too_many(Input::Card(k as u8)));
         }
-        k += 1;
     }
-    Asked::Yes
+    Ok(())
 }
 
 // 14 of the case, and then those. Nothing is lent for writing here, so that a refusal writes nothing.
-pub fn ask_merged(tbox: &[u8], case: &[u8], book: &[u8], books: Books, limits: Limits) -> Asked
-    requires { AllRead limits tbox.now case.now book.now books }
+pub fn ask_merged(
+    tbox: &Tbox<'_>,
+    case: &[u8],
+    book: &[u8],
+    cards: Fields,
+    limits: Limits,
+) -> Result<(), Refusal>
+    requires { AllRead limits tbox.now case.now book.now cards }
     ensures { result ≡ and_then
-        (merged_asked limits Input.First (unfolded_file limits tbox.now case.now))
-        (asked_from (card_few limits tbox.now book.now) books.cards.count 0) }
+        (merged_asked limits Input.First (unfolded_file limits tbox.now.bytes.now case.now))
+        (asked_from (card_few limits tbox.now.bytes.now book.now) cards.count 0) }
 {
-    let starts = books.starts;
-    let defined = books.defined;
-    if !is_unfolded_within(case, tbox, &starts, defined, limits) {
-        return Asked::No(too_many(Input::First));
+    if !is_unfolded_within(case, tbox, limits) {
+        return Err(too_many(Input::First));
     }
-    ask_cards(tbox, book, books, limits)
+    ask_cards(tbox, book, cards, limits)
 }

@@ -1,9 +1,7 @@
 // What reading a picture, writing its normal table and writing the common picture of two answer, as a line.
-use lcs::common::Common;
 use lcs_call::call::lcs;
-use normal::normalize::Normalized;
 use normalize_call::normalize::normalize;
-use picture::answer::{Answer, Input, Refusal};
+use picture::answer::{Input, Refusal};
 use picture_reader::read::read;
 use std::io;
 use std::io::Print;
@@ -43,8 +41,8 @@ fn say_refused(rt: &impl Print, refusal: Refusal) -> io::Result<()> {
 
 fn tell_answer(rt: &impl Print, s: &[u8]) -> io::Result<()> {
     match read(s, Limits::bench(), Input::First) {
-        Answer::Rows(n) => println!(rt; ": rows {n}"),
-        Answer::Refused(refusal) => say_refused(rt, refusal),
+        Ok(n) => println!(rt; ": rows {n}"),
+        Err(refusal) => say_refused(rt, refusal),
     }
 }
 
@@ -63,8 +61,8 @@ pub fn tell(rt: &impl Print, label: &[u8], s: &[u8], n: usize) -> io::Result<()>
 
 fn tell_normalized(rt: &impl Print, s: &[u8], out: &mut [u8]) -> io::Result<()> {
     match normalize(&NO_DEFINITIONS, s, Limits::bench(), out) {
-        Normalized::Length(n) => println!(rt; ": length {n}"),
-        Normalized::Refused(refusal) => say_refused(rt, refusal),
+        Ok(n) => println!(rt; ": length {n}"),
+        Err(refusal) => say_refused(rt, refusal),
     }
 }
 
@@ -100,8 +98,8 @@ fn tell_least(rt: &impl Print, first: &[u8], second: &[u8]) -> io::Result<()> {
         &mut work,
         &mut out,
     ) {
-        Common::Length(n) => println!(rt; ": length {n}"),
-        Common::Refused(refusal) => say_refused(rt, refusal),
+        Ok(n) => println!(rt; ": length {n}"),
+        Err(refusal) => say_refused(rt, refusal),
     }
 }
 

@@ -1,3 +1,4 @@
 -- The laws, by subject.
 pub mod NameWalks
 pub mod Parts
+pub mod NameSteps

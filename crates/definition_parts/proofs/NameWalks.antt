@@ -2,26 +2,37 @@
 --   Lowest                 the lowest name of a set, or past the names: what `Names::first` answers
 --   Struck                 a set without one name: what `without` answers
 --   struck_has             an intersection with the complement of the set of one name is such a set
---   Walk                   the name that is next is the lowest that is left, and from there on all of the set are left
---   walk_held              it is in the set
---   walk_start, walk_next  before the first; from one to the next
---   walk_later             the next is later
---   walk_between           between the two there is none
-use Prim.Native.Nat.{◌<◌, ◌^◌, ◌≤◌, ℕ}
+--   names_end, names_next  there is none; the lowest, then those that are left without it
+--   names_member           the names of a set are those that it has
+--   Walk                   the names that are left are names of the set
+--   walk_all, walk_next    all of them are; and so are those after the next
+--   walk_held              the next is in the set
+use Prim.Native.Nat.{◌+◌, ◌-◌, ◌<◌, ◌^◌, ◌≤◌, suc, ℕ}
 use native.Mathlib.Nat.{eq-or-lt_of_le}
 use native.Mathlib.Omega.{arith}
-use borrow.Author.Tests.{eq-eqb, lt-ltb, ltb-false, ltb-true, ne_eqb}
+use borrow.Author.Tests.{eq-eqb, lt-ltb, ltb-true, ne_eqb}
 use lib.Dec.{eqb, ltb}
 use lib.Pow.{pow-lt}
-use mathlib.Core.Bool.{Bool, ◌&&◌, false, false≢true, not, true}
+use mathlib.Core.Bool.{Bool, ◌&&◌, ◌||◌, false, not, true}
+use mathlib.Core.List.{List, [], ◌++◌, ◌∷◌}
 use mathlib.Core.Logic.{⊎_elim}
 use mathlib.Core.Path.{◌∙◌, ◌≡◌, ap, refl, sym}
 use Rattle.table.specs.Layout.{name_count}
 use Rattle.table.specs.NameSet.{complement, has, intersection}
-use Rattle.table.proofs.Bools.{by_test}
+use Rattle.table.specs.Pick.{pick}
+use Rattle.table.proofs.Bools.{both, false_is, is_true, true_is}
 use Rattle.table.proofs.NameSets.{has_complement, has_intersection, has_power}
 use Rattle.table.proofs.SetsBelow.{and_all}
 use Rattle.table.proofs.Tests.{and_none}
+use Rattle.ale.specs.Rows.{filter_below, filter_from, member}
+use Rattle.ale.proofs.RowLists.{
+  filter_below_in,
+  filter_below_out,
+  filter_from_none,
+  filter_from_same,
+  filter_from_split,
+}
+use Rattle.definition_parts.specs.Names.{names_of}
 
 abbrev pub Lowest : ℕ → ℕ → Type 0
 Lowest set r = (r ≤ name_count) × (((k : ℕ) → k < r → has set k ≡ false) × (r < name_count → has set r ≡ true))
@@ -35,42 +46,88 @@ struck_has set name low m l =
     ∙ ap (λ (b : Bool). has set m && b)
     (has_complement (2 ^ name) m (pow-lt low) ∙ rw (lt-ltb m name_count l, has_power name m))
 
-pub record Walk (set left name : ℕ) : Type 0 where
-  pub lowest : Lowest left name
-  pub same : (k : ℕ) → name ≤ k → k < name_count → has left k ≡ has set k
+-- ---- those from a name on
 
-pub walk_held : (set left name : ℕ) → Walk set left name → name < name_count → has set name ≡ true
-walk_held set left name w low = sym (w.same name (omega arith) low) ∙ w.lowest.1.1 low
+abbrev names_from : ℕ → ℕ → List ℕ
+names_from set o = filter_from (has set) o (name_count - o)
 
-pub walk_start : (set name : ℕ) → Lowest set name → Walk set set name
-walk_start set name l = record { lowest = l; same = λ k _ _. refl }
+names_skip : (set r : ℕ) → r ≤ name_count → ((k : ℕ) → k < r → has set k ≡ false) → names_of set ≡ names_from set r
+unfolding names_of
+names_skip set r l none =
+    filter_from_split (has set) 0 r (name_count - r) name_count r (omega arith) (omega arith)
+    ∙ ap (λ z. z ++ names_from set r)
+    (filter_from_none (has set) 0 r (λ j p q. false_is (has set j) (none j (omega arith))))
 
-module _ (set left name next to : ℕ) (w : Walk set left name) (low : name < name_count) (struck : Struck left name next)
-    (l : Lowest next to) where
-  -- up to the name none is left
-  gone : (k : ℕ) → k ≤ name → has next k ≡ false
-  gone k b =
-      ⊎_elim
-      (λ (e : k ≡ name). struck k (omega arith) ∙ rw (eq-eqb k name e) (and_none (has left k)))
-      (λ (s : k < name). struck k (omega arith) ∙ rw (w.lowest.1.0 k s))
-      (eq-or-lt_of_le {n = k} {m = name} b)
+names_first : (set n : ℕ) → n < name_count → has set n ≡ true → names_from set n ≡ n ∷ names_from set (n + 1)
+names_first set n l h =
+    ap (filter_from (has set) n) (let e : name_count - n ≡ suc (name_count - (n + 1)) = omega arith in e)
+    ∙ ap (λ b. pick b (n ∷ filter_from (has set) (suc n) (name_count - (n + 1)))
+    (filter_from (has set) (suc n) (name_count - (n + 1)))) h
+    ∙ ap (λ z. n ∷ filter_from (has set) z (name_count - (n + 1))) (let e : suc n ≡ n + 1 = omega arith in e)
 
-  -- after it all are
-  kept : (k : ℕ) → name < k → k < name_count → has next k ≡ has set k
-  kept k a b =
-      struck k b
-      ∙ rw (ne_eqb k name (λ e. omega arith)) (and_all (has left k))
-      ∙ w.same k (omega arith) b
+pub names_end : (set r : ℕ) → Lowest set r → name_count ≤ r → names_of set ≡ []
+names_end set r low past =
+    names_skip set r low.0 low.1.0
+    ∙ ap (filter_from (has set) r) (let e : name_count - r ≡ 0 = omega arith in e)
 
-  pub walk_later : name < to
-  walk_later =
-      by_test (ltb name to) (ltb-true name to)
-      (λ f.
-      let past = ltb-false name to f in
-      absurd (false≢true (sym (gone to (omega arith)) ∙ l.1.1 (omega arith))))
+pub names_next : (set name next : ℕ) → Lowest set name → name < name_count → Struck set name next →
+    names_of set ≡ name ∷ names_of next
+names_next set name next low l struck =
+    names_skip set name low.0 low.1.0
+    ∙ names_first set name l (low.1.1 l)
+    ∙ ap (λ z. name ∷ z) (filter_from_same (has set) (has next) (name + 1) (name_count - (name + 1)) after
+    ∙ sym (names_skip next (name + 1) (omega arith) gone))
+  where
+    after : (k : ℕ) → name + 1 ≤ k → k < name + 1 + (name_count - (name + 1)) → has set k ≡ has next k
+    after k a b =
+        sym (struck k (omega arith) ∙ rw (ne_eqb k name (λ e. omega arith)) (and_all (has set k)))
 
-  pub walk_next : Walk set next to
-  walk_next = record { lowest = l; same = λ k a b. kept k (omega (arith, walk_later)) b }
+    gone : (k : ℕ) → k < name + 1 → has next k ≡ false
+    gone k b =
+        ⊎_elim
+        (λ (e : k ≡ name). struck k (omega arith) ∙ rw (eq-eqb k name e) (and_none (has set k)))
+        (λ (s : k < name). struck k (omega arith) ∙ rw (low.1.0 k s))
+        (eq-or-lt_of_le {n = k} {m = name} (omega arith))
 
-  pub walk_between : (k : ℕ) → name < k → k < to → has set k ≡ false
-  walk_between k a b = sym (kept k a (omega (arith, l.0))) ∙ l.1.0 k b
+-- ---- a walk
+
+-- tests that hold of the same are equal
+pub same_test : (a b : Bool) → (a ≡ true → b ≡ true) → (b ≡ true → a ≡ true) → a ≡ b
+same_test true b f g = sym (f refl)
+same_test false true f g = g refl
+same_test false false f g = refl
+
+pub member_filter : (q : ℕ → Bool) (n j : ℕ) → member j (filter_below q n) ≡ (ltb j n && q j)
+member_filter q n j =
+    same_test (member j (filter_below q n)) (ltb j n && q j)
+    (λ e.
+    let (t, l) = filter_below_out q n j (true_is (member j (filter_below q n)) e) in
+    rw (lt-ltb j n l, is_true (q j) t))
+    (λ e. let (l, t) = both (ltb j n) (q j) e in
+    is_true (member j (filter_below q n)) (filter_below_in q n j (true_is (q j) t) (ltb-true j n l)))
+
+pub names_member : (set m : ℕ) → member m (names_of set) ≡ (ltb m name_count && has set m)
+unfolding names_of
+names_member set m = member_filter (has set) name_count m
+
+pub record Walk (set : ℕ) (left : List ℕ) : Type 0 where
+  pub held : (m : ℕ) → member m left ≡ true → (m < name_count) × (has set m ≡ true)
+
+pub walk_all : (set : ℕ) → Walk set (names_of set)
+walk_all set = record {
+  held = λ m e.
+      let (l, h) = both (ltb m name_count) (has set m) (sym (names_member set m) ∙ e) in
+      (ltb-true m name_count l, h);
+}
+
+module _ (set name : ℕ) (left next : List ℕ) (w : Walk set left) (is : left ≡ name ∷ next) where
+  pub walk_held : (name < name_count) × (has set name ≡ true)
+  walk_held =
+      w.held name (ap (member name) is ∙ ap (λ (b : Bool). b || member name next) (eq-eqb name name refl))
+
+  pub walk_next : Walk set next
+  walk_next = record { held = λ m e. w.held m (ap (member m) is ∙ or_later (eqb m name) (member m next) e) }
+    where
+      or_later : (a b : Bool) → b ≡ true → (a || b) ≡ true
+      or_later true b e = refl
+      or_later false b e = e

@@ -1,2 +1,4 @@
--- The pictures of definitions as parts of the book. Nobody has to believe these.
+-- The pictures of definitions as parts of the book, and the names of a set. Nobody has to believe these.
+pub mod Names
 pub mod Parts
+pub mod Tboxes

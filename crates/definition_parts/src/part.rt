@@ -28,6 +28,5 @@ pub fn definition<'a>(tbox: &'a [u8], starts: &[usize; NAMES], name: usize) -> &
     requires { (name < name_count) × (Part tbox.now (get_or starts.now name 0)) }
     ensures { result.now ≡ part_at tbox.now (get_or starts.now name 0) }
 {
-    let at = starts[name];
-    part(tbox, at)
+    part(tbox, starts[name])
 }

@@ -9,20 +9,19 @@ use lib.ListN.{length}
 use mathlib.Core.Bool.{Bool, false, true}
 use mathlib.Core.List.{List, [], ◌++◌, ◌∷◌}
 use mathlib.Core.Path.{◌≡◌, refl}
+use Rattle.std.proofs.Common.{Err}
 use Rattle.table.specs.Fields.{end_bytes, ends_at, row_of}
 use Rattle.table.specs.NameSet.{has, set_below}
 use Rattle.table.specs.Number.{be, be_bytes}
 use Rattle.table.specs.Range.{each, some}
 use Rattle.table.specs.declared.layout.Limits.{Limits}
 use Rattle.fields.specs.Form.{field_count, field_place, field_value, field_with, fields_form, fields_from}
-use Rattle.picture.specs.Asked.{read_asked}
+use Rattle.picture.specs.Asked.{read_asked, Asked, yes}
 use Rattle.picture.specs.Depth.{depth, depth_in}
 use Rattle.picture.specs.Questions.{end_field, field_at, kind_ok, length_for, parent_ok, role_ok, row_field, tag_ok, value_field}
 use Rattle.picture.specs.Read.{reading_of, scan_from}
 use Rattle.picture.specs.Readable.{row_count}
 use Rattle.picture.specs.Refusal.{refusal, refusal_at}
-use Rattle.picture.specs.declared.answer.Asked.{Asked}
-use Rattle.picture.specs.declared.answer.Asked.TheVariants.{No, Yes}
 use Rattle.picture.specs.declared.answer.Input.TheVariants.{Definition, Definitions, First, Second}
 use Rattle.meaning.proofs.CasePictures.{all_row, empty, end, four_rows, picture, root, row, some_row}
 use Rattle.definitions.specs.Asked.{Picture, asked_of, definitions_asked}
@@ -121,36 +120,36 @@ both s t = record { input = First; file = s } ∷ record { input = Second; file 
 
 abbrev pub questions : List Case
 questions =
-    asked four_rows end (both (wants 8) empty) Yes
-    ∷ asked four_rows (define 3 chain end) (both (wants 8) empty) Yes
+    asked four_rows end (both (wants 8) empty) yes
+    ∷ asked four_rows (define 3 chain end) (both (wants 8) empty) yes
     -- 25 before all others
-    ∷ asked four_rows (define 64 bad_tag end) (one (excluding 8)) (No (refusal 25 Definitions))
+    ∷ asked four_rows (define 64 bad_tag end) (one (excluding 8)) (Err (refusal 25 Definitions))
     -- 2 to 13 of the definitions' pictures in their order, the byte counted from the one after the name byte; before 26
-    ∷ asked four_rows (define 3 [] end) [] (No (refusal_at 2 (Definition 0) 0))
-    ∷ asked four_rows (define 16 (10 ∷ end) end) [] (No (refusal_at 3 (Definition 0) 0))
-    ∷ asked four_rows (define 3 empty (define 3 bad_tag (define 4 [] end))) [] (No (refusal_at 3 (Definition 1) 1))
+    ∷ asked four_rows (define 3 [] end) [] (Err (refusal_at 2 (Definition 0) 0))
+    ∷ asked four_rows (define 16 (10 ∷ end) end) [] (Err (refusal_at 3 (Definition 0) 0))
+    ∷ asked four_rows (define 3 empty (define 3 bad_tag (define 4 [] end))) [] (Err (refusal_at 3 (Definition 1) 1))
     -- 26, also of the same picture; before 27
-    ∷ asked four_rows (define 3 empty (define 5 empty end)) [] Yes
+    ∷ asked four_rows (define 3 empty (define 5 empty end)) [] yes
     ∷ asked four_rows (define 3 empty (define 5 empty (define 3 empty end))) (one (excluding 8))
-    (No (refusal 26 Definitions))
+    (Err (refusal 26 Definitions))
     -- 27 of the given pictures, then of the definitions, in any row; before 28
-    ∷ asked four_rows (define 3 empty end) (one (excluding 32)) Yes
+    ∷ asked four_rows (define 3 empty end) (one (excluding 32)) yes
     ∷ asked four_rows (define 3 (below 8) (define 5 (excluding 8) end)) (both empty (excluding 8))
-    (No (refusal 27 Second))
+    (Err (refusal 27 Second))
     ∷ asked four_rows (define 3 (below 8) (define 5 (excluding 8) end)) (both empty empty)
-    (No (refusal 27 (Definition 1)))
-    ∷ asked four_rows (define 3 (excluding 8) end) [] (No (refusal 27 (Definition 0)))
+    (Err (refusal 27 (Definition 1)))
+    ∷ asked four_rows (define 3 (excluding 8) end) [] (Err (refusal 27 (Definition 0)))
     -- 28, also of a ring that no given picture wants; before 29, which the ring's unfolded picture would meet
-    ∷ asked four_rows (define 3 (below 8) end) (one (wide 8)) (No (refusal 28 Definitions))
-    ∷ asked four_rows (define 3 (wants 32) (define 5 (below 8) end)) (one empty) (No (refusal 28 Definitions))
-    ∷ asked four_rows (define 3 (wants 32) (define 5 (below 128) end)) (one empty) Yes
+    ∷ asked four_rows (define 3 (below 8) end) (one (wide 8)) (Err (refusal 28 Definitions))
+    ∷ asked four_rows (define 3 (wants 32) (define 5 (below 8) end)) (one empty) (Err (refusal 28 Definitions))
+    ∷ asked four_rows (define 3 (wants 32) (define 5 (below 128) end)) (one empty) yes
     -- 29 of the given pictures, then of the definitions; before 30, which the picture before it would meet
-    ∷ asked four_rows (define 3 chain end) (both (below 8) (wide 8)) (No (refusal 29 Second))
-    ∷ asked four_rows (define 3 chain (define 5 (wide 8) end)) (both (below 8) empty) (No (refusal 29 (Definition 1)))
-    ∷ asked four_rows (define 3 chain (define 5 (wide 8) end)) (both (wide 32) empty) (No (refusal 29 First))
+    ∷ asked four_rows (define 3 chain end) (both (below 8) (wide 8)) (Err (refusal 29 Second))
+    ∷ asked four_rows (define 3 chain (define 5 (wide 8) end)) (both (below 8) empty) (Err (refusal 29 (Definition 1)))
+    ∷ asked four_rows (define 3 chain (define 5 (wide 8) end)) (both (wide 32) empty) (Err (refusal 29 First))
     -- 30 of the given pictures, then of the definitions
-    ∷ asked four_rows (define 3 chain (define 5 (below 8) end)) (both empty (below 8)) (No (refusal 30 Second))
-    ∷ asked four_rows (define 3 chain (define 5 (below 8) end)) (both empty empty) (No (refusal 30 (Definition 1)))
+    ∷ asked four_rows (define 3 chain (define 5 (below 8) end)) (both empty (below 8)) (Err (refusal 30 Second))
+    ∷ asked four_rows (define 3 chain (define 5 (below 8) end)) (both empty empty) (Err (refusal 30 (Definition 1)))
     ∷ []
 
 pub asked_pass : run_all questions ≡ questions

@@ -28,7 +28,6 @@ use Rattle.tbox.specs.Acyclic.{acyclic}
 use Rattle.tbox.specs.Theory.{Chain, more, one}
 use Rattle.fields.specs.Form.{field_count, field_place, field_with, fields_form, fields_from}
 use Rattle.picture.specs.Readable.{Readable}
-use Rattle.picture.specs.declared.answer.Asked.TheVariants.{Yes}
 use Rattle.meaning.specs.Meaning.{picture_table}
 use Rattle.definitions.specs.Asked.{Picture, definitions_asked}
 use Rattle.definitions.specs.Form.{definition_count, definitions_form, name_of}
@@ -37,6 +36,7 @@ use Rattle.definitions.specs.Tbox.{defined_word, tbox_of}
 use Rattle.definitions.specs.Unfolded.{Definable, Unfolds, any_defined, excludes_none, named_once, unfolded_file}
 use Rattle.definitions.specs.Unfolded.{wants_defined}
 use Rattle.definitions.proofs.Idle.{few_own, file_own, shallow_own}
+use Rattle.picture.specs.Asked.{yes}
 use Rattle.definitions.proofs.Questions.{definable_asked}
 
 -- the set of no definitions
@@ -107,7 +107,7 @@ module _ (book : List ℕ) (empty : definition_count book ≡ 0) where
     }
 
     pub empty_asked : (limits : Limits) (given : List Picture) → AllOf (λ p. Readable limits p.file) given →
-        definitions_asked limits book given ≡ Yes
+        definitions_asked limits book given ≡ yes
     empty_asked limits given r = definable_asked limits book given (empty_definable limits) (each_unfolds given r)
       where
         each_unfolds : (ps : List Picture) → AllOf (λ p. Readable limits p.file) ps →

@@ -20,11 +20,9 @@ use Rattle.tbox.specs.Acyclic.{acyclic}
 use Rattle.picture.proofs.Orders.{AllFrom, Decides, EveryRefusal, FirstFrom, Unreadable, and_decides, and_refuses}
 use Rattle.picture.proofs.Orders.{asked_decides, asked_refuses, from_decides, from_refuses, read_decides, read_refuses}
 use Rattle.picture.proofs.Orders.{said_so, then_assoc}
-use Rattle.picture.specs.Asked.{and_then, asked_from}
+use Rattle.picture.specs.Asked.{and_then, asked_from, Asked, yes}
 use Rattle.picture.specs.Readable.{FailsAt, Readable}
 use Rattle.picture.specs.Refusal.{refusal, refusal_at}
-use Rattle.picture.specs.declared.answer.Asked.{Asked}
-use Rattle.picture.specs.declared.answer.Asked.TheVariants.{Yes}
 use Rattle.picture.specs.declared.answer.Input.TheVariants.{Definition, Definitions}
 use Rattle.picture.specs.declared.answer.Refusal.{Refusal}
 use Rattle.fields.specs.Form.{listed}
@@ -387,10 +385,10 @@ module _ (limits : Limits) (book : List ℕ) (given : List Picture) where
           (λ k. Unreadable limits (Definition k) (definition_file book k)) (definition_count book) 0
           (λ k a b. read_decides limits (Definition k) (definition_file book k)))
 
-  pub asked_definable : definitions_asked limits book given ≡ Yes → Definable limits book × AllUnfold given
+  pub asked_definable : definitions_asked limits book given ≡ yes → Definable limits book × AllUnfold given
   asked_definable = definitions_decides.yes.0
 
-  pub definable_asked : Definable limits book → AllUnfold given → definitions_asked limits book given ≡ Yes
+  pub definable_asked : Definable limits book → AllUnfold given → definitions_asked limits book given ≡ yes
   definable_asked ok u = definitions_decides.yes.1 (ok, u)
 
   -- ---- every refusal

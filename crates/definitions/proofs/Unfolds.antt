@@ -17,6 +17,7 @@ use mathlib.Core.Bool.{false, not, true}
 use mathlib.Core.List.{List}
 use mathlib.Core.Path.{◌∙◌, ◌≡◌, ap, sym}
 use native.Mathlib.Omega.{arith}
+use Rattle.std.proofs.Common.{Ok}
 use Rattle.table.proofs.Bools.{both, is_false, is_true, true_is}
 use Rattle.table.proofs.Ranges.{each_at, some_at}
 use Rattle.table.proofs.SetsBelow.{has_set_below}
@@ -44,7 +45,6 @@ use Rattle.picture.proofs.Readables.{readable_root_parent, readable_root_role, r
 use Rattle.picture.specs.Depth.{depth}
 use Rattle.picture.specs.Read.{reading_of}
 use Rattle.picture.specs.Readable.{Readable}
-use Rattle.picture.specs.declared.read.Reading.TheVariants.{Rows}
 use Rattle.meaning.proofs.FileReadings.{Writable, file_readable}
 use Rattle.meaning.proofs.FileTables.{file_tree, parents_fit}
 use Rattle.meaning.proofs.Pictures.{picture_known, picture_parents, picture_ranked}
@@ -170,7 +170,7 @@ module _ (limits : Limits) (bounded : Bounded limits) (book : List ℕ) where
       }
 
       -- where a row wants a defined name
-      written_reads : reading_of limits (file_of rows) ≡ Rows (length rows)
+      written_reads : reading_of limits (file_of rows) ≡ Ok (length rows)
       written_reads = file_readable limits rows bounded writable
 
       written_tree : picture_tree limits (file_of rows) ≡ whole_tree picture_signature u

@@ -12,10 +12,8 @@ use Rattle.std.specs.Prelude.{ℕ, Bool, List, [], ◌++◌, ◌∷◌}
 use Rattle.table.specs.declared.layout.Limits.{Limits}
 use Rattle.ale.specs.PictureSignature.{picture_signature}
 use Rattle.tbox.specs.Acyclic.{acyclic}
-use Rattle.picture.specs.Asked.{and_then, asked, read_asked}
+use Rattle.picture.specs.Asked.{and_then, asked, read_asked, Asked, yes}
 use Rattle.picture.specs.Refusal.{refusal}
-use Rattle.picture.specs.declared.answer.Asked.{Asked}
-use Rattle.picture.specs.declared.answer.Asked.TheVariants.{Yes}
 use Rattle.picture.specs.declared.answer.Input.{Input}
 use Rattle.picture.specs.declared.answer.Input.TheVariants.{Definition, Definitions}
 use Rattle.fields.specs.Form.{listed}
@@ -28,7 +26,7 @@ pub record Picture : Type 0 where
   pub file : List ℕ
 
 unfoldable pub asked_of : (Picture → Asked) → List Picture → Asked
-asked_of ask [] = Yes
+asked_of ask [] = yes
 asked_of ask (p ∷ ps) = and_then (ask p) (asked_of ask ps)
 
 abbrev pub definitions_of : List ℕ → List Picture

@@ -12,11 +12,10 @@ use mathlib.Core.Bool.{Bool, true}
 use mathlib.Core.List.{List, [], ◌++◌, ◌∷◌}
 use mathlib.Core.Path.{◌∙◌, ◌≡◌, ap, ap₂, refl, subst, sym}
 use native.Mathlib.Omega.{arith}
+use Rattle.std.proofs.Common.{Err, Ok}
 use Rattle.picture.proofs.Orders.{and_yes, asked_decides, then_assoc, yes_to}
-use Rattle.picture.specs.Asked.{and_then, asked_from}
+use Rattle.picture.specs.Asked.{and_then, asked_from, Asked, yes}
 use Rattle.picture.specs.Refusal.{refusal}
-use Rattle.picture.specs.declared.answer.Asked.{Asked}
-use Rattle.picture.specs.declared.answer.Asked.TheVariants.{No, Yes}
 use Rattle.picture.specs.declared.answer.Input.{Input}
 use Rattle.picture.specs.declared.answer.Input.TheVariants.{Definition}
 use Rattle.picture.specs.declared.answer.Refusal.{Refusal}
@@ -30,9 +29,9 @@ use Rattle.definitions_reader.proofs.Exclusions.{excluded_asked}
 use Rattle.definitions_reader.specs.Excluded.{excludes_none_of}
 use Rattle.definitions_asked.specs.Lots.{Asks}
 
-pub then_yes : (a : Asked) → and_then a Yes ≡ a
-then_yes Yes = refl
-then_yes (No r) = refl
+pub then_yes : (a : Asked) → and_then a yes ≡ a
+then_yes (Ok _) = refl
+then_yes (Err r) = refl
 
 last_from : (f : ℕ → Picture) (n k : ℕ) → listed f (suc n) k ≡ listed f n k ++ (f (k + n) ∷ [])
 last_from f zero k = ap (λ j. f j ∷ []) (let e : k ≡ k + 0 = omega arith in e)
@@ -67,14 +66,14 @@ module _ (ask : Picture → Asked) where
       (asks_on (listed f k 0) (f k ∷ []) a b c before (here ∙ ap (and_then b) (sym (asked_one (f k)))))
 
 module _ (a b c both : Asked) (is : both ≡ and_then a b) where
-  pub two_yes : both ≡ Yes → c ≡ and_then a (and_then b c)
+  pub two_yes : both ≡ yes → c ≡ and_then a (and_then b c)
   two_yes e = sym (then_assoc a b c ∙ ap (λ x. and_then x c) (sym is ∙ e))
 
-  pub two_no : (r : Refusal) → both ≡ No r → No r ≡ and_then a (and_then b c)
+  pub two_no : (r : Refusal) → both ≡ Err r → Err r ≡ and_then a (and_then b c)
   two_no r e = sym (then_assoc a b c ∙ ap (λ x. and_then x c) (sym is ∙ e))
 
 pub passed_each : (number : ℕ) (test : List ℕ → Bool) (tbox : List ℕ) (given : List Picture) →
-    asked_of (question_of number test) (given ++ definitions_of tbox) ≡ Yes →
+    asked_of (question_of number test) (given ++ definitions_of tbox) ≡ yes →
     (k : ℕ) → k < definition_count tbox → test (definition_file tbox k) ≡ true
 passed_each number test tbox given e k l =
     let ask = question_of number test in

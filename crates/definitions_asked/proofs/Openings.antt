@@ -1,28 +1,28 @@
 -- What is answered in all, and what is found.
 --   refused_form, refused_reading, refused_names   a no of 25, of 2 to 13, of 26
 --   pictures_left                                  where they are answered yes, 27 to 30 are left
---   opens_refused                                  after a no nothing is found
 --   found_ready                                    where all is yes, what was found is all that unfolding needs
 --   opens_empty                                    the end field alone
 use Prim.Native.Nat.{◌+◌, ◌<◌, ◌≤◌, suc, zero, ℕ}
 use mathlib.Core.Bool.{Bool, false, true}
 use mathlib.Core.List.{List}
-use mathlib.Core.Path.{◌∙◌, ◌≡◌, ap, refl, subst, sym}
+use mathlib.Core.Path.{◌∙◌, ◌≡◌, ap, refl, sym}
 use native.Mathlib.Omega.{arith}
+use lib.ListN.{length}
+use Rattle.std.proofs.Common.{Err, Ok}
 use Rattle.table.specs.Bounds.{Bounded}
 use Rattle.table.specs.Fields.{ends_at}
+use Rattle.table.specs.Layout.{name_count}
+use Rattle.table.specs.NameSet.{none}
 use Rattle.table.specs.NameValues.{set_of}
 use Rattle.table.specs.declared.layout.Limits.{Limits}
-use Rattle.picture.specs.Asked.{and_then}
+use Rattle.picture.specs.Asked.{and_then, Asked, yes}
 use Rattle.picture.specs.Readable.{Readable}
 use Rattle.picture.specs.Refusal.{refusal}
-use Rattle.picture.specs.declared.answer.Asked.{Asked}
-use Rattle.picture.specs.declared.answer.Asked.TheVariants.{No, Yes}
-use Rattle.picture.specs.declared.answer.Input.TheVariants.{Card, Definitions}
+use Rattle.picture.specs.declared.answer.Input.TheVariants.{Definitions}
 use Rattle.picture.specs.declared.answer.Refusal.{Refusal}
 use Rattle.fields.proofs.Forms.{field_first}
 use Rattle.fields.specs.Form.{listed}
-use Rattle.book.specs.Form.{card}
 use Rattle.definitions.proofs.Empty.{empty_asked}
 use Rattle.definitions.proofs.Questions.{asked_definable}
 use Rattle.definitions.proofs.WellFormed.{DefinitionsOf, form_exactly, form_number}
@@ -30,17 +30,14 @@ use Rattle.definitions.specs.Asked.{Picture, asked_of, definitions_asked, defini
 use Rattle.definitions.specs.Form.{definition_count, definitions_form}
 use Rattle.definitions.specs.Refusals.{AllOf}
 use Rattle.definitions.specs.Unfolded.{named_once}
-use Rattle.field_places.specs.declared.places.Fields.{Fields}
-use Rattle.definitions_reader.proofs.Indexes.{IndexedTo, index_all, index_start}
-use Rattle.definitions_reader.specs.Index.{Indexed}
+use Rattle.definitions_reader.proofs.Indexes.{index_all, index_start}
+use Rattle.definitions_reader.specs.Index.{Indexes}
 use Rattle.definitions_reader.specs.declared.index.Index.{Index}
 use Rattle.unfold_tables.specs.Ready.{Ready}
-use Rattle.definitions_asked.specs.Asking.{Bare, pictures_all}
-use Rattle.definitions_asked.specs.Given.{Given, Opens, RestRead, given_of, rest_of}
-use Rattle.definitions_asked.specs.declared.ask.Opening.{Opening}
-use Rattle.definitions_asked.specs.declared.given.Rest.{Rest}
-use Rattle.definitions_asked.specs.declared.given.Rest.TheVariants as rest
-use Rattle.definitions_asked.proofs.Sizes.{clash}
+use Rattle.definitions_asked.specs.Asking.{pictures_all}
+use Rattle.definitions_asked.specs.Given.{Given, Opens, given_of}
+use Rattle.definitions_asked.specs.Lots.{count_of, picture_of}
+use Rattle.definitions_asked.specs.declared.lots.Lot.{Lot}
 
 module _ (limits : Limits) (tbox : List ℕ) (given : List Picture) where
   abbrev after_reading : Asked
@@ -49,7 +46,7 @@ module _ (limits : Limits) (tbox : List ℕ) (given : List Picture) where
   abbrev after_form : Asked
   after_form = and_then (asked_of (read_of limits) (definitions_of tbox)) after_reading
 
-  pub refused_form : definitions_form tbox ≡ false → definitions_asked limits tbox given ≡ No (refusal 25 Definitions)
+  pub refused_form : definitions_form tbox ≡ false → definitions_asked limits tbox given ≡ Err (refusal 25 Definitions)
   unfolding definitions_asked
   refused_form e = ap (λ b. and_then (question 25 Definitions b) after_form) e
 
@@ -58,39 +55,32 @@ module _ (limits : Limits) (tbox : List ℕ) (given : List Picture) where
     unfolding definitions_asked
     form_left = ap (λ b. and_then (question 25 Definitions b) after_form) form
 
-    pub refused_reading : (r : Refusal) → asked_of (read_of limits) (definitions_of tbox) ≡ No r →
-        definitions_asked limits tbox given ≡ No r
+    pub refused_reading : (r : Refusal) → asked_of (read_of limits) (definitions_of tbox) ≡ Err r →
+        definitions_asked limits tbox given ≡ Err r
     refused_reading r e = form_left ∙ ap (λ a. and_then a after_reading) e
 
-    module _ (reads : asked_of (read_of limits) (definitions_of tbox) ≡ Yes) where
+    module _ (reads : asked_of (read_of limits) (definitions_of tbox) ≡ yes) where
       reading_left : (b : Bool) → named_once tbox ≡ b →
           definitions_asked limits tbox given ≡ and_then (question 26 Definitions b) (pictures_all limits tbox given)
       reading_left b e =
           form_left ∙ ap (λ a. and_then a after_reading) reads
           ∙ ap (λ t. and_then (question 26 Definitions t) (pictures_all limits tbox given)) e
 
-      pub refused_names : named_once tbox ≡ false → definitions_asked limits tbox given ≡ No (refusal 26 Definitions)
+      pub refused_names : named_once tbox ≡ false → definitions_asked limits tbox given ≡ Err (refusal 26 Definitions)
       refused_names e = reading_left false e
 
       pub pictures_left : named_once tbox ≡ true → definitions_asked limits tbox given ≡ pictures_all limits tbox given
       pictures_left e = reading_left true e
 
-  pub opens_refused : (q : Refusal) → definitions_asked limits tbox given ≡ No q → (r : Opening) → Bare (No q) r →
-      Opens limits tbox given r
-  opens_refused q is r so = record {
-    asked_is = so.asked_is ∙ sym is;
-    found = λ e. absurd (clash q (sym so.asked_is ∙ e));
-  }
-
-  pub found_ready : Bounded limits → (index : Index) → Indexed tbox index → index.once ≡ true →
-      definitions_asked limits tbox given ≡ Yes → Ready limits tbox index.starts (set_of index.defined)
-  found_ready bounded index so once all =
+  pub found_ready : Bounded limits → (index : Index) → Indexes tbox index → definitions_asked limits tbox given ≡ yes →
+      Ready limits tbox index.starts (set_of index.defined)
+  found_ready bounded index so all =
       let definable = (asked_definable limits tbox given all).0 in
       record {
         bounded = bounded;
         definable = definable;
-        opened = so.opened once limits bounded definable.readable;
-        agrees = so.agrees once;
+        opened = so.opened limits bounded definable.readable;
+        agrees = so.agrees;
       }
 
 -- ---- the end field alone
@@ -100,14 +90,6 @@ all_listed : (P : List ℕ → Type 0) (f : ℕ → Picture) (more k : ℕ) →
 all_listed P f zero k h = tt
 all_listed P f (suc more) k h =
     (h k (omega arith) (omega arith), all_listed P f more (k + 1) (λ j a b. h j (omega arith) (omega arith)))
-
-rest_readable : (limits : Limits) (other : List ℕ) (r : Rest) (cards : Fields) → RestRead limits other r cards →
-    AllOf (λ p. Readable limits p.file) (rest_of other r cards)
-rest_readable limits other rest.Nothing cards read = tt
-rest_readable limits other rest.Second cards read = (read, tt)
-rest_readable limits other rest.Cards cards read =
-    all_listed (Readable limits) (λ k. record { input = Card k; file = card other k }) cards.count 0
-    (λ j a b. read.1 j (omega arith))
 
 module _ (tbox : List ℕ) (ends : ends_at tbox 0 ≡ true) where
   alone : DefinitionsOf tbox 0
@@ -127,22 +109,16 @@ module _ (tbox : List ℕ) (ends : ends_at tbox 0 ≡ true) where
   has_form : definitions_form tbox ≡ true
   has_form = (form_exactly tbox).1 (0, alone)
 
-  pub opens_empty : (limits : Limits) (first other : List ℕ) (r : Rest) (cards : Fields) →
-      Given limits first other r cards → (opening : Opening) → Bare Yes opening →
-      Opens limits tbox (given_of first other r cards) opening
-  opens_empty limits first other r cards given opening so =
-      let all = empty_asked tbox none_there has_form limits (given_of first other r cards)
-      (given.first_read, rest_readable limits other r cards given.rest_read) in
-      record {
-        asked_is = so.asked_is ∙ sym all;
-        found = λ e. found_ready limits tbox (given_of first other r cards) given.bounded index indexed refl all;
-      }
-    where
-      index : Index
-      index = record { starts = opening.starts; defined = opening.defined; once = true }
-
-      indexed : Indexed tbox index
-      indexed =
-          index_all tbox has_form index
-          (subst (IndexedTo tbox opening.starts (set_of opening.defined) true) (sym none_there)
-          (index_start tbox opening.starts (set_of opening.defined) so.empty so.size))
+  pub opens_empty : (limits : Limits) (first : List ℕ) (rest : Lot) → Given limits first rest → (index : Index) →
+      length index.starts ≡ name_count → set_of index.defined ≡ none →
+      Opens limits tbox (given_of first rest) (Ok index)
+  opens_empty limits first rest given index size empty =
+      let read = given.rest_read in
+      let all = empty_asked tbox none_there has_form limits (given_of first rest) (
+        given.first_read,
+        all_listed (Readable limits) (picture_of rest) (count_of rest) 0
+            (λ j a b. read.readable j (omega arith)),
+      ) in
+      let indexed = index_all tbox has_form index true 0 (sym none_there)
+      (index_start tbox index.starts (set_of index.defined) empty size) refl in
+      (all, found_ready limits tbox (given_of first rest) given.bounded index indexed all)

@@ -9,13 +9,12 @@ use mathlib.Core.Bool.{Bool, false, true}
 use mathlib.Core.List.{List, [], ◌++◌, ◌∷◌}
 use mathlib.Core.Path.{◌∙◌, ◌≡◌, ap, subst, sym}
 use native.Mathlib.Omega.{arith}
+use Rattle.std.proofs.Common.{Err}
 use Rattle.table.specs.declared.layout.Limits.{Limits}
 use Rattle.picture.proofs.Orders.{and_yes, then_same}
-use Rattle.picture.specs.Asked.{and_then}
+use Rattle.picture.specs.Asked.{and_then, Asked, yes}
 use Rattle.picture.specs.Readable.{Readable}
 use Rattle.picture.specs.Refusal.{refusal}
-use Rattle.picture.specs.declared.answer.Asked.{Asked}
-use Rattle.picture.specs.declared.answer.Asked.TheVariants.{No, Yes}
 use Rattle.picture.specs.declared.answer.Input.{Input}
 use Rattle.picture.specs.declared.answer.Refusal.{Refusal}
 use Rattle.fields.specs.Form.{listed}
@@ -28,12 +27,12 @@ use Rattle.definitions_asked.specs.declared.measure.Progress.{Progress}
 use Rattle.definitions_asked.proofs.AskedInTurn.{asked_one, asks_none, asks_on, listed_last, then_yes}
 
 -- a no is no yes
-pub clash : (r : Refusal) → ◌≡◌ {A = Asked} (No r) Yes → ⊥
+pub clash : (r : Refusal) → ◌≡◌ {A = Asked} (Err r) yes → ⊥
 clash r e = let z : ◌≡◌ {A = ℕ} 0 1 = cc in omega arith
 
 -- nothing was asked
 abbrev nothing : Progress
-nothing = record { few = Yes; shallow = Yes }
+nothing = record { few = yes; shallow = yes }
 
 module _ (limits : Limits) (tbox : List ℕ) where
   abbrev few? : Picture → Asked
@@ -50,7 +49,7 @@ module _ (limits : Limits) (tbox : List ℕ) where
   measured_on ps qs a b c before after = record {
     few = asks_on few? ps qs a.few b.few c.few before.few after.few;
     shallow = λ e.
-        let so_far : b.few ≡ Yes = ((and_yes b.few (asked_of few? qs)).0 (sym after.few ∙ e)).0 in
+        let so_far : b.few ≡ yes = ((and_yes b.few (asked_of few? qs)).0 (sym after.few ∙ e)).0 in
         asks_on shallow? ps qs a.shallow b.shallow c.shallow (before.shallow so_far) (after.shallow e);
   }
 
@@ -77,7 +76,7 @@ module _ (limits : Limits) (tbox : List ℕ) where
     p = record { input = input; file = s }
 
     -- after answers that a picture does not change
-    passed : (ask : Picture → Asked) (a : Asked) → ask p ≡ Yes → Asks ask (one input s) a a
+    passed : (ask : Picture → Asked) (a : Asked) → ask p ≡ yes → Asks ask (one input s) a a
     passed ask a e = sym (then_yes a) ∙ ap (and_then a) (sym (asked_one ask p ∙ e))
 
     pub measured_idle : (a : Progress) → Readable limits s → wants_defined tbox s ≡ false →
@@ -88,27 +87,27 @@ module _ (limits : Limits) (tbox : List ℕ) where
           passed shallow? a.shallow (ap (λ t. question 30 input t) (shallow_own limits s readable tbox idle));
     }
 
-    pub measured_stopped : (a : Progress) (r : Refusal) → a.few ≡ No r → Measured limits tbox (one input s) a a
+    pub measured_stopped : (a : Progress) (r : Refusal) → a.few ≡ Err r → Measured limits tbox (one input s) a a
     measured_stopped a r e = record {
       few = e ∙ ap (λ x. and_then x (asked_of few? (one input s))) (sym e);
       shallow = λ y. absurd (clash r (sym e ∙ y));
     }
 
-    module _ (a r : Progress) (so_far : a.few ≡ Yes) where
+    module _ (a r : Progress) (so_far : a.few ≡ yes) where
       decides : (t : Bool) → unfolded_few limits tbox s ≡ t → r.few ≡ question 29 input t →
           Asks few? (one input s) a.few r.few
       decides t is says =
           says ∙ sym (ap (λ x. and_then x (asked_of few? (one input s))) so_far
           ∙ asked_one few? p ∙ ap (λ b. question 29 input b) is)
 
-      pub measured_many : unfolded_few limits tbox s ≡ false → r.few ≡ No (refusal 29 input) →
+      pub measured_many : unfolded_few limits tbox s ≡ false → r.few ≡ Err (refusal 29 input) →
           Measured limits tbox (one input s) a r
       measured_many many says = record {
         few = decides false many says;
         shallow = λ y. absurd (clash (refusal 29 input) (sym says ∙ y));
       }
 
-      pub measured_few : unfolded_few limits tbox s ≡ true → r.few ≡ Yes →
+      pub measured_few : unfolded_few limits tbox s ≡ true → r.few ≡ yes →
           (passes : Bool) → passes ≡ unfolded_shallow limits tbox s →
           (q : Asked) → q ≡ question 30 input passes → r.shallow ≡ and_then a.shallow q →
           Measured limits tbox (one input s) a r

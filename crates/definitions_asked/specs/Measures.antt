@@ -9,36 +9,34 @@ use Rattle.table.specs.Bounds.{Bounded}
 use Rattle.table.specs.declared.layout.Limits.{Limits}
 use Rattle.ale.specs.PictureSignature.{picture_signature}
 use Rattle.tbox.proofs.Origins.{Sound}
+use Rattle.picture.specs.Asked.{yes}
 use Rattle.picture.specs.Readable.{Readable}
-use Rattle.picture.specs.declared.answer.Asked.TheVariants.{Yes}
 use Rattle.picture.specs.declared.answer.Input.{Input}
 use Rattle.definitions.specs.Asked.{Picture, question_of}
 use Rattle.definitions.specs.Tbox.{tbox_of}
 use Rattle.definitions.specs.Unfolded.{unfolded_few, unfolded_shallow}
-use Rattle.field_places.specs.declared.places.Fields.{Fields}
-use Rattle.definition_parts.specs.Parts.{Agrees, Opened}
+use Rattle.definition_parts.specs.Tboxes.{Agreeing}
+use Rattle.definition_parts.specs.declared.opened.Tbox.{Tbox}
 use Rattle.definitions_asked.specs.Lots.{Asks, ReadLot}
-use Rattle.definitions_asked.specs.declared.lots.Source.{Source}
+use Rattle.definitions_asked.specs.declared.lots.Lot.{Lot}
 use Rattle.definitions_asked.specs.declared.measure.Progress.{Progress}
 
-pub record Known (limits : Limits) (tbox starts : List ℕ) (defined : ℕ) : Type 0 where
+pub record Known (limits : Limits) (tbox : Tbox) : Type 0 where
   pub bounded : Bounded limits
-  pub opened : Opened tbox starts defined
-  pub agrees : Agrees (tbox_of tbox) tbox starts defined
-  pub sound : Sound picture_signature (tbox_of tbox)
+  pub agrees : Agreeing (tbox_of tbox.bytes.now) tbox
+  pub sound : Sound picture_signature (tbox_of tbox.bytes.now)
 
-pub record Measurable (limits : Limits) (tbox starts : List ℕ) (defined : ℕ) (picture : List ℕ) : Type 0 where
-  pub known : Known limits tbox starts defined
+pub record Measurable (limits : Limits) (tbox : Tbox) (picture : List ℕ) : Type 0 where
+  pub known : Known limits tbox
   pub readable : Readable limits picture
 
-pub record LotMeasurable (limits : Limits) (tbox starts : List ℕ) (defined : ℕ)
-    (from : Source) (file : List ℕ) (fields : Fields) : Type 0 where
-  pub known : Known limits tbox starts defined
-  pub lot : ReadLot limits from file fields
+pub record LotMeasurable (limits : Limits) (tbox : Tbox) (lot : Lot) : Type 0 where
+  pub known : Known limits tbox
+  pub read : ReadLot limits lot
 
 abbrev pub one : Input → List ℕ → List Picture
 one input file = record { input = input; file = file } ∷ []
 
 pub record Measured (limits : Limits) (tbox : List ℕ) (ps : List Picture) (before r : Progress) : Type 0 where
   pub few : Asks (question_of 29 (unfolded_few limits tbox)) ps before.few r.few
-  pub shallow : r.few ≡ Yes → Asks (question_of 30 (unfolded_shallow limits tbox)) ps before.shallow r.shallow
+  pub shallow : r.few ≡ yes → Asks (question_of 30 (unfolded_shallow limits tbox)) ps before.shallow r.shallow

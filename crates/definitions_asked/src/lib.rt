@@ -4,7 +4,6 @@
 // definitions; 26; 27 of all; 28; 29 of all; 30 of all.
 pub mod ask;
 pub mod excluded;
-pub mod given;
 pub mod lots;
 pub mod measure;
 pub mod question;

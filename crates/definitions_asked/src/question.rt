@@ -3,22 +3,20 @@ ghost use Rattle.std.specs.Prelude.{◌≡◌};
 ghost use Rattle.picture.specs.Asked.{and_then};
 ghost use Rattle.definitions.specs.Asked.{«question»};
 
-use picture::answer::{Asked, Input, refuse};
+use picture::answer::{Input, Refusal, refuse};
 
-pub fn question(number: u8, input: Input, passes: bool) -> Asked
+pub fn question(number: u8, input: Input, passes: bool) -> Result<(), Refusal>
     ensures { result ≡ «question» number input passes }
 {
     if passes {
-        return Asked::Yes;
+        return Ok(());
     }
-    Asked::No(refuse(number, input))
+    Err(refuse(number, input))
 }
 
-pub fn and_then(before: Asked, next: Asked) -> Asked
+pub fn and_then(before: Result<(), Refusal>, next: Result<(), Refusal>) -> Result<(), Refusal>
     ensures { result ≡ and_then before next }
 {
-    match before {
-        Asked::Yes => next,
-        Asked::No(refusal) => Asked::No(refusal),
-    }
+    before?;
+    next
 }

@@ -6,7 +6,6 @@ ghost use Rattle.definitions_form.specs.Formed.{Formed};
 
 use field_places::places::{Fields, has_form, value};
 use table::layout::NAMES;
-use table::number::wide;
 
 // The name stands in the first byte of a definition's value, its picture after it.
 pub const NAME_SIZE: usize = 1;
@@ -16,7 +15,7 @@ fn name_byte(definition: &[u8]) -> usize
     requires { 1 ≤ length definition.now }
     ensures { result ≡ get_or definition.now 0 0 }
 {
-    wide(definition[0]) as usize
+    usize::from(definition[0])
 }
 
 // Whether definition k has a name byte, and that is a name.
@@ -39,14 +38,7 @@ pub fn has_definitions_form(tbox: &[u8], fields: Fields) -> bool
     if !has_form(tbox, fields) {
         return false;
     }
-    let mut k = 0;
-    while k < fields.count {
-        if !is_named(tbox, fields, k) {
-            return false;
-        }
-        k += 1;
-    }
-    true
+    (0..fields.count).all(|k| is_named(tbox, fields, k))
 }
 
 // The name that definition k defines.

@@ -3,7 +3,11 @@
 --                              each picture begins
 --   index_start, index_next    no definition; one more
 --   part_file, part_there      the part of the book from there is the definition's picture, and lies in the book
---   index_all                  all of them
+--   at_most, at_counted,
+--   at_place, at_inside,
+--   at_name                    definition k, where the code finds it
+--   is_once, index_all         all of them: 26, and, where that is answered yes, the index
+--   index_there                that there is one
 use Prim.Native.Nat.{◌+◌, ◌-◌, ◌<◌, ◌^◌, ◌≤◌, suc, zero, ℕ}
 use borrow.Author.Count.{below_more}
 use borrow.Author.Tests.{eq-eqb, eqb-true, lt-ltb, ne_eqb, not-false, not-true}
@@ -16,6 +20,7 @@ use mathlib.Core.Logic.{⊎_elim}
 use mathlib.Core.Path.{◌∙◌, ◌≡◌, ap, refl, subst, sym}
 use native.Mathlib.Decide.{dec_lt, ℕ_discrete}
 use native.Mathlib.Omega.{arith}
+use Rattle.std.proofs.Common.{None, Option, Some, is_some}
 use Rattle.table.proofs.Bools.{both, by_test, either}
 use Rattle.table.proofs.NameSets.{has_none, has_power, has_union, subset_power}
 use Rattle.table.proofs.Ranges.{at_each, at_some, some_at}
@@ -31,15 +36,18 @@ use Rattle.table.specs.declared.layout.Limits.{Limits}
 use Rattle.picture.specs.Readable.{Readable}
 use Rattle.meaning.specs.Meaning.{picture_table}
 use Rattle.fields.proofs.Forms.{field_whole, fields_before, length_value}
-use Rattle.fields.specs.Form.{field_place, field_value, length_said}
+use Rattle.fields.specs.Form.{field_place, field_value, length_said, most_fields}
+use Rattle.field_places.specs.declared.places.Fields.{Fields}
 use Rattle.definitions.proofs.Coverings.{name_below, name_byte, place_name, place_only}
 use Rattle.definitions.proofs.Idle.{word_set}
 use Rattle.definitions.proofs.Unfolds.{defined_place}
 use Rattle.definitions.specs.Form.{definition_count, definition_file, definition_tag, definitions_form, name_of}
+use Rattle.definitions_form.specs.Formed.{Formed}
 use Rattle.definitions.specs.Tbox.{defined_word, defines, place_of, tbox_of}
 use Rattle.definitions.specs.Unfolded.{named_once}
 use Rattle.definition_parts.specs.Parts.{Agrees, Opened, Part, part_at}
-use Rattle.definitions_reader.specs.Index.{AllReadable, Indexed, picture_start}
+use Rattle.definition_parts.proofs.Parts.{readable_widest}
+use Rattle.definitions_reader.specs.Index.{AllReadable, Indexed, Indexes, picture_start}
 use Rattle.definitions_reader.specs.declared.index.Index.{Index}
 
 pub record IndexedTo (tbox starts : List ℕ) (defined : ℕ) (once : Bool) (k : ℕ) : Type 0 where
@@ -143,10 +151,31 @@ module _ (tbox : List ℕ) (k : ℕ) where
         whole = omega (arith, said);
       }
 
+-- ---- definition k, where the code finds it
+
+module _ (tbox : List ℕ) (fields : Fields) (formed : Formed tbox fields) (k : ℕ) (l : k < fields.count) where
+  pub at_most : k < most_fields
+  at_most = omega (arith, formed.placed.located.most)
+
+  pub at_counted : k < definition_count tbox
+  at_counted = omega (arith, formed.placed.counted)
+
+  pub at_place : get_or fields.places k 0 ≡ field_place tbox k
+  at_place = formed.placed.located.placed k (omega arith)
+
+  pub at_inside : picture_start tbox k ≤ length tbox
+  at_inside = omega (arith, (part_there tbox k formed.form at_counted).whole)
+
+  pub at_name : (n : ℕ) → n ≡ name_of tbox k → n < name_count
+  at_name n is = rw is (name_below tbox formed.form k at_counted)
+
 -- ---- all of them
 
-module _ (tbox : List ℕ) (form : definitions_form tbox ≡ true) (index : Index)
-    (so : IndexedTo tbox index.starts (set_of index.defined) index.once (definition_count tbox)) where
+module _ (tbox : List ℕ) (form : definitions_form tbox ≡ true) (index : Index) (once : Bool) (k : ℕ)
+    (whole : k ≡ definition_count tbox) (to : IndexedTo tbox index.starts (set_of index.defined) once k) where
+  so : IndexedTo tbox index.starts (set_of index.defined) once (definition_count tbox)
+  so = subst (IndexedTo tbox index.starts (set_of index.defined) once) whole to
+
   abbrev word : ℕ
   word = set_of index.defined
 
@@ -169,7 +198,7 @@ module _ (tbox : List ℕ) (form : definitions_form tbox ≡ true) (index : Inde
   unfolding defined_word
   is_defined = word_is (defines tbox) word name_count has_defines
 
-  apart : index.once ≡ true → (j k : ℕ) → j < definition_count tbox → k < definition_count tbox →
+  apart : once ≡ true → (j k : ℕ) → j < definition_count tbox → k < definition_count tbox →
       (eqb j k || not (eqb (name_of tbox j) (name_of tbox k))) ≡ true
   apart e j k a b = elim (ℕ_discrete j k) [
     | yes same ↦ ap (λ t. t || not (eqb (name_of tbox j) (name_of tbox k))) (eq-eqb j k same)
@@ -180,10 +209,10 @@ module _ (tbox : List ℕ) (form : definitions_form tbox ≡ true) (index : Inde
         ])) ∙ or-true (eqb j k)
   ]
 
-  is_once : index.once ≡ named_once tbox
+  pub is_once : once ≡ named_once tbox
   unfolding named_once
   is_once =
-      by_test index.once
+      by_test once
       (λ e. e ∙ sym (at_each
       (λ k. each (λ j. eqb j k || not (eqb (name_of tbox j) (name_of tbox k))) (definition_count tbox) 0)
       (definition_count tbox) 0 (λ k a b. at_each (λ j. eqb j k || not (eqb (name_of tbox j) (name_of tbox k)))
@@ -195,11 +224,11 @@ module _ (tbox : List ℕ) (form : definitions_form tbox ≡ true) (index : Inde
       omega arith)))
 
   -- where the picture of a name begins, and that it is the definition's
-  starts_at : index.once ≡ true → (n j : ℕ) → j < definition_count tbox → name_of tbox j ≡ n →
+  starts_at : once ≡ true → (n j : ℕ) → j < definition_count tbox → name_of tbox j ≡ n →
       get_or index.starts n 0 ≡ picture_start tbox j
   starts_at e n j l same = ap (λ m. get_or index.starts m 0) (sym same) ∙ so.start e j l
 
-  agrees : index.once ≡ true → Agrees (tbox_of tbox) tbox index.starts word
+  agrees : once ≡ true → Agrees (tbox_of tbox) tbox index.starts word
   agrees e = record {
     names = word_set tbox ∙ sym is_defined;
     pictures = λ n d.
@@ -208,18 +237,21 @@ module _ (tbox : List ℕ) (form : definitions_form tbox ≡ true) (index : Inde
         ap picture_table (sym (ap (part_at tbox) (starts_at e n k l (place_name tbox n l)) ∙ part_file tbox k));
   }
 
-  opened : index.once ≡ true → (limits : Limits) → Bounded limits → AllReadable limits tbox →
+  opened : once ≡ true → (limits : Limits) → Bounded limits → AllReadable limits tbox →
       Opened tbox index.starts word
   opened e limits bounded readable = record {
-    limits = limits;
-    bounded = bounded;
     parts = λ n h.
         let (j, l, same) = so.meets n h in
         subst (Part tbox) (sym (starts_at e n j l same)) (part_there tbox j form l);
-    readable = λ n h.
+    readings = λ n h.
         let (j, l, same) = so.meets n h in
-        subst (Readable limits) (sym (ap (part_at tbox) (starts_at e n j l same) ∙ part_file tbox j)) (readable j l);
+        readable_widest limits (part_at tbox (get_or index.starts n 0)) bounded
+        (subst (Readable limits) (sym (ap (part_at tbox) (starts_at e n j l same) ∙ part_file tbox j)) (readable j l));
   }
 
-  pub index_all : Indexed tbox index
-  index_all = record { names = is_defined; single = is_once; agrees = agrees; opened = opened }
+  pub index_all : once ≡ true → Indexes tbox index
+  index_all e = record { names = is_defined; agrees = agrees e; opened = opened e }
+
+pub index_there : (tbox : List ℕ) (r : Option Index) → Indexed tbox r → named_once tbox ≡ true → is_some r ≡ true
+index_there tbox (Some index) found once = refl
+index_there tbox None none once = absurd (true≢false (sym once ∙ none))

@@ -1,8 +1,9 @@
 -- What the index of a definitions book says of it.
 --   picture_start   where the picture of definition k begins: after its field's head and its name byte
 --   AllReadable    2 to 13 of every definition are answered yes
---   Indexed        the defined names, 26, and, where that is answered yes, where each name's picture begins
-use Rattle.std.specs.Prelude.{◌+◌, ◌<◌, ℕ, true, List, ◌≡◌}
+--   Indexes        the defined names, and where each name's picture begins
+--   Indexed        26 is answered no, or yes with those
+use Rattle.std.specs.Prelude.{◌+◌, ◌<◌, ℕ, false, true, List, MatchOption, Option, ◌≡◌}
 use Rattle.table.specs.Bounds.{Bounded}
 use Rattle.table.specs.Layout.{head_size}
 use Rattle.table.specs.NameValues.{set_of}
@@ -21,9 +22,12 @@ picture_start tbox k = field_place tbox k + head_size + 1
 abbrev pub AllReadable : Limits → List ℕ → Type 0
 AllReadable limits tbox = (k : ℕ) → k < definition_count tbox → Readable limits (definition_file tbox k)
 
-pub record Indexed (tbox : List ℕ) (index : Index) : Type 0 where
+pub record Indexes (tbox : List ℕ) (index : Index) : Type 0 where
   pub names : set_of index.defined ≡ defined_word tbox
-  pub single : index.once ≡ named_once tbox
-  pub agrees : index.once ≡ true → Agrees (tbox_of tbox) tbox index.starts (set_of index.defined)
-  pub opened : index.once ≡ true → (limits : Limits) → Bounded limits → AllReadable limits tbox →
+  pub agrees : Agrees (tbox_of tbox) tbox index.starts (set_of index.defined)
+  pub opened : (limits : Limits) → Bounded limits → AllReadable limits tbox →
       Opened tbox index.starts (set_of index.defined)
+
+abbrev pub Indexed : List ℕ → Option Index → Type 0
+Indexed tbox r =
+    MatchOption r (named_once tbox ≡ false) (λ index. (named_once tbox ≡ true) × Indexes tbox index)

@@ -13,13 +13,11 @@ pub fn excludes_none(picture: &[u8], rows: usize, defined: Names) -> bool
     requires { (rows ≡ row_count picture.now) × (rows ≤ max_rows) }
     ensures { result ≡ excludes_none_of picture.now (set_of defined) }
 {
-    let mut j = 0;
-    while j < rows {
+    for j in 0..rows {
         let names = excluded(picture, j);
         if names.overlaps(defined) {
             return false;
         }
-        j += 1;
     }
     true
 }

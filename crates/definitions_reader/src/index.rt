@@ -1,4 +1,4 @@
-// The index of a definitions book: which names it defines, 26, and where the picture of each begins.
+// The index of a definitions book: which names it defines, each once (26), and where the picture of each begins.
 ghost use Rattle.std.specs.Prelude.{◌≡◌, ◌&&◌, not};
 ghost use Rattle.table.specs.NameSet.{subset};
 ghost use Rattle.table.specs.NameValues.{set_of};
@@ -15,8 +15,6 @@ pub struct Index {
     // By name.
     pub starts: [usize; NAMES],
     pub defined: Names,
-    // 26.
-    pub once: bool,
 }
 
 // Whether no name was met twice, once one more is met.
@@ -26,26 +24,23 @@ fn still_once(once: bool, defined: Names, name: Names) -> bool
     once && !name.subset(defined)
 }
 
-// One pass over the fields. Of a name that is defined twice the later picture is kept; 26 is answered no then.
-pub fn index_of(tbox: &[u8], fields: Fields) -> Index
+// One pass over the fields; none if a name is defined twice, where 26 is answered no.
+pub fn index_of(tbox: &[u8], fields: Fields) -> Option<Index>
     requires { Formed tbox.now fields }
     ensures { Indexed tbox.now result }
 {
     let mut starts = [0usize; NAMES];
     let mut defined = Names::none();
     let mut once = true;
-    let mut k = 0;
-    while k < fields.count {
+    for k in 0..fields.count {
         let name = name_of(tbox, fields, k);
         let only = Names::only(name);
         once = still_once(once, defined, only);
         defined = defined.union(only);
         starts[name] = fields.places[k] + HEAD_SIZE + NAME_SIZE;
-        k += 1;
     }
-    Index {
-        starts,
-        defined,
-        once,
+    if !once {
+        return None;
     }
+    Some(Index { starts, defined })
 }

@@ -1,33 +1,33 @@
 -- 28 over words is 28 of the theory: of any definitions that agree with what the code finds.
 --   subset_each        a set is within another, name by name
---   member_filter      the members of a filtered range, as a test
 --   settled_member     the words of the rounds are the theory's lists
 --   rings_acyclic      all defined names are settled exactly if the theory's 28 says so
 use Prim.Native.Nat.{◌<◌, suc, zero, ℕ}
 use native.Mathlib.Omega.{arith}
 use lib.Dec.{ltb}
-use borrow.Author.Tests.{lt-ltb, ltb-true}
-use lib.ListN.{get_or}
+use borrow.Author.Tests.{ltb-true}
 use mathlib.Core.Bool.{Bool, ◌&&◌, ◌||◌, false, false≢true, not, true}
 use mathlib.Core.List.{List}
 use mathlib.Core.Path.{◌∙◌, ◌≡◌, ap, refl, sym}
 use Rattle.table.specs.Layout.{name_count}
 use Rattle.table.specs.NameSet.{has, subset}
+use Rattle.table.specs.NameValues.{set_of}
 use Rattle.table.specs.Range.{each}
 use Rattle.table.specs.declared.names.Names.{Names}
-use Rattle.table.proofs.Bools.{both, is_true, true_is}
+use Rattle.table.proofs.Bools.{both, true_is}
 use Rattle.table.proofs.NameSets.{has_below, has_none, has_subset, subset_has}
 use Rattle.table.proofs.Ranges.{at_each, each_at}
 use Rattle.table.proofs.Tests.{and_same}
 use Rattle.ale.specs.PictureSignature.{below, picture_signature}
-use Rattle.ale.specs.Rows.{filter_below, member}
-use Rattle.ale.proofs.RowLists.{filter_below_in, filter_below_out}
+use Rattle.ale.specs.Rows.{member}
 use Rattle.tbox.specs.Definitions.{Definitions, wants_in}
 use Rattle.tbox.specs.Acyclic.{acyclic, settle, settled, uses}
 use Rattle.meaning.specs.Meaning.{picture_table}
-use Rattle.definition_parts.specs.Parts.{Agrees, part_at}
+use Rattle.definition_parts.specs.Tboxes.{Agreeing, picture_of}
+use Rattle.definition_parts.specs.declared.opened.Tbox.{Tbox}
+use Rattle.definition_parts.proofs.NameWalks.{member_filter, same_test}
 use Rattle.definitions_rings.specs.Rings.{Uses, settle_set, settled_set, uses_at}
-use Rattle.definitions_rings.proofs.SettledSets.{same_test, settle_has, settled_none, settled_suc}
+use Rattle.definitions_rings.proofs.SettledSets.{settle_has, settled_none, settled_suc}
 
 implies : (a b : Bool) → (a ≡ true → b ≡ true) → (not a || b) ≡ true
 implies true b f = f refl
@@ -48,17 +48,11 @@ subset_each a b f g low p q =
     let l = low m t in
     q m ∙ implied (f m) (g m) (each_at (λ m. not (f m) || g m) name_count 0 h m (omega arith) (omega arith)) t))
 
-pub member_filter : (q : ℕ → Bool) (n j : ℕ) → member j (filter_below q n) ≡ (ltb j n && q j)
-member_filter q n j =
-    same_test (member j (filter_below q n)) (ltb j n && q j)
-    (λ e.
-    let (t, l) = filter_below_out q n j (true_is (member j (filter_below q n)) e) in
-    rw (lt-ltb j n l, is_true (q j) t))
-    (λ e. let (l, t) = both (ltb j n) (q j) e in
-    is_true (member j (filter_below q n)) (filter_below_in q n j (true_is (q j) t) (ltb-true j n l)))
+module _ (D : Definitions picture_signature) (tbox : Tbox) (agrees : Agreeing D tbox) (sets : List Names)
+    (found : Uses tbox sets) where
+  abbrev defined : ℕ
+  defined = set_of tbox.defined
 
-module _ (D : Definitions picture_signature) (tbox starts : List ℕ) (defined : ℕ) (agrees : Agrees D tbox starts defined)
-    (sets : List Names) (found : Uses tbox starts defined sets) where
   abbrev words_at : ℕ → ℕ
   words_at k = settled_set (uses_at sets) defined k
 
@@ -72,7 +66,7 @@ module _ (D : Definitions picture_signature) (tbox starts : List ℕ) (defined :
       (m : ℕ) → has (uses_at sets n) m ≡ uses picture_signature D n m
   uses_same n l d m =
       found.right n l d m
-      ∙ ap (λ (b : Bool). b && wants_in picture_signature (picture_table (part_at tbox (get_or starts n 0))) m)
+      ∙ ap (λ (b : Bool). b && wants_in picture_signature (picture_table (picture_of tbox n)) m)
       (defined_same m)
       ∙ ap (λ q. has D.defined.set m && wants_in picture_signature q m)
       (sym (agrees.pictures n (true_is (has D.defined.set n) (sym (defined_same n) ∙ d))))

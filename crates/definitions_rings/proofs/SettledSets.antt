@@ -1,5 +1,4 @@
 -- Rounds over words: what they are, that none takes a name away, and that they stand still after one that adds none.
---   same_test                      tests that hold of the same are equal
 --   settle_has                     the names of `settleSet`
 --   settled_none, settled_suc,
 --   settled_more                   no round; one round more
@@ -11,7 +10,7 @@ use Prim.Native.Nat.{◌+◌, ◌-◌, ◌≤◌, suc, zero, ℕ}
 use native.Mathlib.Numerals.{add-one}
 use native.Mathlib.Omega.{arith}
 use lib.Dec.{ltb}
-use mathlib.Core.Bool.{Bool, ◌&&◌, ◌||◌, false, false≢true, true}
+use mathlib.Core.Bool.{Bool, ◌&&◌, ◌||◌, false≢true, true}
 use mathlib.Core.Path.{◌∙◌, ◌≡◌, ap, refl, sym}
 use Rattle.table.specs.Layout.{name_count}
 use Rattle.table.specs.NameSet.{has, none, subset}
@@ -19,13 +18,8 @@ use Rattle.table.specs.Range.{some}
 use Rattle.table.proofs.Bools.{both, or_assoc, or_none}
 use Rattle.table.proofs.NameSets.{has_none, has_subset, set_ext, subset_has}
 use Rattle.table.proofs.SetsBelow.{has_set_below}
+use Rattle.definition_parts.proofs.NameWalks.{same_test}
 use Rattle.definitions_rings.specs.Rings.{settle_set, settled_set}
-
--- tests that hold of the same are equal
-pub same_test : (a b : Bool) → (a ≡ true → b ≡ true) → (b ≡ true → a ≡ true) → a ≡ b
-same_test true b f g = sym (f refl)
-same_test false true f g = g refl
-same_test false false f g = refl
 
 both_true : (a b : Bool) → a ≡ true → b ≡ true → (a && b) ≡ true
 both_true a b p q = rw (p, q)

@@ -1,84 +1,72 @@
 -- One round: of the defined names that have come, those whose uses are all in the set are found.
---   Settling                       what is found, and which name is next
---   settling_start, settling_next  before the first name; one name more
---   settling_done                  after the last it is the round's set
-use Prim.Native.Nat.{◌<◌, ◌≤◌, ℕ}
-use borrow.Author.Tests.{eq-eqb, le-ltb, lt-ltb, ltb-true, ne_eqb}
-use native.Mathlib.Decide.{dec_lt, ℕ_discrete}
-use native.Mathlib.Omega.{arith}
+--   Settling         what is found, and what is left of the names
+--   settling_start   before the first name
+--   settling_next    one name more
+--   settling_done    after the last it is the round's set
+use Prim.Native.Nat.{ℕ}
+use borrow.Author.Tests.{eqb-true}
 use lib.Dec.{eqb, ltb}
 use mathlib.Core.Bool.{Bool, ◌&&◌, ◌||◌, false, true}
-use mathlib.Core.Path.{◌∙◌, ◌≡◌, ap, refl, subst, sym}
+use mathlib.Core.List.{List, [], ◌∷◌}
+use mathlib.Core.Path.{◌∙◌, ◌≡◌, ap, refl, sym}
 use Rattle.table.specs.Layout.{name_count}
 use Rattle.table.specs.NameSet.{has, none, subset}
 use Rattle.table.proofs.Bools.{by_test, or_none}
 use Rattle.table.proofs.NameSets.{has_none}
-use Rattle.table.proofs.SetsBelow.{and_all, word_is}
+use Rattle.table.proofs.SetsBelow.{word_is}
 use Rattle.table.proofs.Tests.{and_none}
-use Rattle.definition_parts.proofs.NameWalks.{Lowest, Struck, Walk}
-use Rattle.definition_parts.proofs.NameWalks.{walk_between, walk_held, walk_later, walk_next, walk_start}
+use Rattle.ale.specs.Rows.{member}
+use Rattle.definition_parts.specs.Names.{names_of}
+use Rattle.definition_parts.proofs.NameWalks.{Walk, names_member, walk_all, walk_next}
 use Rattle.definitions_rings.specs.Rings.{settle_set}
 
+and_assoc : (a b c : Bool) → ((a && b) && c) ≡ (a && (b && c))
+and_assoc true b c = refl
+and_assoc false b c = refl
+
+-- a name moves from those that are left to those that are found
+moved : (f s b : Bool) → ((f || (s && true)) || (b && s)) ≡ (f || s)
+moved true s b = refl
+moved false true b = refl
+moved false false true = refl
+moved false false false = refl
+
 module _ (uses : ℕ → ℕ) (defined done : ℕ) where
-  abbrev settles : ℕ → Bool
-  settles m = has defined m && subset (uses m) done
+  abbrev fits : ℕ → Bool
+  fits m = subset (uses m) done
 
-  pub record Settling (found left name : ℕ) : Type 0 where
-    pub walk : Walk defined left name
-    pub has_found : (m : ℕ) → has found m ≡ (ltb m name && settles m)
+  pub record Settling (found : ℕ) (left : List ℕ) : Type 0 where
+    pub walk : Walk defined left
+    pub all : (m : ℕ) → (has found m || (member m left && fits m)) ≡ (ltb m name_count && (has defined m && fits m))
 
-  pub settling_start : (name : ℕ) → Lowest defined name → Settling none defined name
-  settling_start name l = record {
-    walk = walk_start defined name l;
-    has_found = λ m. has_none m ∙ sym (by_test (ltb m name) (λ e. rw (e, l.1.0 m (ltb-true m name e))) (λ e. rw e));
+  pub settling_start : Settling none (names_of defined)
+  settling_start = record {
+    walk = walk_all defined;
+    all = λ m. rw (has_none m, names_member defined m) (and_assoc (ltb m name_count) (has defined m) (fits m));
   }
 
-  module _ (found left name more next to : ℕ) (before : Settling found left name) (low : name < name_count)
-      (adds : (m : ℕ) → has more m ≡ (has found m || (subset (uses name) done && eqb m name)))
-      (struck : Struck left name next) (lowest : Lowest next to) where
-    abbrev Found : ℕ → Type 0
-    Found m = has more m ≡ (ltb m to && settles m)
+  pub settling_next : (found more name : ℕ) (left next : List ℕ) → left ≡ name ∷ next → Settling found left →
+      ((m : ℕ) → has more m ≡ (has found m || (fits name && eqb m name))) → Settling more next
+  settling_next found more name left next is before adds = record {
+    walk = walk_next defined name left next before.walk is;
+    all = λ m.
+        ap (λ (b : Bool). b || (member m next && fits m)) (adds m)
+        ∙ step m
+        ∙ ap (λ (s : List ℕ). has found m || (member m s && fits m)) (sym is)
+        ∙ before.all m;
+  }
+    where
+      step : (m : ℕ) → ((has found m || (fits name && eqb m name)) || (member m next && fits m))
+          ≡ (has found m || ((eqb m name || member m next) && fits m))
+      step m =
+          by_test (eqb m name)
+          (λ e. rw (e, sym (ap fits (eqb-true m name e))) (moved (has found m) (fits m) (member m next)))
+          (λ e. rw (e, and_none (fits name), or_none (has found m)))
 
-    later : name < to
-    later = walk_later defined left name next to before.walk low struck lowest
-
-    at_name : Found name
-    at_name =
-        let f : has found name ≡ false = before.has_found name ∙ rw (le-ltb name name (omega arith)) in
-        let d : has defined name ≡ true = walk_held defined left name before.walk low in
-        adds name ∙ rw (f, eq-eqb name name refl, lt-ltb name to later, d) (and_all (subset (uses name) done))
-
-    -- where the name adds nothing
-    other : (m : ℕ) → (m ≡ name → ⊥) → has more m ≡ (ltb m name && settles m)
-    other m u =
-        adds m
-        ∙ rw (ne_eqb m name u, and_none (subset (uses name) done)) (or_none (has found m))
-        ∙ before.has_found m
-
-    elsewhere : (m : ℕ) → (m ≡ name → ⊥) → Found m
-    elsewhere m u =
-        elim (dec_lt m name) [
-          | yes l ↦ other m u ∙ rw (lt-ltb m name l, lt-ltb m to (omega (arith, later)))
-          | no n ↦ other m u
-              ∙ rw (le-ltb m name (omega arith))
-              (by_test (ltb m to)
-              (λ e.
-              let between = walk_between defined left name next to before.walk low struck lowest in
-              rw (e, between m (omega arith) (ltb-true m to e)))
-              (λ e. rw e))
-        ]
-
-    pub settling_next : Settling more next to
-    settling_next = record {
-      walk = walk_next defined left name next to before.walk low struck lowest;
-      has_found = λ m. elim (ℕ_discrete m name) [
-        | yes e ↦ subst Found (sym e) at_name
-        | no u ↦ elsewhere m u
-      ];
-    }
-
-  pub settling_done : (found left name : ℕ) → Settling found left name → name_count ≤ name →
+  pub settling_done : (found : ℕ) (left : List ℕ) → left ≡ [] → Settling found left →
       found ≡ settle_set uses defined done
-  settling_done found left name s past =
-      let e : name ≡ name_count = omega (arith, s.walk.lowest.0) in
-      word_is settles found name_count (λ m. s.has_found m ∙ ap (λ (n : ℕ). ltb m n && settles m) e)
+  settling_done found left is s =
+      word_is (λ m. has defined m && fits m) found name_count (λ m.
+      sym (or_none (has found m))
+      ∙ ap (λ (s : List ℕ). has found m || (member m s && fits m)) (sym is)
+      ∙ s.all m)

@@ -6,11 +6,12 @@ ghost use Rattle.table.specs.NameValues.{set_of};
 ghost use Rattle.ale.specs.PictureSignature.{picture_signature};
 ghost use Rattle.tbox.specs.Definitions.{Definitions};
 ghost use Rattle.tbox.specs.Acyclic.{acyclic};
-ghost use Rattle.definition_parts.specs.Parts.{Agrees, Opened};
+ghost use Rattle.definition_parts.specs.Tboxes.{Agreeing};
 ghost use Rattle.definitions_rings.specs.Rings.{settle_set, settled_set, uses_at};
 
 use crate::uses::find_uses;
-use definition_parts::names::without;
+use definition_parts::names::NameWalk;
+use definition_parts::opened::Tbox;
 use table::layout::NAMES;
 use table::names::Names;
 
@@ -31,12 +32,8 @@ fn settle(uses: [Names; NAMES], defined: Names, done: Names) -> Names
     ensures { set_of result ≡ settle_set (uses_at uses) (set_of defined) (set_of done) }
 {
     let mut found = Names::none();
-    let mut left = defined;
-    let mut name = left.first();
-    while name < NAMES {
+    for name in NameWalk::over(defined) {
         found = settle_name(found, name, uses[name], done);
-        left = without(left, name);
-        name = left.first();
     }
     found
 }
@@ -46,24 +43,21 @@ fn find_settled(uses: [Names; NAMES], defined: Names) -> Names
     ensures { set_of result ≡ settled_set (uses_at uses) (set_of defined) name_count }
 {
     let mut done = Names::none();
-    let mut round = 0;
-    while round < NAMES {
+    for round in 0..NAMES {
         let next = settle(uses, defined, done);
         if next.subset(done) {
             return done;
         }
         done = next;
-        round += 1;
     }
     done
 }
 
 // 28
-pub fn is_acyclic(tbox: &[u8], starts: &[usize; NAMES], defined: Names) -> bool
-    requires { Opened tbox.now starts.now (set_of defined) }
+pub fn is_acyclic(tbox: &Tbox<'_>) -> bool
     ensures { (D : Definitions picture_signature) →
-        Agrees D tbox.now starts.now (set_of defined) → result ≡ acyclic picture_signature D }
+        Agreeing D tbox.now → result ≡ acyclic picture_signature D }
 {
-    let uses = find_uses(tbox, starts, defined);
-    defined.subset(find_settled(uses, defined))
+    let uses = find_uses(tbox);
+    tbox.defined.subset(find_settled(uses, tbox.defined))
 }

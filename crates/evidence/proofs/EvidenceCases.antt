@@ -4,6 +4,7 @@ use Prim.Native.Nat.{ℕ}
 use lib.ListN.{replicate}
 use mathlib.Core.List.{List, [], ◌++◌, ◌∷◌}
 use mathlib.Core.Path.{◌≡◌, refl}
+use Rattle.std.proofs.Common.{Err, Ok, Result}
 use Rattle.table.specs.Bounds.{bench_limits}
 use Rattle.table.specs.Fields.{end_bytes, ends_at, row_of}
 use Rattle.table.specs.Number.{be, be_bytes}
@@ -22,16 +23,17 @@ use Rattle.countermodel.specs.Layout.{individual_count}
 use Rattle.normal.specs.Call.{merged_asked}
 use Rattle.workspace.specs.Lent.{lent_asked}
 use Rattle.workspace.specs.Prepare.{pair_asked, work_size}
-use Rattle.evidence.specs.declared.check.Verified.{Verified}
-use Rattle.evidence.specs.declared.check.Verified.TheVariants.{MapTaken, Refused, RefutationTaken}
+use Rattle.evidence.specs.declared.check.Taken.TheVariants.{Map, Refutation}
 use Rattle.evidence.specs.Call.{evidence_asked, verify_answer}
 use Rattle.evidence.specs.Check.{check_asked, refutation_asked}
 use Rattle.evidence.specs.Form.{map_form}
+use Rattle.evidence.specs.declared.check.Taken.{Taken}
+use Rattle.picture.specs.declared.answer.Refusal.{Refusal}
 use Rattle.evidence.specs.Map.{map_asked, row_asked}
 
 -- the first picture, the second, the evidence, and the answer
 pub data Case : Type 0 where
-  case : List ℕ → List ℕ → List ℕ → Verified → Case
+  case : List ℕ → List ℕ → List ℕ → Result Taken Refusal → Case
 
 abbrev ran : Case → Case
 ran (case first second e a) = case first second e (verify_answer bench_limits first second e (work_size bench_limits))
@@ -40,8 +42,8 @@ abbrev pub run_all : List Case → List Case
 run_all [] = []
 run_all (c ∷ cs) = ran c ∷ run_all cs
 
-abbrev refused : ℕ → Verified
-refused q = Refused (refusal q Evidence)
+abbrev refused : ℕ → Result Taken Refusal
+refused q = Err (refusal q Evidence)
 
 -- ---- pictures
 
@@ -108,7 +110,7 @@ cases =
     case some_both some_each [] (refused 16)
     ∷ case some_both some_each end (refused 16)
     -- a map: its length field, one image too many or too few, tags, the end field, the last byte
-    ∷ case some_both some_each (map3 0 1 1) MapTaken
+    ∷ case some_both some_each (map3 0 1 1) (Ok Map)
     ∷ case some_both some_each (0x41 ∷ 0 ∷ 4 ∷ images (0 ∷ 1 ∷ 1 ∷ [])) (refused 16)
     ∷ case some_both some_each (0x41 ∷ 1 ∷ 6 ∷ images (0 ∷ 1 ∷ 1 ∷ [])) (refused 16)
     ∷ case some_both some_each (0x41 ∷ 0 ∷ 8 ∷ images (0 ∷ 1 ∷ 1 ∷ 1 ∷ [])) (refused 16)
@@ -138,7 +140,7 @@ cases =
     ∷ case some_reached some_both (map2 0 2) (refused 17)
     ∷ case some_reached (root 8 ++ (some_row 0 8 0 ++ end)) (map2 0 2) (refused 19)
     -- 18; 17 comes before it, and 19 after
-    ∷ case some_both empty (map1 0) MapTaken
+    ∷ case some_both empty (map1 0) (Ok Map)
     ∷ case some_both empty (map1 1) (refused 18)
     ∷ case some_both empty (map1 2) (refused 17)
     ∷ case some_reached named (map1 1) (refused 18)
@@ -146,30 +148,30 @@ cases =
     -- 19: names wanted, names excluded, the mark; a row 0 2 8 1 0 0 image takes everything; 19 comes before 20
     ∷ case some_each some_both (map2 0 1) (refused 19)
     ∷ case some_both excluding (map2 0 1) (refused 19)
-    ∷ case excluding excluding (map2 0 1) MapTaken
+    ∷ case excluding excluding (map2 0 1) (Ok Map)
     ∷ case all_five none_reached (map2 0 1) (refused 19)
-    ∷ case none_reached none_reached (map2 0 1) MapTaken
-    ∷ case none_reached all_five (map2 0 1) MapTaken
+    ∷ case none_reached none_reached (map2 0 1) (Ok Map)
+    ∷ case none_reached all_five (map2 0 1) (Ok Map)
     ∷ case some_reached all_five (map2 0 1) (refused 19)
     -- 20: kind, role, below the parent's image
     ∷ case some_both all_five (map2 0 1) (refused 20)
     ∷ case some_both other_role (map2 0 1) (refused 20)
-    ∷ case other_role other_role (map2 0 1) MapTaken
+    ∷ case other_role other_role (map2 0 1) (Ok Map)
     ∷ case some_both some_reached (map2 0 0) (refused 20)
-    ∷ case chain chain (map3 0 1 2) MapTaken
+    ∷ case chain chain (map3 0 1 2) (Ok Map)
     ∷ case chain chain (map3 0 1 1) (refused 20)
     -- below a row 0 2 8 1 0 0 image that image, and no other
-    ∷ case none_beside all_some (map3 0 1 1) MapTaken
+    ∷ case none_beside all_some (map3 0 1 1) (Ok Map)
     ∷ case none_beside all_some (map3 0 1 0) (refused 20)
     ∷ case none_beside all_some (map3 0 1 2) (refused 20)
-    ∷ case impossible some_each (map3 0 0 0) MapTaken
+    ∷ case impossible some_each (map3 0 0 0) (Ok Map)
     -- not the lowest image
-    ∷ case twice some_three (map2 0 1) MapTaken
-    ∷ case twice some_three (map2 0 2) MapTaken
+    ∷ case twice some_three (map2 0 1) (Ok Map)
+    ∷ case twice some_three (map2 0 2) (Ok Map)
     -- 21: the parent, by both bytes; the role; individual 0; before 22
     ∷ case some_each some_both (zeroth ++ (individual 0 1 8 8 ++ end)) (refused 21)
     ∷ case some_each some_both (zeroth ++ (individual 1 0 8 8 ++ end)) (refused 21)
-    ∷ case some_each some_both (zeroth ++ (individual 0 0 8 8 ++ (individual 0 0 8 32 ++ (individual 0 0 31 0 ++ end)))) RefutationTaken
+    ∷ case some_each some_both (zeroth ++ (individual 0 0 8 8 ++ (individual 0 0 8 32 ++ (individual 0 0 31 0 ++ end)))) (Ok Refutation)
     ∷ case some_each some_both (zeroth ++ (individual 0 0 8 8 ++ (individual 0 0 8 32 ++ (individual 0 0 32 0 ++ end)))) (refused 21)
     ∷ case none_reached some_reached (individual 0 1 0 0 ++ end) (refused 21)
     ∷ case none_reached some_reached (individual 0 0 1 0 ++ end) (refused 21)
@@ -184,10 +186,10 @@ cases =
     ∷ case some_both some_each (zeroth ++ (individual 0 0 8 40 ++ end)) (refused 23)
     ∷ case some_each some_both (zeroth ++ (individual 0 0 8 40 ++ end)) (refused 23)
     -- taken: K7 reversed, K8; with nobody reached, what an all-successor asks is so
-    ∷ case some_each some_both (zeroth ++ (individual 0 0 8 8 ++ (individual 0 0 8 32 ++ end))) RefutationTaken
-    ∷ case none_reached some_reached alone RefutationTaken
-    ∷ case all_five some_reached alone RefutationTaken
-    ∷ case empty impossible alone RefutationTaken
+    ∷ case some_each some_both (zeroth ++ (individual 0 0 8 8 ++ (individual 0 0 8 32 ++ end))) (Ok Refutation)
+    ∷ case none_reached some_reached alone (Ok Refutation)
+    ∷ case all_five some_reached alone (Ok Refutation)
+    ∷ case empty impossible alone (Ok Refutation)
     ∷ []
 
 pub all_pass : run_all cases ≡ cases

@@ -14,8 +14,7 @@ use Rattle.ale.specs.PictureSignature.{picture_signature}
 use Rattle.ale.specs.RowMap.{IsHomomorphism, edge_agrees, label_agrees}
 use Rattle.ale.specs.Table.{Table}
 use Rattle.picture.proofs.Orders.{and_decides, asked_decides, from_yes, yes_so}
-use Rattle.picture.specs.Asked.{and_then, asked}
-use Rattle.picture.specs.declared.answer.Asked.TheVariants.{Yes}
+use Rattle.picture.specs.Asked.{and_then, asked, yes}
 use Rattle.evidence.specs.Map.{map_asked, refusal_by, row_asked}
 
 module _ (p q : Table picture_signature) (im : ℕ → ℕ) where
@@ -39,7 +38,7 @@ module _ (p q : Table picture_signature) (im : ℕ → ℕ) where
     abbrev joined : Bool
     joined = pick (eqb i 0) true (edge_agrees picture_signature p q i (im (q.parent i)) (im i))
 
-    pub row_exactly : (row_asked p q im i ≡ Yes) ↔ Answers i
+    pub row_exactly : (row_asked p q im i ≡ yes) ↔ Answers i
     unfolding row_asked
     row_exactly =
         let a = asked within (refusal_by 17) in
@@ -71,11 +70,11 @@ module _ (p q : Table picture_signature) (im : ℕ → ℕ) where
           ),
         )
 
-  map_exactly : (map_asked p q im ≡ Yes) ↔ ((i : ℕ) → 0 ≤ i → i < 0 + q.rows → Answers i)
+  map_exactly : (map_asked p q im ≡ yes) ↔ ((i : ℕ) → 0 ≤ i → i < 0 + q.rows → Answers i)
   unfolding map_asked
   map_exactly = from_yes (row_asked p q im) Answers row_exactly q.rows 0
 
-  pub map_yes : 0 < q.rows → map_asked p q im ≡ Yes → IsHomomorphism picture_signature p q im
+  pub map_yes : 0 < q.rows → map_asked p q im ≡ yes → IsHomomorphism picture_signature p q im
   map_yes some h =
       record {
         inside = λ i l. (at i l).inside;
@@ -87,7 +86,7 @@ module _ (p q : Table picture_signature) (im : ℕ → ℕ) where
       at : (i : ℕ) → i < q.rows → Answers i
       at i l = map_exactly.0 h i (omega arith) (omega arith)
 
-  pub yes_map : IsHomomorphism picture_signature p q im → map_asked p q im ≡ Yes
+  pub yes_map : IsHomomorphism picture_signature p q im → map_asked p q im ≡ yes
   yes_map ok =
       map_exactly.1 (λ i a b. record {
         inside = ok.inside i (omega arith);

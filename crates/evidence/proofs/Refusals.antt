@@ -15,8 +15,7 @@ use Rattle.ale.specs.RowMap.{edge_agrees, label_agrees}
 use Rattle.ale.specs.Table.{Table}
 use Rattle.ale.specs.Tree.{Tree}
 use Rattle.picture.proofs.Orders.{EveryRefusal, and_refuses, asked_refuses, from_refuses}
-use Rattle.picture.specs.Asked.{and_then, asked}
-use Rattle.picture.specs.declared.answer.Asked.{Asked}
+use Rattle.picture.specs.Asked.{and_then, asked, Asked}
 use Rattle.picture.specs.declared.answer.Refusal.{Refusal}
 use Rattle.meaning.specs.Meaning.{picture_table, picture_tree}
 use Rattle.meaning.specs.NormalTable.{normal_file}

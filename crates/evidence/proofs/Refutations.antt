@@ -25,8 +25,7 @@ use Rattle.countermodel.specs.Individual.{individual_ok, individual_table, indiv
 use Rattle.countermodel.specs.Layout.{individual_count}
 use Rattle.countermodel.specs.Model.{model_tree}
 use Rattle.picture.proofs.Orders.{and_decides, asked_decides, yes_so}
-use Rattle.picture.specs.Asked.{and_then, asked}
-use Rattle.picture.specs.declared.answer.Asked.TheVariants.{Yes}
+use Rattle.picture.specs.Asked.{and_then, asked, yes}
 use Rattle.evidence.specs.Check.{refutation_asked}
 use Rattle.evidence.specs.Map.{refusal_by}
 
@@ -51,7 +50,7 @@ module _ (t u : Tree picture_signature) (e : List ℕ) where
   abbrev passing : Bool
   passing = each (individual_ok e) (individual_count e) 0
 
-  pub refutation_exactly : (refutation_asked t u e ≡ Yes) ↔
+  pub refutation_exactly : (refutation_asked t u e ≡ yes) ↔
       ((each (individual_ok e) (individual_count e) 0 ≡ true)
       × (T (fits_test picture_signature t (model_tree e 0)) × T (not (fits_test picture_signature u (model_tree e 0)))))
   unfolding refutation_asked

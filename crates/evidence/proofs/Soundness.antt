@@ -32,9 +32,7 @@ use Rattle.ale.specs.ModelCheck.{fits_test}
 use Rattle.ale.specs.PictureSignature.{picture_signature}
 use Rattle.ale.specs.Table.{Table}
 use Rattle.ale.specs.Tree.{Tree}
-use Rattle.picture.specs.Asked.{and_then, asked}
-use Rattle.picture.specs.declared.answer.Asked.{Asked}
-use Rattle.picture.specs.declared.answer.Asked.TheVariants.{Yes}
+use Rattle.picture.specs.Asked.{and_then, asked, Asked, yes}
 use Rattle.meaning.proofs.Coverings.{covers_fits}
 use Rattle.meaning.proofs.Normals.{normal_readable}
 use Rattle.meaning.proofs.Pictures.{picture_known, picture_parents}
@@ -52,10 +50,10 @@ use Rattle.homomorphism.specs.Layout.{image_of, image_place, map_tag}
 use Rattle.evidence.specs.Form.{map_form}
 use Rattle.evidence.specs.Map.{map_asked, refusal_by}
 use Rattle.evidence.specs.Taken.{MapOf, RefutationOf}
-use Rattle.evidence.specs.declared.check.Verified.{Verified}
-use Rattle.evidence.specs.declared.check.Verified.TheVariants.{MapTaken, RefutationTaken}
+use Rattle.evidence.specs.declared.check.Taken.TheVariants.{Map, Refutation}
 use Rattle.evidence.proofs.Homomorphisms.{map_yes, yes_map}
 use Rattle.evidence.proofs.NormalTables.{normal_row_tree, normal_some}
+use Rattle.evidence.specs.declared.check.Taken.{Taken}
 use Rattle.evidence.proofs.Refutations.{question_fits, refutation_exactly}
 
 -- ---- forms
@@ -81,7 +79,7 @@ forms_apart limits rows e h k = omega (arith, map_tag_is rows e h, refutation_ta
 -- ---- the kinds
 
 -- neither is the other
-other_taken : MapTaken ≡ RefutationTaken → ⊥
+other_taken : Map ≡ Refutation → ⊥
 other_taken h = let z : ◌≡◌ {A = ℕ} 0 1 = cc in omega arith
 
 -- b says whether it has the form of a map, c whether that of a refutation; m and n are what the questions of each
@@ -90,19 +88,19 @@ module _ (m n : Asked) where
   abbrev checks : Bool → Bool → Asked
   checks b c = and_then (asked (b || c) (refusal_by 16)) (pick b m n)
 
-  by_map : (b c : Bool) → checks b c ≡ Yes → pick b MapTaken RefutationTaken ≡ MapTaken → (b ≡ true) × (m ≡ Yes)
+  by_map : (b c : Bool) → checks b c ≡ yes → pick b Map Refutation ≡ Map → (b ≡ true) × (m ≡ yes)
   by_map true c h k = (refl, h)
   by_map false c h k = absurd (other_taken (sym k))
 
-  by_refutation : (b c : Bool) → checks b c ≡ Yes → pick b MapTaken RefutationTaken ≡ RefutationTaken →
-      (c ≡ true) × (n ≡ Yes)
+  by_refutation : (b c : Bool) → checks b c ≡ yes → pick b Map Refutation ≡ Refutation →
+      (c ≡ true) × (n ≡ yes)
   by_refutation true c h k = absurd (other_taken k)
   by_refutation false true h k = (refl, h)
   by_refutation false false h k = absurd (let z : ◌≡◌ {A = ℕ} 0 1 = cc in omega arith)
 
 module _ (p q : Table picture_signature) (t u : Tree picture_signature) (limits : Limits) (e : List ℕ) where
-  pub asked_map : ((check_asked limits p q t u e ≡ Yes) × (taken_as q.rows e ≡ MapTaken)) ↔
-      ((map_form q.rows e ≡ true) × (map_asked p q (image_of e) ≡ Yes))
+  pub asked_map : ((check_asked limits p q t u e ≡ yes) × (taken_as q.rows e ≡ Map)) ↔
+      ((map_form q.rows e ≡ true) × (map_asked p q (image_of e) ≡ yes))
   unfolding check_asked
   asked_map = (
     λ (all, kind). by_map (map_asked p q (image_of e)) (refutation_asked t u e) (map_form q.rows e)
@@ -110,8 +108,8 @@ module _ (p q : Table picture_signature) (t u : Tree picture_signature) (limits 
     λ (form, all). (rw (form, all), rw form),
   )
 
-  pub asked_refutation : ((check_asked limits p q t u e ≡ Yes) × (taken_as q.rows e ≡ RefutationTaken)) ↔
-      ((refutation_form limits e ≡ true) × (refutation_asked t u e ≡ Yes))
+  pub asked_refutation : ((check_asked limits p q t u e ≡ yes) × (taken_as q.rows e ≡ Refutation)) ↔
+      ((refutation_form limits e ≡ true) × (refutation_asked t u e ≡ yes))
   unfolding check_asked
   asked_refutation = (
     λ (all, kind). by_refutation (map_asked p q (image_of e)) (refutation_asked t u e) (map_form q.rows e)
@@ -125,8 +123,8 @@ module _ (p q : Table picture_signature) (t u : Tree picture_signature) (limits 
 
 -- ---- what is taken
 
-abbrev pub TakenAs : Limits → List ℕ → List ℕ → List ℕ → Verified → Type 0
-TakenAs limits first second e kind = (evidence_asked limits first second e ≡ Yes) × (evidence_kind limits second e ≡ kind)
+abbrev pub TakenAs : Limits → List ℕ → List ℕ → List ℕ → Taken → Type 0
+TakenAs limits first second e kind = (evidence_asked limits first second e ≡ yes) × (evidence_kind limits second e ≡ kind)
 
 module _ (limits : Limits) (first second e : List ℕ) (bounded : Bounded limits) (pair : Acceptable limits first second) where
   abbrev p : Table picture_signature
@@ -135,7 +133,7 @@ module _ (limits : Limits) (first second e : List ℕ) (bounded : Bounded limits
   abbrev q : Table picture_signature
   q = picture_table (normal_file limits second)
 
-  pub map_taken : TakenAs limits first second e MapTaken ↔ MapOf limits first second e
+  pub map_taken : TakenAs limits first second e Map ↔ MapOf limits first second e
   unfolding evidence_asked
   map_taken =
       let (to, from) = asked_map p q (picture_tree limits first) (picture_tree limits second) limits e in (
@@ -148,7 +146,7 @@ module _ (limits : Limits) (first second e : List ℕ) (bounded : Bounded limits
         λ m. from (m.form, yes_map p q (image_of e) m.maps),
       )
 
-  pub refutation_taken : TakenAs limits first second e RefutationTaken ↔ RefutationOf limits first second e
+  pub refutation_taken : TakenAs limits first second e Refutation ↔ RefutationOf limits first second e
   unfolding evidence_asked
   refutation_taken =
       let t = picture_tree limits first in
@@ -180,7 +178,7 @@ module _ (limits : Limits) (first second e : List ℕ) (bounded : Bounded limits
       )
 
   -- all is answered yes exactly of one or the other
-  pub evidence_taken : (evidence_asked limits first second e ≡ Yes) ↔ (MapOf limits first second e
+  pub evidence_taken : (evidence_asked limits first second e ≡ yes) ↔ (MapOf limits first second e
       ⊎ RefutationOf limits first second e)
   evidence_taken = (
     λ all. by_test (map_form q.rows e) (λ form. inl (map_taken.0 (all, rw form)))

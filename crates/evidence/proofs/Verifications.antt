@@ -11,12 +11,12 @@ use Rattle.table.specs.Bounds.{Bounded}
 use Rattle.table.specs.declared.layout.Limits.{Limits}
 use Rattle.picture.proofs.Orders.{Decides, and_yes, said_so}
 use Rattle.picture.specs.Refusal.{short_buffer}
-use Rattle.picture.specs.declared.answer.Asked.TheVariants.{Yes}
 use Rattle.workspace.proofs.Pairs.{PairNo}
 use Rattle.workspace.proofs.Pairs as pairs
 use Rattle.workspace.specs.Prepare.{Acceptable, work_size}
 use Rattle.evidence.specs.Call.{evidence_asked, verify_asked, verify_lent}
 use Rattle.evidence.specs.Taken.{MapOf, RefutationOf}
+use Rattle.picture.specs.Asked.{yes}
 use Rattle.evidence.proofs.Soundness.{evidence_taken}
 
 module _ (limits : Limits) (first second : List ℕ) (room : ℕ) where
@@ -34,7 +34,7 @@ module _ (limits : Limits) (first second : List ℕ) (room : ℕ) where
 
 -- 1 to 14 are answered yes: with room, and of an acceptable pair; 16 to 23: of a map or a refutation of it
 module _ (limits : Limits) (first second e : List ℕ) (room : ℕ) (bounded : Bounded limits) where
-  pub verify_yes : (verify_asked limits first second e room ≡ Yes) ↔
+  pub verify_yes : (verify_asked limits first second e room ≡ yes) ↔
       ((work_size limits ≤ room) × Acceptable limits first second
       × (MapOf limits first second e ⊎ RefutationOf limits first second e))
   verify_yes =

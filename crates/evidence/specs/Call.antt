@@ -6,16 +6,15 @@
 --   verify_answer    that is taken, after these
 --   verify_work      the work space: both tables once 14 is answered yes for both, whatever 16 to 23 answer; else
 --                   nothing written
-use Rattle.std.specs.Prelude.{ℕ, leb, length, List}
+use Rattle.std.specs.Prelude.{ℕ, leb, length, List, Ok, Result}
 use Rattle.table.specs.declared.layout.Limits.{Limits}
-use Rattle.picture.specs.Asked.{and_then, on_asked}
-use Rattle.picture.specs.declared.answer.Asked.{Asked}
+use Rattle.picture.specs.Asked.{and_then, on_asked, Asked}
 use Rattle.meaning.specs.Meaning.{picture_table, picture_tree}
 use Rattle.meaning.specs.NormalTable.{normal_file}
 use Rattle.workspace.specs.Lent.{lent_asked, pair_work}
 use Rattle.workspace.specs.Prepare.{work_size}
-use Rattle.evidence.specs.declared.check.Verified.{Verified}
-use Rattle.evidence.specs.declared.check.Verified.TheVariants.{Refused}
+use Rattle.evidence.specs.declared.check.Taken.{Taken}
+use Rattle.picture.specs.declared.answer.Refusal.{Refusal}
 use Rattle.evidence.specs.Check.{check_asked, taken_as}
 
 unfoldable pub evidence_asked : Limits → List ℕ → List ℕ → List ℕ → Asked
@@ -30,12 +29,12 @@ abbrev pub verify_asked : Limits → List ℕ → List ℕ → List ℕ → ℕ 
 verify_asked limits first second evidence room =
     and_then (verify_lent limits first second room) (evidence_asked limits first second evidence)
 
-abbrev pub evidence_kind : Limits → List ℕ → List ℕ → Verified
+abbrev pub evidence_kind : Limits → List ℕ → List ℕ → Taken
 evidence_kind limits second evidence = taken_as (picture_table (normal_file limits second)).rows evidence
 
-unfoldable pub verify_answer : Limits → List ℕ → List ℕ → List ℕ → ℕ → Verified
+unfoldable pub verify_answer : Limits → List ℕ → List ℕ → List ℕ → ℕ → Result Taken Refusal
 verify_answer limits first second evidence room =
-    on_asked Refused (verify_asked limits first second evidence room) (evidence_kind limits second evidence)
+    on_asked (verify_asked limits first second evidence room) (Ok (evidence_kind limits second evidence))
 
 abbrev pub verify_work : Limits → List ℕ → List ℕ → List ℕ → List ℕ
 verify_work limits first second work = pair_work limits (leb (work_size limits) (length work)) first second work

@@ -11,16 +11,15 @@ use Rattle.ale.specs.ModelCheck.{fits_test}
 use Rattle.ale.specs.PictureSignature.{picture_signature}
 use Rattle.ale.specs.Table.{Table}
 use Rattle.ale.specs.Tree.{Tree}
-use Rattle.picture.specs.Asked.{and_then, asked}
-use Rattle.picture.specs.declared.answer.Asked.{Asked}
+use Rattle.picture.specs.Asked.{and_then, asked, Asked}
 use Rattle.countermodel.specs.Individual.{individual_ok, refutation_form}
 use Rattle.countermodel.specs.Layout.{individual_count}
 use Rattle.countermodel.specs.Model.{model_tree}
 use Rattle.homomorphism.specs.Layout.{image_of}
 use Rattle.evidence.specs.Form.{map_form}
 use Rattle.evidence.specs.Map.{map_asked, refusal_by}
-use Rattle.evidence.specs.declared.check.Verified.{Verified}
-use Rattle.evidence.specs.declared.check.Verified.TheVariants.{MapTaken, RefutationTaken}
+use Rattle.evidence.specs.declared.check.Taken.{Taken}
+use Rattle.evidence.specs.declared.check.Taken.TheVariants.{Map, Refutation}
 
 -- 21. For each individual in order: parent below its number, role below 32, both 0 for individual 0?
 -- 22. Does individual 0 fit the first? 23. Does it fail to fit the second?
@@ -36,5 +35,5 @@ check_asked limits p q t u e =
     and_then (asked (map_form q.rows e || refutation_form limits e) (refusal_by 16))
     (pick (map_form q.rows e) (map_asked p q (image_of e)) (refutation_asked t u e))
 
-abbrev pub taken_as : ℕ → List ℕ → Verified
-taken_as rows e = pick (map_form rows e) MapTaken RefutationTaken
+abbrev pub taken_as : ℕ → List ℕ → Taken
+taken_as rows e = pick (map_form rows e) Map Refutation

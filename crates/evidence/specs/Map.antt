@@ -7,9 +7,8 @@ use Rattle.table.specs.Pick.{pick}
 use Rattle.ale.specs.PictureSignature.{picture_signature}
 use Rattle.ale.specs.RowMap.{edge_agrees, label_agrees}
 use Rattle.ale.specs.Table.{Table}
-use Rattle.picture.specs.Asked.{and_then, asked, asked_from}
+use Rattle.picture.specs.Asked.{and_then, asked, asked_from, Asked}
 use Rattle.picture.specs.Refusal.{refusal}
-use Rattle.picture.specs.declared.answer.Asked.{Asked}
 use Rattle.picture.specs.declared.answer.Input.TheVariants.{Evidence}
 use Rattle.picture.specs.declared.answer.Refusal.{Refusal}
 

@@ -10,13 +10,12 @@ use lib.ListN.{length}
 use mathlib.Core.Bool.{Bool, false, not, true}
 use mathlib.Core.List.{List}
 use mathlib.Core.Path.{◌∙◌, ◌≡◌, ap, refl, sym}
+use Rattle.std.proofs.Common.{Err, Ok, Result}
 use Rattle.table.specs.Bounds.{Bounded}
 use Rattle.table.specs.Range.{each}
 use Rattle.table.specs.declared.layout.Limits.{Limits}
-use Rattle.picture.specs.Asked.{and_then, asked, on_asked}
+use Rattle.picture.specs.Asked.{and_then, asked, on_asked, Asked}
 use Rattle.picture.specs.Readable.{row_count}
-use Rattle.picture.specs.declared.answer.Asked.{Asked}
-use Rattle.picture.specs.declared.answer.Asked.TheVariants.{No}
 use Rattle.meaning.specs.Meaning.{picture_table, picture_tree}
 use Rattle.meaning.specs.NormalTable.{normal_file}
 use Rattle.countermodel.specs.Individual.{individual_ok, refutation_form}
@@ -34,12 +33,13 @@ use Rattle.evidence.specs.Call.{evidence_asked, evidence_kind}
 use Rattle.evidence.specs.Check.{check_asked, refutation_asked}
 use Rattle.evidence.specs.Form.{map_form}
 use Rattle.evidence.specs.Map.{map_asked, refusal_by}
-use Rattle.evidence.specs.declared.check.Verified.{Verified}
-use Rattle.evidence.specs.declared.check.Verified.TheVariants.{MapTaken, Refused, RefutationTaken}
+use Rattle.evidence.specs.declared.check.Taken.TheVariants.{Map, Refutation}
 use Rattle.definitions.specs.Unfolded.{unfolded_file}
 use Rattle.under.proofs.Asked.{verify_asked_is, verify_work_asked}
 use Rattle.under.specs.Asked.{pair_asked_under}
 use Rattle.under.specs.Calls.{verify_under, verify_work_under}
+use Rattle.evidence.specs.declared.check.Taken.{Taken}
+use Rattle.picture.specs.declared.answer.Refusal.{Refusal}
 use Rattle.evidence_check.specs.Tables.{check_in}
 
 -- ---- on two tables
@@ -58,33 +58,33 @@ module _ (first second e : List ℕ) where
         passes ∙ ap (λ (m : ℕ). each (individual_ok e) m 0) counted in
         rw (sym all, sym fits, sym fits-second)
 
-    pub asks_individuals : a ≡ false → Asks (No (refusal_by 21))
+    pub asks_individuals : a ≡ false → Asks (Err (refusal_by 21))
     asks_individuals h = refutation_read _ _ refl refl ∙ simp h
 
     module _ (passed : a ≡ true) (b : Bool) (fits : b ≡ fits_row first 0 e 0) where
-      pub asks_first : b ≡ false → Asks (No (refusal_by 22))
+      pub asks_first : b ≡ false → Asks (Err (refusal_by 22))
       asks_first h = refutation_read b _ fits refl ∙ simp (passed, h)
 
       pub asks_second : b ≡ true → (c : Bool) → c ≡ fits_row second 0 e 0 → Asks (asked (not c) (refusal_by 23))
       asks_second h c fits-second = refutation_read b c fits fits-second ∙ simp (passed, h)
 
   module _ (limits : Limits) (m : ℕ) (counted : m ≡ row_count second) where
-    abbrev Checks : Verified → Type 0
+    abbrev Checks : Result Taken Refusal → Type 0
     Checks answer = check_in limits first second e ≡ answer
 
     pub check_map : map_form m e ≡ true →
-        Checks (on_asked Refused (map_asked (picture_table first) (picture_table second) (image_of e)) MapTaken)
+        Checks (on_asked (map_asked (picture_table first) (picture_table second) (image_of e)) (Ok Map))
     unfolding check_in check_asked
     check_map h = let form = rw counted at h in rw form
 
     module _ (other : map_form m e ≡ false) where
       pub check_refutation : refutation_form limits e ≡ true →
-          Checks (on_asked Refused
-          (refutation_asked (row_tree (picture_table first) 0) (row_tree (picture_table second) 0) e) RefutationTaken)
+          Checks (on_asked
+          (refutation_asked (row_tree (picture_table first) 0) (row_tree (picture_table second) 0) e) (Ok Refutation))
       unfolding check_in check_asked
       check_refutation h = let form = rw counted at other in rw (form, h)
 
-      pub check_neither : refutation_form limits e ≡ false → Checks (Refused (refusal_by 16))
+      pub check_neither : refutation_form limits e ≡ false → Checks (Err (refusal_by 16))
       unfolding check_in check_asked
       check_neither h = let form = rw counted at other in rw (form, h)
 
@@ -93,7 +93,7 @@ module _ (first second e : List ℕ) where
 module _ (limits : Limits) (first second e : List ℕ) (bounded : Bounded limits)
     (pair : Acceptable limits first second) where
   check_evidence : check_in limits (normal_file limits first) (normal_file limits second) e
-      ≡ on_asked Refused (evidence_asked limits first second e) (evidence_kind limits second e)
+      ≡ on_asked (evidence_asked limits first second e) (Ok (evidence_kind limits second e))
   unfolding check_in evidence_asked check_asked
   check_evidence =
       rw (refutation_asked_same (row_tree (picture_table (normal_file limits first)) 0)
@@ -103,16 +103,16 @@ module _ (limits : Limits) (first second e : List ℕ) (bounded : Bounded limits
 
 pub tables_check : {limits : Limits} {first second s t : List ℕ} {pair : Pair} → Bounded limits →
     NormalTables limits first second pair s t → (e : List ℕ) →
-    check_in limits s t e ≡ on_asked Refused (evidence_asked limits first second e) (evidence_kind limits second e)
+    check_in limits s t e ≡ on_asked (evidence_asked limits first second e) (Ok (evidence_kind limits second e))
 tables_check {limits} {first} {second} bounded tables e =
     on_tables tables
-    (λ s t. check_in limits s t e ≡ on_asked Refused (evidence_asked limits first second e) (evidence_kind limits second e))
+    (λ s t. check_in limits s t e ≡ on_asked (evidence_asked limits first second e) (Ok (evidence_kind limits second e)))
     (check_evidence limits first second e bounded tables.accepted)
 
 -- ---- the call by its tests
 
 module _ (limits : Limits) (bounded : Bounded limits) (tbox first second e work : List ℕ) where
-  abbrev pub Gives : Verified → List ℕ → Type 0
+  abbrev pub Gives : Result Taken Refusal → List ℕ → Type 0
   Gives answer space =
       (answer ≡ verify_under limits tbox first second e (length work))
       × (space ≡ verify_work_under limits tbox first second work)
@@ -127,7 +127,7 @@ module _ (limits : Limits) (bounded : Bounded limits) (tbox first second e work 
   pub prepared_call : (b : Bool) → b ≡ leb (work_size limits) (length work) →
       (a : Asked) → pair_asked_under limits tbox b first second ≡ a → (space : List ℕ) →
       space ≡ work_under limits tbox first second b work →
-      Gives (on_asked Refused (and_then a (evidence_asked limits u v e)) (evidence_kind limits v e)) space
+      Gives (on_asked (and_then a (evidence_asked limits u v e)) (Ok (evidence_kind limits v e))) space
   prepared_call b room a is space written =
       let asks : pair_asked_under limits tbox (leb (work_size limits) (length work)) first second ≡ a =
       ap (λ q. pair_asked_under limits tbox q first second) (sym room) ∙ is in (

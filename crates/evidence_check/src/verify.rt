@@ -4,8 +4,9 @@ ghost use Rattle.table.specs.Bounds.{Bounded};
 ghost use Rattle.under.specs.Calls.{verify_under, verify_work_under};
 
 use crate::check::check;
-use evidence::check::Verified;
-use prepare_pair::prepare::{Prepared, half_size, prepare};
+use evidence::check::Taken;
+use picture::answer::Refusal;
+use prepare_pair::prepare::{half_size, prepare};
 use prepare_pair::tables::{first_table, second_table};
 use table::layout::Limits;
 
@@ -17,7 +18,7 @@ pub fn verify(
     evidence: &[u8],
     limits: Limits,
     work: &mut [u8],
-) -> Verified
+) -> Result<Taken, Refusal>
     requires { Bounded limits }
     ensures { (result ≡ verify_under limits tbox.now first.now second.now
         evidence.now (length work.old))
@@ -26,12 +27,8 @@ pub fn verify(
 {
     let half = half_size(limits);
     let enough = half + half <= work.len();
-    match prepare(tbox, first, second, limits, enough, work) {
-        Prepared::Tables(pair) => {
-            let low = first_table(work, pair);
-            let high = second_table(work, limits, pair);
-            check(low, pair.first, high, pair.second, limits, evidence)
-        }
-        Prepared::Refused(refusal) => Verified::Refused(refusal),
-    }
+    let pair = prepare(tbox, first, second, limits, enough, work)?;
+    let low = first_table(work, pair);
+    let high = second_table(work, limits, pair);
+    check(low, pair.first, high, pair.second, limits, evidence)
 }

@@ -10,7 +10,7 @@ use lib.ListN.{drop, get_or, length, length-set, set, take}
 use lib.Seq.{get_or-set_other, get_or-set_same}
 use mathlib.Core.Bool.{Bool, ◌&&◌, false, true}
 use mathlib.Core.List.{List}
-use mathlib.Core.Path.{◌∙◌, ◌≡◌, ap, sym}
+use mathlib.Core.Path.{◌∙◌, ◌≡◌, ap, subst, sym}
 use native.Mathlib.Decide.{ℕ_discrete}
 use native.Mathlib.Omega.{arith}
 use Rattle.table.proofs.Tests.{and_none}
@@ -117,8 +117,10 @@ module _ (tag : ℕ) (file places : List ℕ) where
     pub scan_stop : field_with tag file at ≡ false → Placed tag file (record { places = places; count = k })
     scan_stop is = kept (count_is tag file k scanned.most scanned.fields (λ l. here false is))
 
-    pub scan_full : most_fields ≤ k → Placed tag file (record { places = places; count = k })
-    scan_full full = kept (count_is tag file k scanned.most scanned.fields (λ l. absurd (omega arith)))
+    pub scan_full : k ≡ most_fields → Placed tag file (record { places = places; count = most_fields })
+    scan_full full =
+        subst (λ (n : ℕ). Placed tag file (record { places = places; count = n })) full
+        (kept (count_is tag file k scanned.most scanned.fields (λ l. absurd (omega (arith, full)))))
 
 -- ---- a value as a part of the file
 

@@ -1,5 +1,5 @@
 // The places of a book's fields, found by one scan; the book's form; a field's value.
-ghost use Rattle.std.specs.Prelude.{◌≡◌, true, ℕ, ◌<◌, ◌≤◌, eqb, length};
+ghost use Rattle.std.specs.Prelude.{◌≡◌, ℕ, ◌<◌, ◌≤◌, eqb, length};
 ghost use Rattle.fields.specs.Form.{field_count, field_value, field_with, fields_form, place_after};
 ghost use Rattle.field_places.specs.Places.{Located, Placed, tag_of};
 
@@ -17,33 +17,35 @@ pub const MAX_FIELDS: usize = 32;
 pub const PLACES: usize = MAX_FIELDS + 1;
 
 // Which book is read: it says the tag of its fields.
-#[derive(Clone, Copy)]
+#[derive(Clone, Copy, PartialEq, Eq, Debug)]
 pub enum BookKind {
     Cards,
     Definitions,
 }
 
+impl BookKind {
+    // Whether a tag is that of its fields.
+    fn has_tag(self, tag: u8) -> bool
+        ensures { result ≡ eqb tag (tag_of self) }
+    {
+        match self {
+            BookKind::Cards => match tag {
+                CARD_TAG => true,
+                0..=0x50 | 0x52..=0xFF => false,
+            },
+            BookKind::Definitions => match tag {
+                DEFINITION_TAG => true,
+                0..=0x60 | 0x62..=0xFF => false,
+            },
+        }
+    }
+}
+
 // The fields of a book: their places, and how many there are. It goes from call to call by value.
-#[derive(Clone, Copy)]
+#[derive(Clone, Copy, PartialEq, Eq, Debug)]
 pub struct Fields {
     pub places: [usize; PLACES],
     pub count: usize,
-}
-
-// Whether a tag is that of a book's fields.
-fn has_tag(kind: BookKind, tag: u8) -> bool
-    ensures { result ≡ eqb tag (tag_of kind) }
-{
-    match kind {
-        BookKind::Cards => match tag {
-            CARD_TAG => true,
-            0..=0x50 | 0x52..=0xFF => false,
-        },
-        BookKind::Definitions => match tag {
-            DEFINITION_TAG => true,
-            0..=0x60 | 0x62..=0xFF => false,
-        },
-    }
 }
 
 // Whether a whole field with the book's tag stands at a place.
@@ -55,11 +57,7 @@ fn field_with(file: &[u8], kind: BookKind, at: usize) -> bool
     if left < HEAD_SIZE {
         return false;
     }
-    let tag = file[at];
-    if !has_tag(kind, tag) {
-        return false;
-    }
-    load16(file, at + LENGTH_AT) as usize <= left - HEAD_SIZE
+    kind.has_tag(file[at]) && load16(file, at + LENGTH_AT) as usize <= left - HEAD_SIZE
 }
 
 // Where the field after a whole one begins.
@@ -74,18 +72,19 @@ fn next_place(file: &[u8], at: usize) -> usize
 pub fn find_fields(file: &[u8], kind: BookKind) -> Fields
     ensures { Placed (tag_of kind) file.now result }
 {
-    let mut places = [0usize; PLACES];
-    let mut k = 0;
+    let mut places = [0; PLACES];
     let mut at = 0;
-    while k < MAX_FIELDS {
+    for k in 0..MAX_FIELDS {
         if !field_with(file, kind, at) {
             return Fields { places, count: k };
         }
         at = next_place(file, at);
-        k += 1;
-        places[k] = at;
+        places[k + 1] = at;
     }
-    Fields { places, count: k }
+    Fields {
+        places,
+        count: MAX_FIELDS,
+    }
 }
 
 // Whether the end field stands after the fields, and the file stops there.

@@ -4,3 +4,4 @@ pub mod Walks
 pub mod Searches
 pub mod Traces
 pub mod NormalMaps
+pub mod Served

@@ -1,5 +1,6 @@
 -- The search by what the code reads: s is the first table, t the second.
 --   checked_has                                  a row of a table is there
+--   checked_edge                                 and one that hangs is of one of two kinds
 --   edge_bytes                                   the same edge, by the bytes of kinds and roles
 --   row_marked, row_apart, row_leaf, row_deep    the row test: a marked row takes everything; else the label, and then what hangs from the row
 --   takes                                        row v can be the image of row c, if it hangs from the image of its parent
@@ -10,7 +11,7 @@
 --   image_none, image_some                       the two answers to that
 --   unserved_along                               the row that is not served is the first without an image, of those that hang from w
 use Prim.Native.Nat.{◌-◌, ◌<◌, suc, zero, ℕ}
-use borrow.Author.Tests.{eq-eqb, ne_eqb}
+use borrow.Author.Tests.{eq-eqb, eqb-false, eqb-true, ne_eqb}
 use lib.Dec.{T, eqb}
 use mathlib.Core.Bool.{Bool, ◌&&◌, ◌||◌, and_assoc, and-false, false, not, true}
 use mathlib.Core.List.{List, [], ◌∷◌}
@@ -32,11 +33,14 @@ use Rattle.ale.specs.Tree.{Forest, Kind, Tree, any, exists, forAll, same_kind}
 use Rattle.meaning.specs.Meaning.{kind_at, picture_table}
 use Rattle.row_sets.specs.Rows.{Checked}
 use Rattle.picture.specs.Readable.{row_count}
-use Rattle.homomorphism_search.specs.Search.{edge_served, first_failing, forest_at, label_carried, lowest_image, row_maps, same_edge, tree_at, unserved_row}
+use Rattle.homomorphism_search.specs.Search.{EdgeRow, edge_served, first_failing, forest_at, label_carried, lowest_image, row_maps, same_edge, tree_at, unserved_row}
 use Rattle.homomorphism_search.proofs.Walks.{first_failing_is, first_filtered, first_of}
 
 pub checked_has : (t : List ℕ) (rows k : ℕ) → Checked t rows → k < rows → HasRow t k
 checked_has t rows k d l = (omega (arith, d.most), omega (arith, d.whole))
+
+pub checked_edge : {t : List ℕ} {rows k : ℕ} → Checked t rows → (k ≡ 0 → ⊥) → k < rows → EdgeRow t k
+checked_edge {t} {rows} {k} checked z l = record { whole = checked_has t rows k checked l; edge = checked.kinds k z l }
 
 -- ---- edges by their bytes
 
@@ -50,12 +54,17 @@ role_same : (k : Kind) (r s : ℕ) → role_serves picture_signature k r s ≡ e
 role_same exists r s = refl
 role_same forAll r s = refl
 
-pub edge_bytes : (s t : List ℕ) (c v kind kind' : ℕ) →
-    (kind_of s v ≡ kind_exists) ⊎ (kind_of s v ≡ kind_for_all) → (kind_of t c ≡ kind_exists) ⊎ (kind_of t c ≡ kind_for_all) →
+edge_kind : {t : List ℕ} {k : ℕ} → EdgeRow t k → (kind_of t k ≡ kind_exists) ⊎ (kind_of t k ≡ kind_for_all)
+edge_kind {t} {k} row =
+    by_test (eqb (kind_of t k) kind_exists)
+    (λ e. inl (eqb-true (kind_of t k) kind_exists e))
+    (λ e. inr (row.edge (eqb-false (kind_of t k) kind_exists e)))
+
+pub edge_bytes : (s t : List ℕ) (c v kind kind' : ℕ) → EdgeRow s v → EdgeRow t c →
     kind ≡ kind_of s v → kind' ≡ kind_of t c → same_edge s t c v ≡ (eqb kind kind' && eqb (role_of s v) (role_of t c))
 unfolding same_edge
 edge_bytes s t c v kind kind' k l x y =
-    simp (kind_same (kind_of s v) (kind_of t c) k l, role_same (kind_at (kind_of t c)) (role_of s v) (role_of t c), x, y)
+    simp (kind_same (kind_of s v) (kind_of t c) (edge_kind k) (edge_kind l), role_same (kind_at (kind_of t c)) (role_of s v) (role_of t c), x, y)
 
 -- ---- successors as a list of rows
 

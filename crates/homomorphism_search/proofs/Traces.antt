@@ -34,10 +34,10 @@ use Rattle.table.proofs.Bools.{by_test}
 use Rattle.table.specs.Bounds.{max_rows}
 use Rattle.table.specs.Fields.{impossible_of, parent_of}
 use Rattle.row_sets.proofs.LinkLists.{OnChain}
-use Rattle.row_sets.specs.Rows.{Checked}
+use Rattle.row_sets.specs.Rows.{Checked, LinkedTable}
 use Rattle.homomorphism_search.proofs.Walks.{WalkAt, walk_end, walk_found, walk_next, walk_start}
 use Rattle.homomorphism_search.proofs.Searches.{image_none, image_some, lowest_along, no_image, takes, takes_not, takes_other, unserved_along}
-use Rattle.homomorphism_search.specs.Search.{Apart, Climbs, Found, FoundBelow, Hangs, LinkedTable, Missed, MissedBelow, Under, label_carried, lowest_image, row_maps, same_edge, unserved_row}
+use Rattle.homomorphism_search.specs.Search.{Apart, Climbs, Found, FoundBelow, Hangs, Missed, MissedBelow, Under, label_carried, lowest_image, row_maps, same_edge, unserved_row}
 
 abbrev pub Rising : (ℕ → ℕ) → ℕ → Type 0
 Rising parent rows = (j : ℕ) → (j ≡ 0 → ⊥) → j < rows → parent j < j

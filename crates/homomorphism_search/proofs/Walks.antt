@@ -26,8 +26,8 @@ use Rattle.ale.specs.PictureSignature.{picture_signature}
 use Rattle.ale.specs.Rows.{filter_below, filter_from, first_from}
 use Rattle.ale.specs.Table.{ParentsFirst, successor_rows}
 use Rattle.meaning.specs.Meaning.{picture_table}
-use Rattle.homomorphism_search.specs.Search.{LinkedTable, first_failing}
-use Rattle.row_sets.specs.Rows.{Checked}
+use Rattle.homomorphism_search.specs.Search.{first_failing}
+use Rattle.row_sets.specs.Rows.{Checked, LinkedTable}
 
 abbrev pub first_of : (ℕ → Bool) → List ℕ → ℕ → ℕ
 first_of q [] none = none

@@ -1,8 +1,8 @@
 -- What the parts of the search decide, on the tables s (the first) and t (the second), down to a depth. Nobody has to believe these: the theory's
 -- test (ale, Homomorphism: `maps_to`) is what they come to, `rowMaps` of the two roots.
 --   RowLabel           a label of the code is that of row w
---   LinkedTable        a table of so many rows, with its links
 --   tree_at, forest_at   the tree of row i, and what hangs from it as successors
+--   EdgeRow            a row that hangs: its kind is one of two
 --   label_carried       the label of row w of t is within that of row u of s
 --   same_edge           row v of s hangs by the kind of row c of t, and by a role that serves for its role
 --   row_maps            row w's tree maps to row u's tree
@@ -22,10 +22,10 @@
 --   MissedBelow        the same of the rows below u, where no edge serves for row c
 --   Shallow            no row stands deeper than the depth, which so cuts nothing off
 --   Mapped             row 0 maps to row 0, and the images below it were found
-use Rattle.std.specs.Prelude.{◌<◌, suc, zero, ℕ, get_or, length, Bool, ◌&&◌, not, true, List, [], ◌∷◌, ◌≡◌}
-use Rattle.table.specs.Bounds.{max_rows}
-use Rattle.table.specs.Fields.{impossible_of, parent_of}
-use Rattle.table_rows.specs.Links.{Linked}
+use Rattle.std.specs.Prelude.{◌<◌, suc, zero, ℕ, get_or, length, Bool, ◌&&◌, true, List, [], ◌∷◌, ◌≡◌}
+use Rattle.table.specs.Fields.{impossible_of, kind_of, parent_of}
+use Rattle.table.specs.Layout.{kind_exists, kind_for_all}
+use Rattle.table_rows.specs.Rows.{HasRow}
 use Rattle.table.specs.Pick.{pick}
 use Rattle.ale.proofs.Depths.{Ranked}
 use Rattle.ale.specs.Homomorphism.{edge_serves, label_within, maps_to, role_serves}
@@ -37,15 +37,10 @@ use Rattle.ale.specs.Tree.{Forest, Tree, any, same_kind}
 use Rattle.meaning.specs.Meaning.{picture_table}
 use Rattle.picture.specs.Readable.{row_count}
 use Rattle.row_sets.specs.Labels.{LabelIs}
-use Rattle.row_sets.specs.Rows.{Checked}
 use Rattle.row_sets.specs.declared.label.Label.{Label}
 
 abbrev pub RowLabel : List ℕ → ℕ → Label → Type 0
 RowLabel t w label = LabelIs label ((picture_table t).label w)
-
-pub record LinkedTable (t : List ℕ) (rows : ℕ) (links : List ℕ) : Type 0 where
-  pub checked : Checked t rows
-  pub linked : Linked (parent_of t) rows max_rows links
 
 -- the tree of row i, and what hangs from it as successors
 abbrev pub tree_at : List ℕ → ℕ → ℕ → Tree picture_signature
@@ -53,6 +48,11 @@ tree_at t depth i = tree_of picture_signature (picture_table t) depth i
 
 abbrev pub forest_at : List ℕ → ℕ → ℕ → Forest picture_signature
 forest_at t depth i = successors picture_signature (picture_table t) (tree_at t depth) (successor_rows picture_signature (picture_table t) i)
+
+-- a row that stands whole in the table and hangs from another
+pub record EdgeRow (t : List ℕ) (v : ℕ) : Type 0 where
+  pub whole : HasRow t v
+  pub edge : (kind_of t v ≡ kind_exists → ⊥) → kind_of t v ≡ kind_for_all
 
 unfoldable pub label_carried : List ℕ → List ℕ → ℕ → ℕ → Bool
 label_carried s t w u = label_within picture_signature ((picture_table t).label w) ((picture_table s).label u)

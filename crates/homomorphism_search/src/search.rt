@@ -1,22 +1,20 @@
 // The search for a homomorphism. Row test and successor search call each other, and the remaining depth falls at each cycle. Two rows meet at most
 // once, for each hangs from one other only; so the work is bounded by rows times rows. What is found is kept: for each row of the second table its image,
 // for each row of the first the row that no edge served. So the evidence is written without another search.
-ghost use Rattle.std.specs.Prelude.{false, true, ◌≡◌, ℕ, ◌<◌, ◌≤◌, get_or, length};
+ghost use Rattle.std.specs.Prelude.{false, true, ◌≡◌, ℕ, ◌<◌, get_or, IfNone, IfSome, MatchOption};
 ghost use Rattle.table.specs.Bounds.{max_rows};
 ghost use Rattle.table.specs.Fields.{parent_of};
-ghost use Rattle.row_sets.specs.Rows.{Checked};
-ghost use Rattle.homomorphism_search.specs.Search.{Apart, Found, FoundBelow, LinkedTable, Missed, MissedBelow, RowLabel, lowest_image, row_maps, same_edge, unserved_row};
+ghost use Rattle.homomorphism_search.specs.Search.{Apart, EdgeRow, Found, FoundBelow, Missed, MissedBelow, RowLabel, lowest_image, row_maps, same_edge, unserved_row};
 
 use crate::label::{label_at, label_within};
 use row_sets::label::Label;
-use row_sets::rows::LINKS;
+use row_sets::linked::Table;
 use table::layout::MAX_ROWS;
-use table::number::wide;
 use table_rows::row::{impossible, kind, role};
 
 // Whether row v of the first hangs by the kind and role of row c of the second.
-pub fn same_edge(first: &[u8], n: usize, v: usize, second: &[u8], m: usize, c: usize) -> bool
-    requires { (Checked first.now n) × ((Checked second.now m) × (((v < n) × (v ≡ 0 → ⊥)) × ((c < m) × (c ≡ 0 → ⊥)))) }
+pub fn same_edge(first: &[u8], v: usize, second: &[u8], c: usize) -> bool
+    requires { (EdgeRow first.now v) × (EdgeRow second.now c) }
     ensures { result ≡ same_edge first.now second.now c v }
 {
     kind(first, v) == kind(second, c) && role(first, v) == role(second, c)
@@ -24,14 +22,10 @@ pub fn same_edge(first: &[u8], n: usize, v: usize, second: &[u8], m: usize, c: u
 
 // The row test: whether row w, whose label is given, maps to row u. A marked row takes everything. Only `lowest_image` calls it, so it is compiled into the
 // loop there.
-#[cycle(lowest_image_row_maps_unserved)]
-fn row_maps(
-    first: &[u8],
-    n: usize,
-    links: &[u8; LINKS],
-    second: &[u8],
-    m: usize,
-    others: &[u8; LINKS],
+#[cycle(search)]
+fn row_maps<'a>(
+    first: &'a Table<'a>,
+    second: &'a Table<'a>,
     label: Label,
     w: usize,
     u: usize,
@@ -39,134 +33,106 @@ fn row_maps(
     found: &mut [u8; MAX_ROWS],
     missed: &mut [u8; MAX_ROWS],
 ) -> bool
-    requires { (LinkedTable first.now n links.now) × ((LinkedTable second.now m others.now) × ((RowLabel second.now w label) × (((w < m) × (u < n)) × ((length found.old ≡ max_rows) × (length missed.old ≡ max_rows))))) }
-    ensures { (result ≡ row_maps first.now second.now depth w u) × (((Apart (parent_of second.now) w found.old found.new) × (Apart (parent_of first.now) u missed.old missed.new)) × ((result ≡ true → Found first.now second.now found.new depth w u) × (result ≡ false → Missed first.now second.now missed.new depth w u))) }
+    requires { (RowLabel second.now.bytes.now w label) × (w < second.now.rows) × (u < first.now.rows) }
+    ensures is { result ≡ row_maps first.now.bytes.now second.now.bytes.now depth w u }
+    ensures apart { (Apart (parent_of second.now.bytes.now) w found.old found.new)
+        × (Apart (parent_of first.now.bytes.now) u missed.old missed.new) }
+    ensures found { result ≡ true → Found first.now.bytes.now second.now.bytes.now found.new depth w u }
+    ensures missed { result ≡ false → Missed first.now.bytes.now second.now.bytes.now missed.new depth w u }
 {
-    if impossible(first, u) == 1 {
+    if impossible(first.bytes, u) == 1 {
         return true;
     }
-    if !label_within(label, first, u) {
+    if !label_within(label, first.bytes, u) {
         return false;
     }
     if depth == 0 {
         return true;
     }
-    unserved(
-        first,
-        n,
-        links,
-        second,
-        m,
-        others,
-        w,
-        u,
-        depth - 1,
-        found,
-        missed,
-    ) == 0
+    unserved(first, second, w, u, depth - 1, found, missed).is_none()
 }
 
-// The first row that hangs from w and that no edge of u serves; 0 if there is none.
-#[cycle(lowest_image_row_maps_unserved)]
-fn unserved(
-    first: &[u8],
-    n: usize,
-    links: &[u8; LINKS],
-    second: &[u8],
-    m: usize,
-    others: &[u8; LINKS],
+// The first row that hangs from w and that no edge of u serves.
+#[cycle(search)]
+fn unserved<'a>(
+    first: &'a Table<'a>,
+    second: &'a Table<'a>,
     w: usize,
     u: usize,
     depth: usize,
     found: &mut [u8; MAX_ROWS],
     missed: &mut [u8; MAX_ROWS],
-) -> usize
-    requires { (LinkedTable first.now n links.now) × ((LinkedTable second.now m others.now) × (((w < m) × (u < n)) × ((length found.old ≡ max_rows) × (length missed.old ≡ max_rows)))) }
-    ensures { ((result ≡ unserved_row first.now second.now depth w u) × (result < m)) × (((Apart (parent_of second.now) w found.old found.new) × (Apart (parent_of first.now) u missed.old missed.new)) × ((result ≡ 0 → FoundBelow first.now second.now found.new depth w u) × ((result ≡ 0 → ⊥) → (get_or missed.new u 0 ≡ result) × MissedBelow first.now second.now missed.new depth result u))) }
+) -> Option<usize>
+    requires { (w < second.now.rows) × (u < first.now.rows) }
+    ensures row { MatchOption result (unserved_row first.now.bytes.now second.now.bytes.now depth w u ≡ 0)
+        (λ c. (unserved_row first.now.bytes.now second.now.bytes.now depth w u ≡ c) × (c ≡ 0 → ⊥)) }
+    ensures apart { (Apart (parent_of second.now.bytes.now) w found.old found.new)
+        × (Apart (parent_of first.now.bytes.now) u missed.old missed.new) }
+    ensures found { IfNone result (FoundBelow first.now.bytes.now second.now.bytes.now found.new depth w u) }
+    ensures missed { IfSome result (λ c. (get_or missed.new u 0 ≡ c)
+        × MissedBelow first.now.bytes.now second.now.bytes.now missed.new depth c u) }
 {
-    let mut c = wide(others[w]) as usize;
-    while c != 0 {
-        let v = lowest_image(
-            first, n, links, second, m, others, c, u, depth, found, missed,
-        );
-        if v == n {
+    for c in second.below(w) {
+        let Some(v) = lowest_image(first, second, c, u, depth, found, missed) else {
             missed[u] = c as u8;
-            return c;
-        }
+            return Some(c);
+        };
         found[c] = v as u8;
-        c = wide(others[MAX_ROWS + c]) as usize;
     }
-    0
+    None
 }
 
-// The successor search: the lowest row below u that can be the image of row c; n if there is none.
-#[cycle(lowest_image_row_maps_unserved)]
-fn lowest_image(
-    first: &[u8],
-    n: usize,
-    links: &[u8; LINKS],
-    second: &[u8],
-    m: usize,
-    others: &[u8; LINKS],
+// The successor search: the lowest row below u that can be the image of row c.
+#[cycle(search)]
+fn lowest_image<'a>(
+    first: &'a Table<'a>,
+    second: &'a Table<'a>,
     c: usize,
     u: usize,
     depth: usize,
     found: &mut [u8; MAX_ROWS],
     missed: &mut [u8; MAX_ROWS],
-) -> usize
-    requires { (LinkedTable first.now n links.now) × ((LinkedTable second.now m others.now) × ((((c < m) × (c ≡ 0 → ⊥)) × (u < n)) × ((length found.old ≡ max_rows) × (length missed.old ≡ max_rows)))) }
-    ensures { ((result ≡ lowest_image first.now second.now depth c u) × (result ≤ n)) × (((Apart (parent_of second.now) c found.old found.new) × (Apart (parent_of first.now) u missed.old missed.new)) × (((result ≡ n → ⊥) → Found first.now second.now found.new depth c result) × (result ≡ n → MissedBelow first.now second.now missed.new depth c u))) }
+) -> Option<usize>
+    requires { (c < second.now.rows) × (c ≡ 0 → ⊥) × (u < first.now.rows) }
+    ensures row { MatchOption result (lowest_image first.now.bytes.now second.now.bytes.now depth c u ≡ first.now.rows)
+        (λ v. (lowest_image first.now.bytes.now second.now.bytes.now depth c u ≡ v) × (v < first.now.rows)) }
+    ensures apart { (Apart (parent_of second.now.bytes.now) c found.old found.new)
+        × (Apart (parent_of first.now.bytes.now) u missed.old missed.new) }
+    ensures found { IfSome result (λ v. Found first.now.bytes.now second.now.bytes.now found.new depth c v) }
+    ensures missed { IfNone result (MissedBelow first.now.bytes.now second.now.bytes.now missed.new depth c u) }
 {
-    let label = label_at(second, c);
-    let mut v = wide(links[u]) as usize;
-    while v != 0 {
-        if same_edge(first, n, v, second, m, c) {
-            if row_maps(
-                first, n, links, second, m, others, label, c, v, depth, found, missed,
-            ) {
-                return v;
+    let label = label_at(second.bytes, c);
+    for v in first.below(u) {
+        if same_edge(first.bytes, v, second.bytes, c) {
+            if row_maps(first, second, label, c, v, depth, found, missed) {
+                return Some(v);
             }
         }
-        v = wide(links[MAX_ROWS + v]) as usize;
     }
-    n
+    None
 }
 
-// Whether the second table maps to the first, root to root; and what was found.
-pub fn maps(
-    first: &[u8],
-    n: usize,
-    links: &[u8; LINKS],
-    second: &[u8],
-    m: usize,
-    others: &[u8; LINKS],
+// Whether the second table maps to the first, root to root; and what was found. The row test of the roots stands here
+// once more, so that `row_maps` has one caller and is compiled into its loop.
+pub fn maps<'a>(
+    first: &'a Table<'a>,
+    second: &'a Table<'a>,
     depth: usize,
     found: &mut [u8; MAX_ROWS],
     missed: &mut [u8; MAX_ROWS],
 ) -> bool
-    requires { (LinkedTable first.now n links.now) × ((LinkedTable second.now m others.now) × ((length found.old ≡ max_rows) × (length missed.old ≡ max_rows))) }
-    ensures { (result ≡ row_maps first.now second.now depth 0 0) × ((result ≡ true → Found first.now second.now found.new depth 0 0) × (result ≡ false → Missed first.now second.now missed.new depth 0 0)) }
+    ensures is { result ≡ row_maps first.now.bytes.now second.now.bytes.now depth 0 0 }
+    ensures found { result ≡ true → Found first.now.bytes.now second.now.bytes.now found.new depth 0 0 }
+    ensures missed { result ≡ false → Missed first.now.bytes.now second.now.bytes.now missed.new depth 0 0 }
 {
-    if impossible(first, 0) == 1 {
+    if impossible(first.bytes, 0) == 1 {
         return true;
     }
-    if !label_within(label_at(second, 0), first, 0) {
+    if !label_within(label_at(second.bytes, 0), first.bytes, 0) {
         return false;
     }
     if depth == 0 {
         return true;
     }
-    unserved(
-        first,
-        n,
-        links,
-        second,
-        m,
-        others,
-        0,
-        0,
-        depth - 1,
-        found,
-        missed,
-    ) == 0
+    unserved(first, second, 0, 0, depth - 1, found, missed).is_none()
 }

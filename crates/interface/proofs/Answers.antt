@@ -13,6 +13,7 @@ use mathlib.Core.List.{List, [], ◌∷◌}
 use mathlib.Core.Logic.{◌↔◌, ◌⊎◌, inl, inr, ⊎_elim}
 use mathlib.Core.Path.{◌∙◌, ◌≡◌, ap, refl, subst, sym}
 use native.Mathlib.Omega.{arith}
+use Rattle.std.proofs.Common.{Err, Ok, Result}
 use Rattle.table.proofs.Bools.{by_test}
 use Rattle.table.proofs.Puts.{length_zeros}
 use Rattle.table.specs.Bounds.{Bounded, picture_size}
@@ -22,25 +23,20 @@ use Rattle.table.specs.declared.layout.Limits.{Limits}
 use Rattle.picture.proofs.Orders.{EveryRefusal, and_refuses, asked_refuses, from_refuses, read_decides, read_refuses}
 use Rattle.picture.proofs.Readables.{failed_inside, failed_most, failed_number, failed_once, readable_count}
 use Rattle.picture.proofs.Readables.{readable_most}
-use Rattle.picture.specs.Asked.{and_then, asked_from, kept, on_asked, read_asked, reading_asked}
+use Rattle.picture.specs.Asked.{and_then, asked_from, kept, read_asked, reading_asked, Asked, yes}
 use Rattle.picture.specs.Read.{answer_of, answered, reading_of}
 use Rattle.picture.specs.Readable.{FailsAt, row_count}
 use Rattle.picture.specs.Refusal.{refusal, refusal_at, short_buffer, too_many}
-use Rattle.picture.specs.declared.answer.Asked.{Asked}
-use Rattle.picture.specs.declared.answer.Asked.TheVariants.{No, Yes}
 use Rattle.picture.specs.declared.answer.Input.{Input}
 use Rattle.picture.specs.declared.answer.Input.TheVariants.{Book, Buffer, Card, Definition, Definitions, Evidence}
 use Rattle.picture.specs.declared.answer.Input.TheVariants.{First, Second}
 use Rattle.picture.specs.declared.answer.Refusal.{Refusal}
-use Rattle.picture.specs.declared.read.Reading.{Reading}
-use Rattle.picture.specs.declared.read.Reading.TheVariants as reading
 use Rattle.meaning.proofs.Normals.{normal_size}
 use Rattle.meaning.specs.Meaning.{picture_table}
 use Rattle.meaning.specs.NormalTable.{normal_file}
 use Rattle.normal.proofs.Answers.{merged_refuses}
 use Rattle.normal.proofs.Halves.{length_half}
 use Rattle.normal.specs.Call.{merged_asked}
-use Rattle.normal.specs.declared.normalize.Normalized.TheVariants as normalized
 use Rattle.workspace.specs.Lent.{roomy}
 use Rattle.workspace.specs.Prepare.{Acceptable, halves_put, work_size}
 use Rattle.countermodel.proofs.Individuals.{within_most}
@@ -49,7 +45,7 @@ use Rattle.evidence.proofs.Refusals.{evidence_refuses}
 use Rattle.evidence.proofs.Soundness.{forms_apart}
 use Rattle.evidence.specs.Call.{evidence_asked, evidence_kind}
 use Rattle.evidence.specs.Form.{map_form}
-use Rattle.evidence.specs.declared.check.Verified.TheVariants as verified
+use Rattle.evidence.specs.declared.check.Taken.TheVariants as taken
 use Rattle.subsumption.proofs.Writers.{evidence_size_is}
 use Rattle.subsumption.specs.Call.{verdict_answer}
 use Rattle.subsumption.specs.Verdict.{evidence_of, evidence_size, verdict_of}
@@ -57,13 +53,11 @@ use Rattle.subsumption.specs.declared.verdict.Verdict.TheVariants as verdict
 use Rattle.lcs.proofs.Commons.{lcs_size}
 use Rattle.lcs.specs.Call.{large_asked, too_large}
 use Rattle.lcs.specs.Product.{lcs_count, lcs_file}
-use Rattle.lcs.specs.declared.common.Common.TheVariants as common
 use Rattle.fields.proofs.Forms.{count_most}
 use Rattle.book.proofs.Selections.{word_below}
 use Rattle.book.specs.Form.{card_count, card_tag}
 use Rattle.book.specs.Form as form
 use Rattle.book.specs.Selection.{most_specific_cards}
-use Rattle.book.specs.declared.answer.Selected.TheVariants as selected
 use Rattle.definitions.proofs.Questions.{OfDefinitions}
 use Rattle.definitions.specs.Asked.{Picture}
 use Rattle.definitions.specs.Form.{definition_count, definition_file, definition_tag}
@@ -88,8 +82,9 @@ use Rattle.interface.specs.Calls.{LcsGives, MostSpecificGives, NormalizeGives, S
 use Rattle.interface.specs.Calls.{lcs_word, most_specific_word, normalize_word, subsumes_word, validate_word}
 use Rattle.interface.specs.Calls.{verify_word}
 use Rattle.interface.specs.Word.{card_of, common_word, normalized_word, outcome_no, outcome_yes, part_range, read_word}
-use Rattle.interface.specs.Word.{refusal_word, selected_word, value_word, verdict_word, verified_word}
-use Rattle.interface.proofs.Shapes.{Early, Late, OnList, Shape, is_early, is_late, then_yes, word_on}
+use Rattle.interface.specs.Word.{selected_word, value_word, verdict_word, verified_word}
+use Rattle.interface.proofs.Shapes.{Early, Late, OnList, Shape, is_early, is_late, then_yes, word_on, asked_word}
+use Rattle.picture.specs.declared.read.Failure.{Failure}
 use Rattle.interface.proofs.Words.{field_fits}
 
 -- ---- lists
@@ -262,20 +257,20 @@ module _ (c : Call) (bounded : Bounded c.limits) (tbox : List ℕ) (more : List 
 -- a buffer that is not lent
 not_lent : (a : Asked) → [] ≡ kept a (put [] 0 []) []
 unfolding put
-not_lent Yes = refl
-not_lent (No r) = refl
+not_lent (Ok _) = refl
+not_lent (Err r) = refl
 
 -- ---- one picture
 
-validate_word_is : (limits : Limits) (s : List ℕ) → validate_word limits s ≡ on_asked refusal_word (read_asked limits First s)
+validate_word_is : (limits : Limits) (s : List ℕ) → validate_word limits s ≡ asked_word (read_asked limits First s)
     (value_word outcome_yes (row_count s))
 unfolding validate_word answer_of read_asked
 validate_word_is limits s = by (reading_of limits s) refl
   where
-    by : (t : Reading) → reading_of limits s ≡ t →
-        read_word (answered First t) ≡ on_asked refusal_word (reading_asked First t) (value_word outcome_yes (row_count s))
-    by (reading.Rows n) e = ap (value_word outcome_yes) (sym (readable_count limits s (record { rows = n; reads = e })))
-    by (reading.Failed q n) e = refl
+    by : (t : Result ℕ Failure) → reading_of limits s ≡ t →
+        read_word (answered First t) ≡ asked_word (reading_asked First t) (value_word outcome_yes (row_count s))
+    by (Ok n) e = ap (value_word outcome_yes) (sym (readable_count limits s (record { rows = n; reads = e })))
+    by (Err at) e = refl
 
 pub validate_shape : (limits : Limits) → Bounded limits → (picture : List ℕ) →
     Shape (validate_call limits picture) (buffers [] []) (buffers [] []) (validate_word limits picture) outcome_yes
@@ -283,7 +278,7 @@ validate_shape limits bounded picture =
     let asks = read_asked limits First picture in
     record {
       before = asks;
-      after = Yes;
+      after = yes;
       all = asks;
       asked_all = refl;
       all_is = then_yes asks;
@@ -305,8 +300,8 @@ validate_shape limits bounded picture =
     }
 
 -- the same questions, told otherwise
-yes_same : (a b : Asked) (Y : Type 0) → a ≡ b → (a ≡ Yes) ↔ Y → (b ≡ Yes) ↔ Y
-yes_same a b Y e = subst (λ (q : Asked). (q ≡ Yes) ↔ Y) e
+yes_same : (a b : Asked) (Y : Type 0) → a ≡ b → (a ≡ yes) ↔ Y → (b ≡ yes) ↔ Y
+yes_same a b Y e = subst (λ (q : Asked). (q ≡ yes) ↔ Y) e
 
 pub normalize_shape : (limits : Limits) → Bounded limits → (tbox picture result : List ℕ) (word : ℕ) (left : List ℕ) →
     NormalizeGives limits tbox picture result word left →
@@ -323,7 +318,7 @@ normalize_shape limits bounded tbox picture result word left gives =
     record { file = refl; small = omega arith; listed = given_listed (the First) [] First refl } in
     record {
       before = asks;
-      after = Yes;
+      after = yes;
       all = asks;
       asked_all = refl;
       all_is = then_yes asks;
@@ -350,8 +345,8 @@ normalize_shape limits bounded tbox picture result word left gives =
       in_range = λ (none, long, ok). normal_size limits s ok.few;
       small = λ (none, long, ok). omega (arith, normal_size limits s ok.few, bounded.0);
       word_by = gives.word_is ∙ ap normalized_word (normalize_asked limits bounded tbox picture (length result))
-          ∙ word_on normalized_word normalized.Refused (λ r. refl) asks
-          (normalized.Length (length (normal_file limits s))) _ refl;
+          ∙ word_on normalized_word (λ r. refl) asks
+          (Ok (length (normal_file limits s))) _ refl;
       work_fits = λ e. omega arith;
       work_by = not_lent asks;
       result_fits = λ (none, long, ok). omega (arith, normal_size limits s ok.few);
@@ -407,12 +402,12 @@ after_pair tbox more q input h =
     (past_given (the Second) more input q h)))))))
 
 -- yes or no, and so the word
-verdict_by : (v : Bool) (n : ℕ) → verdict_word (pick v (verdict.Yes n) (verdict.No n))
+verdict_by : (v : Bool) (n : ℕ) → verdict_word (Ok (pick v (verdict.Yes n) (verdict.No n)))
     ≡ value_word (pick v outcome_yes outcome_no) n
 verdict_by true n = refl
 verdict_by false n = refl
 
-kind_by : (b : Bool) → verified_word (pick b verified.MapTaken verified.RefutationTaken)
+kind_by : (b : Bool) → verified_word (Ok (pick b taken.Map taken.Refutation))
     ≡ value_word (pick b outcome_yes outcome_no) 0
 kind_by true = refl
 kind_by false = refl
@@ -426,7 +421,7 @@ module _ (limits : Limits) (bounded : Bounded limits) (tbox first second work re
   q = unfolded_file limits tbox second
 
   pair_decides : (size : ℕ) → (pair_asked_under limits tbox (roomy limits size (length work) (length result)) first second
-      ≡ Yes)
+      ≡ yes)
       ↔ ((work_size limits ≤ length work) × (size ≤ length result) × AcceptableUnder limits tbox first second)
   pair_decides size =
       yes_same _ _ _ (pair_order limits bounded tbox first second (roomy limits size (length work) (length result)))
@@ -448,7 +443,7 @@ module _ (limits : Limits) (bounded : Bounded limits) (tbox first second work re
       λ ok. evidence_size_is limits p q bounded (acceptable_unfolded limits tbox first second bounded ok) in
       record {
         before = asks;
-        after = Yes;
+        after = yes;
         all = asks;
         asked_all = refl;
         all_is = then_yes asks;
@@ -469,7 +464,7 @@ module _ (limits : Limits) (bounded : Bounded limits) (tbox first second work re
         small = λ (enough, long, ok). omega (arith, size ok, within_most limits bounded);
         word_by = gives.word_is
             ∙ ap verdict_word (subsumes_asked_is limits bounded tbox first second (length work) (length result))
-            ∙ word_on verdict_word verdict.Refused (λ r. refl) asks (verdict_answer limits p q) _
+            ∙ word_on verdict_word (λ r. refl) asks (Ok (verdict_answer limits p q)) _
             (verdict_by (verdict_of limits p q) (length (evidence_of limits p q)));
         work_fits = λ e. let (enough, long, ok) = decides.0 e in tables_fit enough ok;
         work_by = gives.work_is ∙ subsumes_work_asked limits bounded tbox first second work (length result);
@@ -507,8 +502,8 @@ module _ (limits : Limits) (bounded : Bounded limits) (tbox first second work re
         small = λ (enough, long, (ok, few)). omega (arith, lcs_size limits p q few, bounded.0);
         word_by = gives.word_is
             ∙ ap common_word (lcs_asked_is limits bounded tbox first second (length work) (length result))
-            ∙ word_on common_word common.Refused (λ r. refl) asks
-            (common.Length (length (lcs_file limits p q))) _ refl;
+            ∙ word_on common_word (λ r. refl) asks
+            (Ok (length (lcs_file limits p q))) _ refl;
         work_fits = λ e. let (enough, long, ok) = (pair_decides (picture_size limits)).0 e in tables_fit enough ok;
         work_by = gives.work_is ∙ lcs_work_asked limits bounded tbox first second work (length result);
         result_fits = λ (enough, long, (ok, few)). omega (arith, lcs_size limits p q few);
@@ -560,7 +555,7 @@ module _ (limits : Limits) (bounded : Bounded limits) (tbox first second evidenc
         small = λ p. omega arith;
         word_by = gives.word_is
             ∙ ap verified_word (verify_asked_is limits bounded tbox first second evidence (length work))
-            ∙ word_on verified_word verified.Refused (λ r. refl) asks (evidence_kind limits v evidence) _
+            ∙ word_on verified_word (λ r. refl) asks (Ok (evidence_kind limits v evidence)) _
             (kind_by (map_form rows evidence));
         work_fits = λ e.
             let (enough, ok) = lent.0 e in
@@ -644,7 +639,7 @@ module _ (limits : Limits) (bounded : Bounded limits) (tbox case book work : Lis
       let below = word_below limits s b in
       record {
         before = asks;
-        after = Yes;
+        after = yes;
         all = asks;
         asked_all = refl;
         all_is = then_yes asks;
@@ -659,8 +654,8 @@ module _ (limits : Limits) (bounded : Bounded limits) (tbox case book work : Lis
         small = λ p. omega (arith, below);
         word_by = gives.word_is
             ∙ ap selected_word (most_specific_asked_is limits bounded tbox case book (length work))
-            ∙ word_on selected_word selected.Refused (λ r. refl) asks
-            (selected.Cards (most_specific_cards limits s b)) _ refl;
+            ∙ word_on selected_word (λ r. refl) asks
+            (Ok (most_specific_cards limits s b)) _ refl;
         work_fits = λ e. let (enough, acceptable) = decides.0 e in omega
             (arith, enough, length_zeros (work_size limits));
         work_by = gives.buffer_is ∙ most_specific_work_asked limits bounded tbox case book work;

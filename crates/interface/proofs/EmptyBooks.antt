@@ -12,17 +12,16 @@ use mathlib.Core.List.{List, [], ◌∷◌}
 use mathlib.Core.Logic.{◌↔◌, ⊎_elim}
 use mathlib.Core.Path.{◌≡◌, ap, refl}
 use native.Mathlib.Omega.{arith}
+use Rattle.std.proofs.Common.{Err, Ok}
 use Rattle.table.specs.Bounds.{Bounded, picture_size}
 use Rattle.table.specs.Fields.{end_bytes}
 use Rattle.table.specs.declared.layout.Limits.{Limits}
 use Rattle.picture.proofs.Orders.{EveryRefusal, and_refuses, asked_refuses, from_refuses, from_yes, read_decides}
 use Rattle.picture.proofs.Orders.{read_refuses, refuses_no}
 use Rattle.picture.proofs.Readables.{failed_number}
-use Rattle.picture.specs.Asked.{and_then, asked_from, read_asked, room_asked}
+use Rattle.picture.specs.Asked.{and_then, asked_from, read_asked, room_asked, Asked, yes}
 use Rattle.picture.specs.Readable.{Readable}
 use Rattle.picture.specs.Refusal.{short_buffer}
-use Rattle.picture.specs.declared.answer.Asked.{Asked}
-use Rattle.picture.specs.declared.answer.Asked.TheVariants.{No, Yes}
 use Rattle.picture.specs.declared.answer.Input.{Input}
 use Rattle.picture.specs.declared.answer.Input.TheVariants.{Card, First, Second}
 use Rattle.picture.specs.declared.answer.Refusal.{Refusal}
@@ -117,10 +116,10 @@ module _ (limits : Limits) where
       (few_below Second q))
 
   -- a question after those that are answered yes
-  when_below : (a b : Asked) → EveryRefusal Below a → (a ≡ Yes → EveryRefusal Below b) →
+  when_below : (a b : Asked) → EveryRefusal Below a → (a ≡ yes → EveryRefusal Below b) →
       EveryRefusal Below (and_then a b)
-  when_below Yes b h after = after refl
-  when_below (No r) b h after = h
+  when_below (Ok _) b h after = after refl
+  when_below (Err r) b h after = h
 
   book_below : (case book : List ℕ) (room : ℕ) → EveryRefusal Below (book_before limits end_bytes case book room)
   unfolding book_before
@@ -132,8 +131,8 @@ module _ (limits : Limits) where
       (from_refuses Below (card_read limits book) (card_count book) 0 (λ k a b. read_below (Card k) (card book k)))
       (λ reads. rw (nothing read reads) tt))))
     where
-      nothing : read_asked limits First case ≡ Yes → asked_from (card_read limits book) (card_count book) 0 ≡ Yes →
-          definitions_asked limits end_bytes (case_and_cards case book) ≡ Yes
+      nothing : read_asked limits First case ≡ yes → asked_from (card_read limits book) (card_count book) 0 ≡ yes →
+          definitions_asked limits end_bytes (case_and_cards case book) ≡ yes
       nothing read reads =
           empty_asked end_bytes end_count end_form limits (case_and_cards case book) (
             (read_decides limits First case).yes.0 read,

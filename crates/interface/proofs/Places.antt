@@ -13,13 +13,12 @@ use mathlib.Core.List.{List}
 use mathlib.Core.Logic.{inl, inr}
 use mathlib.Core.Path.{◌∙◌, ◌≡◌, ap, refl}
 use native.Mathlib.Omega.{arith}
+use Rattle.std.proofs.Common.{Err}
 use Rattle.table.specs.Bounds.{Bounded, picture_size}
 use Rattle.table.specs.declared.layout.Limits.{Limits}
 use Rattle.picture.proofs.Orders.{read_decides}
-use Rattle.picture.specs.Asked.{and_then, asked_from}
+use Rattle.picture.specs.Asked.{and_then, asked_from, Asked, yes}
 use Rattle.picture.specs.Refusal.{refusal_at}
-use Rattle.picture.specs.declared.answer.Asked.{Asked}
-use Rattle.picture.specs.declared.answer.Asked.TheVariants.{No, Yes}
 use Rattle.picture.specs.declared.answer.Input.TheVariants.{Card, First, Second}
 use Rattle.picture.specs.declared.answer.Refusal.{Refusal}
 use Rattle.normal.specs.Call.{merged_asked}
@@ -50,7 +49,7 @@ definitions_at limits tbox given word told = record { asked_at = told }
 
 module _ (limits : Limits) (tbox first second : List ℕ) (enough : Bool) (after : Asked) (word : ℕ)
     (long : enough ≡ true)
-    (told : (r : Refusal) → and_then (pair_asked_under limits tbox enough first second) after ≡ No r →
+    (told : (r : Refusal) → and_then (pair_asked_under limits tbox enough first second) after ≡ Err r →
     word ≡ refusal_word r) where
   -- the first no before the first 14 is that of all
   refused_by : (r : Refusal) → UnderNo limits tbox (pair first second) r → word ≡ refusal_word r
@@ -99,7 +98,7 @@ module _ (limits : Limits) (bounded : Bounded limits) where
     normalize_definitions = λ tbox picture result long readable.
         definitions_at limits tbox (one picture) _ (λ r h. one_at tbox picture result long r (inr ((readable, tt), h)));
     subsumes = λ tbox first second work result (enough, long).
-        pair_at limits tbox first second (roomy limits (evidence_size limits) (length work) (length result)) Yes _
+        pair_at limits tbox first second (roomy limits (evidence_size limits) (length work) (length result)) yes _
         (room_yes limits (evidence_size limits) (length work) (length result) enough long)
         (λ r e. refusal_shown _ _ _ _
         (shape_answers _ _ _ _ _

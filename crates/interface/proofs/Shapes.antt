@@ -2,6 +2,7 @@
 -- those that leave everything as it was lent and then those that leave the work space as a success does, and what is
 -- written.
 --   then_yes                       nothing asked after a question
+--   asked_word                     a word where all is answered yes, else the refusal's
 --   word_on                        the word of an answer, by its questions
 --   OnList                         a refusal that is on the call's list, fits the word, and has its place or none
 --   Early, Late                    such a refusal: 1 to 14 or 24; 15 to 23
@@ -20,25 +21,29 @@ use mathlib.Core.List.{List, []}
 use mathlib.Core.Logic.{◌↔◌, ◌⊎◌, inl, inr, ⊎_elim}
 use mathlib.Core.Path.{◌∙◌, ◌≡◌, ap, refl, subst, sym}
 use native.Mathlib.Omega.{arith}
+use Rattle.std.proofs.Common.{Err, Ok, Result}
 use Rattle.table.proofs.Puts.{length_put, put_after}
 use Rattle.table.specs.Put.{put}
 use Rattle.picture.proofs.Orders.{EveryRefusal, refuses_no}
-use Rattle.picture.specs.Asked.{and_then, kept, on_asked}
-use Rattle.picture.specs.declared.answer.Asked.{Asked}
-use Rattle.picture.specs.declared.answer.Asked.TheVariants.{No, Yes}
+use Rattle.picture.specs.Asked.{and_then, kept, on_asked, Asked, yes}
 use Rattle.picture.specs.declared.answer.Refusal.{Refusal}
 use Rattle.interface.specs.Answers.{Answers, Buffers, Call, Filled, GivesResult, Leaves, Listed, Passes, Placed, refusal_bytes}
 use Rattle.interface.specs.Word.{outcome, refusal_word, value_range, value_word}
 use Rattle.interface.proofs.Words.{Fits, refusal_byte, refusal_card, refusal_input, refusal_outcome, refusal_question, refusal_row, value_outcome, value_value}
 
-pub then_yes : (a : Asked) → a ≡ and_then a Yes
-then_yes Yes = refl
-then_yes (No r) = refl
+pub then_yes : (a : Asked) → a ≡ and_then a yes
+then_yes (Ok _) = refl
+then_yes (Err r) = refl
 
-pub word_on : {A : Type 0} (word_of : A → ℕ) (no : Refusal → A) → ((r : Refusal) → word_of (no r) ≡ refusal_word r) →
-    (a : Asked) (value : A) (word : ℕ) → word_of value ≡ word → word_of (on_asked no a value) ≡ on_asked refusal_word a word
-word_on word_of none same Yes value word e = e
-word_on word_of none same (No r) value word e = same r
+abbrev pub asked_word : Asked → ℕ → ℕ
+asked_word (Ok _) word = word
+asked_word (Err r) word = refusal_word r
+
+pub word_on : {A : Type 0} (word_of : Result A Refusal → ℕ) → ((r : Refusal) → word_of (Err r) ≡ refusal_word r) →
+    (a : Asked) (answer : Result A Refusal) (word : ℕ) → word_of answer ≡ word →
+    word_of (on_asked a answer) ≡ asked_word a word
+word_on word_of same (Ok _) answer word e = e
+word_on word_of same (Err r) answer word e = same r
 
 -- ---- refusals
 
@@ -87,14 +92,14 @@ pub record Shape (c : Call) (lent left : Buffers) (word o : ℕ) : Type 0 where
   pub all_is : all ≡ and_then before after
   pub early : EveryRefusal (Early c) before
   pub late : EveryRefusal (Late c) after
-  pub passes : (all ≡ Yes) ↔ Passes c lent
+  pub passes : (all ≡ yes) ↔ Passes c lent
   -- its result
   pub outcome_is : Passes c lent → c.Outcome o
   pub in_range : Passes c lent → c.given ≤ c.most
   pub small : Passes c lent → c.given < value_range
-  pub word_by : word ≡ on_asked refusal_word all (value_word o c.given)
+  pub word_by : word ≡ asked_word all (value_word o c.given)
   -- its buffers
-  pub work_fits : before ≡ Yes → length c.bytes.work ≤ length lent.work
+  pub work_fits : before ≡ yes → length c.bytes.work ≤ length lent.work
   pub work_by : left.work ≡ kept before (put lent.work 0 c.bytes.work) lent.work
   pub result_fits : Passes c lent → length c.bytes.result ≤ length lent.result
   pub result_by : left.result ≡ kept all (put lent.result 0 c.bytes.result) lent.result
@@ -106,21 +111,21 @@ module _ (c : Call) (lent left : Buffers) (word o : ℕ) (s : Shape c lent left 
       × (left.result ≡ put lent.result 0 c.bytes.result)
   shape_given p =
       let e = s.passes.1 p in (
-        s.word_by ∙ ap (λ a. on_asked refusal_word a (value_word o c.given)) e,
+        s.word_by ∙ ap (λ a. asked_word a (value_word o c.given)) e,
         s.work_by ∙ ap (λ a. kept a (put lent.work 0 c.bytes.work) lent.work)
             (first s.before s.after (sym s.all_is ∙ e)),
         s.result_by ∙ ap (λ a. kept a (put lent.result 0 c.bytes.result) lent.result) e,
       )
     where
-      first : (a b : Asked) → and_then a b ≡ Yes → a ≡ Yes
-      first Yes b e = refl
-      first (No r) b e = e
+      first : (a b : Asked) → and_then a b ≡ yes → a ≡ yes
+      first (Ok _) b e = refl
+      first (Err r) b e = e
 
   -- the first no, which is `all`'s
-  refuses : (r : Refusal) → s.all ≡ No r → OnList c r → Leaves lent (refusal_bytes r.number c.bytes) left →
+  refuses : (r : Refusal) → s.all ≡ Err r → OnList c r → Leaves lent (refusal_bytes r.number c.bytes) left →
       Answers c lent left word
   refuses r e on leaves =
-      let told : word ≡ refusal_word r = s.word_by ∙ ap (λ a. on_asked refusal_word a (value_word o c.given)) e in
+      let told : word ≡ refusal_word r = s.word_by ∙ ap (λ a. asked_word a (value_word o c.given)) e in
       inr (record {
         by = r;
         listed = on.listed;
@@ -137,13 +142,13 @@ module _ (c : Call) (lent left : Buffers) (word o : ℕ) (s : Shape c lent left 
         leaves = leaves;
       })
 
-  unwritten : (r : Refusal) → s.all ≡ No r → left.result ≡ lent.result
+  unwritten : (r : Refusal) → s.all ≡ Err r → left.result ≡ lent.result
   unwritten r e = s.result_by ∙ ap (λ a. kept a (put lent.result 0 c.bytes.result) lent.result) e
 
   by_questions : (a b : Asked) → s.before ≡ a → s.after ≡ b → Answers c lent left word
-  by_questions (No r) b e f =
+  by_questions (Err r) b e f =
       let (on, early) = refuses_no (Early c) s.before s.early r e in
-      let is : s.all ≡ No r = s.all_is ∙ ap (λ q. and_then q s.after) e in
+      let is : s.all ≡ Err r = s.all_is ∙ ap (λ q. and_then q s.after) e in
       let same = s.work_by ∙ ap (λ a. kept a (put lent.work 0 c.bytes.work) lent.work) e in
       refuses r is on
       (rw early (record {
@@ -151,16 +156,16 @@ module _ (c : Call) (lent left : Buffers) (word o : ℕ) (s : Shape c lent left 
         result = filled_nothing lent.result
             left.result (unwritten r is);
       }))
-  by_questions Yes (No r) e f =
+  by_questions (Ok _) (Err r) e f =
       let (on, late) = refuses_no (Late c) s.after s.late r f in
-      let is : s.all ≡ No r = s.all_is ∙ ap (λ q. and_then q s.after) e ∙ f in
+      let is : s.all ≡ Err r = s.all_is ∙ ap (λ q. and_then q s.after) e ∙ f in
       let same = s.work_by ∙ ap (λ a. kept a (put lent.work 0 c.bytes.work) lent.work) e in
       refuses r is on
       (rw late (record {
         work = filled_put lent.work c.bytes.work left.work (s.work_fits e) same;
         result = filled_nothing lent.result left.result (unwritten r is);
       }))
-  by_questions Yes Yes e f =
+  by_questions (Ok _) (Ok _) e f =
       let p = s.passes.0 (s.all_is ∙ ap (λ q. and_then q s.after) e ∙ f) in
       let (told, work, result) = shape_given p in
       let shown = value_outcome o c.given (s.small p) in
@@ -191,7 +196,7 @@ module _ (c : Call) (lent left : Buffers) (word : ℕ) (answers : Answers c lent
   result_shown l = ⊎_elim (λ given. given) (λ refused. absurd (omega (arith, l, refused.outcome_is))) answers
 
   -- the first no is what the word says
-  pub refusal_shown : (r : Refusal) → c.asks lent ≡ No r → word ≡ refusal_word r
+  pub refusal_shown : (r : Refusal) → c.asks lent ≡ Err r → word ≡ refusal_word r
   refusal_shown r e =
       ⊎_elim
       (λ given. absurd (let all = given.all_yes in let z : ◌≡◌ {A = ℕ} 0 1 = cc in omega arith))

@@ -8,6 +8,7 @@ use mathlib.Core.Bool.{Bool, false, true}
 use mathlib.Core.List.{List}
 use mathlib.Core.Path.{◌≡◌, subst, sym}
 use native.Mathlib.Omega.{arith}
+use Rattle.std.proofs.Common.{Err, Ok, Result}
 use Rattle.table.specs.Bounds.{Bounded}
 use Rattle.table.specs.Pick.{pick}
 use Rattle.table.specs.declared.layout.Limits.{Limits}
@@ -15,35 +16,31 @@ use Rattle.picture.proofs.Orders.{on_by}
 use Rattle.picture.specs.declared.answer.Refusal.{Refusal}
 use Rattle.meaning.proofs.Normals.{normal_size}
 use Rattle.meaning.specs.NormalTable.{normal_file}
-use Rattle.normal.specs.declared.normalize.Normalized.{Normalized}
-use Rattle.normal.specs.declared.normalize.Normalized.TheVariants as normalized
 use Rattle.countermodel.proofs.Individuals.{within_most}
 use Rattle.subsumption.proofs.Writers.{evidence_size_is}
 use Rattle.subsumption.specs.Call.{verdict_answer}
 use Rattle.subsumption.specs.Verdict.{evidence_of, evidence_size, verdict_of}
-use Rattle.subsumption.specs.declared.verdict.Verdict.{Verdict}
 use Rattle.subsumption.specs.declared.verdict.Verdict.TheVariants as verdict
 use Rattle.lcs.proofs.Commons.{lcs_size}
 use Rattle.lcs.specs.Product.{lcs_file}
-use Rattle.lcs.specs.declared.common.Common.{Common}
-use Rattle.lcs.specs.declared.common.Common.TheVariants as common
 use Rattle.definitions.specs.Unfolded.{unfolded_file}
 use Rattle.under.proofs.Answers.{lcs_yes, one_yes, pair_yes}
 use Rattle.under.proofs.Calls.{lcs_all_is, lcs_all, normalize_all_is, normalize_all, pair_all, subsumes_all_is}
 use Rattle.under.proofs.Givens.{acceptable_unfolded}
 use Rattle.under.specs.Calls.{lcs_under, normalize_under, subsumes_under}
+use Rattle.subsumption.specs.declared.verdict.Verdict.{Verdict}
 use Rattle.interface.specs.Word.{value_range}
 
-abbrev SmallNormal : Normalized → Type 0
-SmallNormal v = (n : ℕ) → v ≡ normalized.Length n → n < value_range
+abbrev SmallNormal : Result ℕ Refusal → Type 0
+SmallNormal v = (n : ℕ) → v ≡ Ok n → n < value_range
 
-abbrev SmallVerdict : Verdict → Type 0
-SmallVerdict v = (n : ℕ) → (v ≡ verdict.Yes n → n < value_range) × (v ≡ verdict.No n → n < value_range)
+abbrev SmallVerdict : Result Verdict Refusal → Type 0
+SmallVerdict v = (n : ℕ) → (v ≡ Ok (verdict.Yes n) → n < value_range) × (v ≡ Ok (verdict.No n) → n < value_range)
 
-abbrev SmallCommon : Common → Type 0
-SmallCommon v = (n : ℕ) → v ≡ common.Length n → n < value_range
+abbrev SmallCommon : Result ℕ Refusal → Type 0
+SmallCommon v = (n : ℕ) → v ≡ Ok n → n < value_range
 
-either_small : (v : Bool) (m : ℕ) → m < value_range → SmallVerdict (pick v (verdict.Yes m) (verdict.No m))
+either_small : (v : Bool) (m : ℕ) → m < value_range → SmallVerdict (Ok (pick v (verdict.Yes m) (verdict.No m)))
 either_small true m l n = (
   λ e. let is : m ≡ n = cc in omega arith,
   λ e. absurd
@@ -55,7 +52,7 @@ either_small false m l n = (
       ≡ n = cc in omega arith,
 )
 
-refused_small : (r : Refusal) → SmallVerdict (verdict.Refused r)
+refused_small : (r : Refusal) → SmallVerdict (Err r)
 refused_small r n = (
   λ e. absurd (let z : ◌≡◌ {A = ℕ} 0 1 = cc in omega arith),
   λ e. absurd
@@ -67,7 +64,7 @@ pub normal_small : (limits : Limits) → Bounded limits → (tbox picture : List
 normal_small limits bounded tbox picture room =
     let s = unfolded_file limits tbox picture in
     subst SmallNormal (sym (normalize_all_is limits tbox picture room))
-    (on_by normalized.Refused (normalized.Length (length (normal_file limits s))) SmallNormal
+    (on_by (Ok (length (normal_file limits s))) SmallNormal
     (normalize_all limits tbox picture room)
     (λ all n e.
     let (long, ok, few) = (one_yes limits bounded tbox picture room).0 all in
@@ -86,7 +83,7 @@ module _ (limits : Limits) (bounded : Bounded limits) (tbox first second : List 
   unfolding verdict_answer
   verdict_small =
       subst SmallVerdict (sym (subsumes_all_is limits tbox first second work result))
-      (on_by verdict.Refused (verdict_answer limits p q) SmallVerdict
+      (on_by (Ok (verdict_answer limits p q)) SmallVerdict
       (pair_all limits tbox first second (evidence_size limits) work result)
       (λ all.
       let (enough, long, ok) = (pair_yes limits bounded tbox first second (evidence_size limits) work result).0 all in
@@ -98,7 +95,7 @@ module _ (limits : Limits) (bounded : Bounded limits) (tbox first second : List 
   pub common_small : SmallCommon (lcs_under limits tbox first second work result)
   common_small =
       subst SmallCommon (sym (lcs_all_is limits tbox first second work result))
-      (on_by common.Refused (common.Length (length (lcs_file limits p q))) SmallCommon
+      (on_by (Ok (length (lcs_file limits p q))) SmallCommon
       (lcs_all limits tbox first second work result)
       (λ all n e.
       let (enough, long, ok, few) = (lcs_yes limits bounded tbox first second work result).0 all in

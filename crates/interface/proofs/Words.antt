@@ -9,26 +9,22 @@ use mathlib.Core.Path.{◌≡◌, refl}
 use mathlib.Core.List.{List, [], ◌∷◌}
 use Prim.Native.Nat.{ℕ, ◌<◌}
 use native.Mathlib.Omega.{arith}
+use Rattle.std.proofs.Common.{Err, Ok, Result}
 use Rattle.table.specs.Bounds.{Bounded, bench_limits}
 use Rattle.table.specs.declared.layout.Limits.{Limits}
 use Rattle.picture.specs.declared.answer.Input.{Input}
 use Rattle.picture.specs.declared.answer.Input.TheVariants.{Book, Buffer, Card, Definition, Definitions, Evidence, First, Second}
 use Rattle.picture.specs.declared.answer.Refusal.{Refusal}
-use Rattle.picture.specs.declared.answer.Answer.TheVariants as answer
-use Rattle.picture.specs.declared.read.Reading.{Reading}
-use Rattle.picture.specs.declared.read.Reading.TheVariants as reading
 use Rattle.picture.specs.Read.{reading_of, answered, answer_of}
 use Rattle.picture.specs.Readable.{FailsAt, Readable, row_count}
 use Rattle.picture.specs.Refusal.{refusal_at}
-use Rattle.normal.specs.declared.normalize.Normalized.TheVariants as normalized
-use Rattle.evidence.specs.declared.check.Verified.TheVariants as verified
+use Rattle.evidence.specs.declared.check.Taken.TheVariants as taken
 use Rattle.lcs.specs.Call.{too_large}
-use Rattle.lcs.specs.declared.common.Common.TheVariants as common
 use Rattle.book.specs.Call.{no_book}
-use Rattle.book.specs.declared.answer.Selected.TheVariants as selected
 use Rattle.subsumption.specs.declared.verdict.Verdict.TheVariants as verdict
 use Rattle.picture.proofs.Readables.{failed_field, failed_most, failed_number, reading_answer, readable_count}
 use Rattle.interface.specs.Word.{byte, card, card_of, common_word, input, input_code, normalized_word, outcome, outcome_yes, part_range, place_range, question, read_word, refusal_word, refused, refused_at, row, selected_word, value, value_range, value_word, verdict_word, verified_word}
+use Rattle.picture.specs.declared.read.Failure.{Failure}
 use Rattle.interface.specs.Calls.{validate_word}
 
 pub bench_bounded : Bounded bench_limits
@@ -103,16 +99,16 @@ words =
     ∷ refused 25 Definitions
     ∷ refused_at 2 (Definition 31) 0
     ∷ refused 29 (Definition 4)
-    ∷ read_word (answer.Rows 256)
-    ∷ normalized_word (normalized.Length 6147)
-    ∷ verdict_word (verdict.Yes 12)
-    ∷ verdict_word (verdict.No 46595)
-    ∷ common_word (common.Length 6147)
-    ∷ common_word (common.Refused too_large)
-    ∷ verified_word verified.MapTaken
-    ∷ verified_word verified.RefutationTaken
-    ∷ selected_word (selected.Cards 0xFFFFFFFF)
-    ∷ selected_word (selected.Refused no_book)
+    ∷ read_word (Ok 256)
+    ∷ normalized_word (Ok 6147)
+    ∷ verdict_word (Ok (verdict.Yes 12))
+    ∷ verdict_word (Ok (verdict.No 46595))
+    ∷ common_word (Ok 6147)
+    ∷ common_word (Err too_large)
+    ∷ verified_word (Ok taken.Map)
+    ∷ verified_word (Ok taken.Refutation)
+    ∷ selected_word (Ok 0xFFFFFFFF)
+    ∷ selected_word (Err no_book)
     ∷ []
 
 -- in hex each byte is a part: outcome, question, input, card, and four of value; of a refusal two of row, two of byte
@@ -148,10 +144,12 @@ module _ (limits : Limits) (s : List ℕ) where
   unfolding validate_word
   readable_validate r = rw (reading_answer limits s First r.rows r.reads, readable_count limits s r)
 
-  yes_reading : Bounded limits → (r : Reading) → reading_of limits s ≡ r →
+  yes_reading : Bounded limits → (r : Result ℕ Failure) → reading_of limits s ≡ r →
       outcome (read_word (answered First r)) ≡ outcome_yes → Readable limits s
-  yes_reading bounded (reading.Rows n) e h = record { rows = n; reads = e }
-  yes_reading bounded (reading.Failed q n) e h =
+  yes_reading bounded (Ok n) e h = record { rows = n; reads = e }
+  yes_reading bounded (Err at) e h =
+      let q = at.number in
+      let n = at.rows in
       let fits = field_fits limits bounded s First (omega arith) q n ((failed_field limits s q n).0 e) in
       absurd (omega (arith, h, refusal_outcome (refusal_at q First n) fits))
 

@@ -12,16 +12,14 @@
 --   AcceptableOne                           one picture under a definitions book, of which all is answered yes
 --   tables, OutcomeYes, EitherOutcome       both normal tables, each in its half; which outcome a result has
 --   validate_call .. most_specific_call        what is laid down for each call
-use Rattle.std.specs.Prelude.{◌<◌, ◌≤◌, ℕ, leb, get_or, length, take, ◌&&◌, List, [], ◌++◌, ◌∷◌, ◌⊎◌, ◌≡◌}
+use Rattle.std.specs.Prelude.{◌<◌, ◌≤◌, ℕ, leb, get_or, length, take, ◌&&◌, List, [], ◌++◌, ◌∷◌, ◌⊎◌, ◌≡◌, Err}
 use Rattle.table.specs.Bounds.{picture_size}
 use Rattle.table.specs.Layout.{«place»}
 use Rattle.table.specs.Pick.{pick}
 use Rattle.table.specs.Put.{zeros}
 use Rattle.table.specs.declared.layout.Limits.{Limits}
 use Rattle.picture.specs.Readable.{FailsAt, Readable, row_count}
-use Rattle.picture.specs.Asked.{read_asked}
-use Rattle.picture.specs.declared.answer.Asked.{Asked}
-use Rattle.picture.specs.declared.answer.Asked.TheVariants.{No, Yes}
+use Rattle.picture.specs.Asked.{read_asked, Asked, yes}
 use Rattle.picture.specs.declared.answer.Input.{Input}
 use Rattle.picture.specs.declared.answer.Input.TheVariants.{Book, Buffer, Card, Definition, Definitions, Evidence, First, Second}
 use Rattle.picture.specs.declared.answer.Refusal.{Refusal}
@@ -159,7 +157,7 @@ pub record Placed (c : Call) (r : Refusal) : Type 0 where
 module _ (c : Call) (lent left : Buffers) (word : ℕ) where
   pub record GivesResult : Type 0 where
     pub passes : Passes c lent
-    pub all_yes : c.asks lent ≡ Yes
+    pub all_yes : c.asks lent ≡ yes
     pub outcome_is : c.Outcome (outcome word)
     pub value_is : value word ≡ c.given
     pub in_range : c.given ≤ c.most
@@ -170,7 +168,7 @@ module _ (c : Call) (lent left : Buffers) (word : ℕ) where
     pub by : Refusal
     pub listed : Listed c.refusals by.number by.input
     pub fails : Passes c lent → ⊥
-    pub first_no : c.asks lent ≡ No by
+    pub first_no : c.asks lent ≡ Err by
     pub placed : Placed c by
     pub outcome_is : outcome word ≡ 0
     pub question_is : question word ≡ by.number

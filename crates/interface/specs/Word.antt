@@ -13,23 +13,16 @@
 --   outcome, question, input, card,
 --   row, byte, value                        the parts of a word; row and byte are a refusal's, the value an answer's: of
 --                                           other words the header gives 0 for them
+--   number_word                              the word of a number or a refusal
 --   read_word, normalized_word, verdict_word, common_word, verified_word, selected_word   the word of each call's answer
-use Rattle.std.specs.Prelude.{ℕ, ◌%◌, ◌*◌, ◌+◌, ◌/◌, ◌^◌}
+use Rattle.std.specs.Prelude.{ℕ, ◌%◌, ◌*◌, ◌+◌, ◌/◌, ◌^◌, Err, Ok, Result}
 use Rattle.picture.specs.Refusal.{refusal, refusal_at}
 use Rattle.picture.specs.declared.answer.Input.{Input}
 use Rattle.picture.specs.declared.answer.Input.TheVariants.{Book, Buffer, Card, Definition, Definitions, Evidence, First, Second}
 use Rattle.picture.specs.declared.answer.Refusal.{Refusal}
-use Rattle.picture.specs.declared.answer.Answer.{Answer}
-use Rattle.picture.specs.declared.answer.Answer.TheVariants as answer
-use Rattle.normal.specs.declared.normalize.Normalized.{Normalized}
-use Rattle.normal.specs.declared.normalize.Normalized.TheVariants as normalized
-use Rattle.evidence.specs.declared.check.Verified.{Verified}
-use Rattle.evidence.specs.declared.check.Verified.TheVariants as verified
-use Rattle.lcs.specs.declared.common.Common.{Common}
-use Rattle.lcs.specs.declared.common.Common.TheVariants as common
-use Rattle.book.specs.declared.answer.Selected.{Selected}
-use Rattle.book.specs.declared.answer.Selected.TheVariants as selected
+use Rattle.evidence.specs.declared.check.Taken.TheVariants as taken
 use Rattle.subsumption.specs.declared.verdict.Verdict.{Verdict}
+use Rattle.evidence.specs.declared.check.Taken.{Taken}
 use Rattle.subsumption.specs.declared.verdict.Verdict.TheVariants as verdict
 
 abbrev pub outcome_yes : ℕ
@@ -117,34 +110,35 @@ byte w = w % place_range
 abbrev pub value : ℕ → ℕ
 value w = w % value_range
 
+-- a number, or the refusal
+abbrev pub number_word : Result ℕ Refusal → ℕ
+number_word (Ok n) = value_word outcome_yes n
+number_word (Err r) = refusal_word r
+
 -- the plain test: the row count, or the refusal
-abbrev pub read_word : Answer → ℕ
-read_word (answer.Rows n) = value_word outcome_yes n
-read_word (answer.Refused r) = refusal_word r
+abbrev pub read_word : Result ℕ Refusal → ℕ
+read_word = number_word
 
 -- the normal table: its length in bytes, or the refusal
-abbrev pub normalized_word : Normalized → ℕ
-normalized_word (normalized.Length n) = value_word outcome_yes n
-normalized_word (normalized.Refused r) = refusal_word r
+abbrev pub normalized_word : Result ℕ Refusal → ℕ
+normalized_word = number_word
 
 -- the verdict: yes or no, with the length of the evidence in bytes, or the refusal
-abbrev pub verdict_word : Verdict → ℕ
-verdict_word (verdict.Yes n) = value_word outcome_yes n
-verdict_word (verdict.No n) = value_word outcome_no n
-verdict_word (verdict.Refused r) = refusal_word r
+abbrev pub verdict_word : Result Verdict Refusal → ℕ
+verdict_word (Ok (verdict.Yes n)) = value_word outcome_yes n
+verdict_word (Ok (verdict.No n)) = value_word outcome_no n
+verdict_word (Err r) = refusal_word r
 
 -- the common picture: its length in bytes, or the refusal
-abbrev pub common_word : Common → ℕ
-common_word (common.Length n) = value_word outcome_yes n
-common_word (common.Refused r) = refusal_word r
+abbrev pub common_word : Result ℕ Refusal → ℕ
+common_word = number_word
 
 -- the check of evidence: which kind was taken, with value 0, or the refusal
-abbrev pub verified_word : Verified → ℕ
-verified_word verified.MapTaken = value_word outcome_yes 0
-verified_word verified.RefutationTaken = value_word outcome_no 0
-verified_word (verified.Refused r) = refusal_word r
+abbrev pub verified_word : Result Taken Refusal → ℕ
+verified_word (Ok taken.Map) = value_word outcome_yes 0
+verified_word (Ok taken.Refutation) = value_word outcome_no 0
+verified_word (Err r) = refusal_word r
 
 -- the nearest cards: their word, card n as bit n, or the refusal
-abbrev pub selected_word : Selected → ℕ
-selected_word (selected.Cards word) = value_word outcome_yes word
-selected_word (selected.Refused r) = refusal_word r
+abbrev pub selected_word : Result ℕ Refusal → ℕ
+selected_word = number_word

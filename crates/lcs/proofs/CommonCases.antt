@@ -8,6 +8,7 @@ use Prim.Native.Nat.{ℕ}
 use lib.ListN.{replicate}
 use mathlib.Core.List.{List, [], ◌++◌, ◌∷◌}
 use mathlib.Core.Path.{◌≡◌, refl}
+use Rattle.std.proofs.Common.{Err, Ok, Result}
 use Rattle.table.specs.Bounds.{bench_limits}
 use Rattle.table.specs.Fields.{end_bytes, row_of}
 use Rattle.table.specs.Number.{be, be_bytes}
@@ -29,13 +30,12 @@ use Rattle.workspace.specs.Lent.{lent_asked}
 use Rattle.workspace.specs.Prepare.{halves_put, pair_asked}
 use Rattle.lcs.specs.Call.{lcs_answer, lcs_result, lcs_work}
 use Rattle.lcs.specs.Product.{lcs_count, lcs_file, lcs_tree}
-use Rattle.lcs.specs.declared.common.Common.{Common}
-use Rattle.lcs.specs.declared.common.Common.TheVariants.{Length, Refused}
+use Rattle.picture.specs.declared.answer.Refusal.{Refusal}
 use Rattle.lcs.proofs.AgainstShortcuts.{k9_common, k9_first, k9_second, spread}
 
 pub data Case : Type 0 where
-  told : List ℕ → List ℕ → Common → List ℕ → Case
-  asked : Limits → List ℕ → List ℕ → ℕ → ℕ → Common → Case
+  told : List ℕ → List ℕ → Result ℕ Refusal → List ℕ → Case
+  asked : Limits → List ℕ → List ℕ → ℕ → ℕ → Result ℕ Refusal → Case
   wrote : Limits → List ℕ → List ℕ → ℕ → ℕ → List ℕ → Case
   left : Limits → List ℕ → List ℕ → ℕ → ℕ → List ℕ → Case
 
@@ -52,8 +52,8 @@ abbrev pub run_all : List Case → List Case
 run_all [] = []
 run_all (c ∷ cs) = ran c ∷ run_all cs
 
-abbrev refused : ℕ → Input → Common
-refused q input = Refused (refusal q input)
+abbrev refused : ℕ → Input → Result ℕ Refusal
+refused q input = Err (refusal q input)
 
 -- ---- pictures
 
@@ -103,46 +103,46 @@ bad_length = 0x10 ∷ 0 ∷ 20 ∷ []
 abbrev pub cases : List Case
 cases =
     -- K9, K10, K11
-    told k9_first k9_second (Length 75) k9_common
-    ∷ told (all_of 8) (all_of 32) (Length 27) empty
-    ∷ told none_reached (all_of 32) (Length 51) (all_of 32)
+    told k9_first k9_second (Ok 75) k9_common
+    ∷ told (all_of 8) (all_of 32) (Ok 27) empty
+    ∷ told none_reached (all_of 32) (Ok 51) (all_of 32)
     -- the normal tables are intersected, never the raw ones
-    ∷ told spread (one 8) (Length 51) (one 8)
-    ∷ told (one 8) spread (Length 51) (one 8)
+    ∷ told spread (one 8) (Ok 51) (one 8)
+    ∷ told (one 8) spread (Ok 51) (one 8)
     -- wanted with wanted, excluded with excluded; never one with the other
-    ∷ told (names 40 64) (names 32 192) (Length 27) (names 32 64)
-    ∷ told (names 0 40) (names 0 32) (Length 27) (names 0 32)
-    ∷ told (names 8 0) (names 0 8) (Length 27) empty
+    ∷ told (names 40 64) (names 32 192) (Ok 27) (names 32 64)
+    ∷ told (names 0 40) (names 0 32) (Ok 27) (names 0 32)
+    ∷ told (names 8 0) (names 0 8) (Ok 27) empty
     -- a marked side: the root on either side or on both, a root that is broken; the other's whole normal table
-    ∷ told impossible spread (Length 75) spread_normal
-    ∷ told spread impossible (Length 75) spread_normal
-    ∷ told impossible impossible (Length 27) impossible
-    ∷ told (names 8 8) spread (Length 75) spread_normal
+    ∷ told impossible spread (Ok 75) spread_normal
+    ∷ told spread impossible (Ok 75) spread_normal
+    ∷ told impossible impossible (Ok 27) impossible
+    ∷ told (names 8 8) spread (Ok 75) spread_normal
     -- a marked successor on either side or on both: the other's whole subtree, by the pair's kind and role
-    ∷ told none_reached (all_some 2) (Length 75) (all_some 2)
-    ∷ told (all_some 2) none_reached (Length 75) (all_some 2)
-    ∷ told none_reached none_reached (Length 51) none_reached
-    ∷ told none_reached (one 32) (Length 27) empty
+    ∷ told none_reached (all_some 2) (Ok 75) (all_some 2)
+    ∷ told (all_some 2) none_reached (Ok 75) (all_some 2)
+    ∷ told none_reached none_reached (Ok 51) none_reached
+    ∷ told none_reached (one 32) (Ok 27) empty
     -- all with all, some with some, each role with itself; an empty some stays
-    ∷ told (all_of 8) (one 8) (Length 27) empty
-    ∷ told (one 8) (picture (root 0 ∷ some_row 0 9 8 ∷ [])) (Length 27) empty
-    ∷ told (one 8) (one 32) (Length 51) (one 0)
+    ∷ told (all_of 8) (one 8) (Ok 27) empty
+    ∷ told (one 8) (picture (root 0 ∷ some_row 0 9 8 ∷ [])) (Ok 27) empty
+    ∷ told (one 8) (one 32) (Ok 51) (one 0)
     -- by role, all before some, then the first's row and then the second's
-    ∷ told mixed mixed (Length 123) mixed_normal
-    ∷ told (two 40 32) (two 8 32) (Length 123) (picture (root 0 ∷ some_row 0 8 8 ∷ some_row 0 8 32 ∷ some_row 0 8 0 ∷ some_row 0 8 32 ∷ []))
-    ∷ told (two 8 32) (two 40 32) (Length 123) (picture (root 0 ∷ some_row 0 8 8 ∷ some_row 0 8 0 ∷ some_row 0 8 32 ∷ some_row 0 8 32 ∷ []))
+    ∷ told mixed mixed (Ok 123) mixed_normal
+    ∷ told (two 40 32) (two 8 32) (Ok 123) (picture (root 0 ∷ some_row 0 8 8 ∷ some_row 0 8 32 ∷ some_row 0 8 0 ∷ some_row 0 8 32 ∷ []))
+    ∷ told (two 8 32) (two 40 32) (Ok 123) (picture (root 0 ∷ some_row 0 8 8 ∷ some_row 0 8 0 ∷ some_row 0 8 32 ∷ some_row 0 8 32 ∷ []))
     -- depth first, each parent by its number in this table
-    ∷ told (picture (root 0 ∷ some_row 0 8 0 ∷ some_row 0 8 0 ∷ some_row 1 9 2 ∷ some_row 2 9 4 ∷ [])) (some_some 6) (Length 123)
+    ∷ told (picture (root 0 ∷ some_row 0 8 0 ∷ some_row 0 8 0 ∷ some_row 1 9 2 ∷ some_row 2 9 4 ∷ [])) (some_some 6) (Ok 123)
     (picture (root 0 ∷ some_row 0 8 0 ∷ some_row 1 9 2 ∷ some_row 0 8 0 ∷ some_row 3 9 4 ∷ []))
     -- dropping from the leaves up; what hangs from an all keeps it
-    ∷ told (all_all 8) (all_all 32) (Length 27) empty
-    ∷ told (all_some 8) (all_some 32) (Length 75) (all_some 0)
+    ∷ told (all_all 8) (all_all 32) (Ok 27) empty
+    ∷ told (all_some 8) (all_some 32) (Ok 75) (all_some 0)
     -- 1, whichever buffer is short; before the questions about the pictures; longer ones are as good
-    ∷ asked bench_limits empty empty 12294 6147 (Length 27)
+    ∷ asked bench_limits empty empty 12294 6147 (Ok 27)
     ∷ asked bench_limits empty empty 12293 6147 (refused 1 Buffer)
     ∷ asked bench_limits empty empty 12294 6146 (refused 1 Buffer)
     ∷ asked bench_limits empty empty 6147 12294 (refused 1 Buffer)
-    ∷ asked bench_limits empty empty 12295 6148 (Length 27)
+    ∷ asked bench_limits empty empty 12295 6148 (Ok 27)
     ∷ asked bench_limits bad_tag bad_length 12293 6147 (refused 1 Buffer)
     ∷ asked four_rows (two 2 4) (two 2 4) 197 99 (refused 1 Buffer)
     ∷ asked four_rows (two 2 4) (two 2 4) 198 98 (refused 1 Buffer)
@@ -151,8 +151,8 @@ cases =
     ∷ asked bench_limits bad_length bad_tag 12294 6147 (refused 4 First)
     ∷ asked bench_limits empty bad_length 12294 6147 (refused 4 Second)
     -- with the row and the byte of the one that is refused
-    ∷ asked bench_limits (root 0 ++ bad_length) (root 0 ++ (some_row 0 8 0 ++ bad_tag)) 12294 6147 (Refused (refusal_at 4 First 1))
-    ∷ asked bench_limits empty (root 0 ++ (some_row 0 8 0 ++ bad_tag)) 12294 6147 (Refused (refusal_at 3 Second 2))
+    ∷ asked bench_limits (root 0 ++ bad_length) (root 0 ++ (some_row 0 8 0 ++ bad_tag)) 12294 6147 (Err (refusal_at 4 First 1))
+    ∷ asked bench_limits empty (root 0 ++ (some_row 0 8 0 ++ bad_tag)) 12294 6147 (Err (refusal_at 3 Second 2))
     -- 14 of the first, 14 of the second, after both are read; 15 after these, and it names the second
     ∷ asked four_rows grows bad_tag 198 99 (refused 3 Second)
     ∷ asked four_rows bad_tag grows 198 99 (refused 3 First)
@@ -161,10 +161,10 @@ cases =
     ∷ asked four_rows grows grows 198 99 (refused 14 First)
     ∷ asked four_rows (two 2 4) (two 2 4) 198 99 (refused 15 Second)
     -- as many rows as the limit; 15 counts after the dropping, and what is not dropped
-    ∷ asked four_rows (picture (root 0 ∷ some_row 0 8 2 ∷ some_row 0 8 4 ∷ some_row 0 8 8 ∷ [])) (one 2) 198 99 (Length 99)
-    ∷ asked five_rows (two 2 4) (two 2 4) 246 123 (Length 123)
-    ∷ asked five_rows (beside 8) (beside 32) 246 123 (Length 123)
-    ∷ asked five_rows (beside_deep 8) (beside_deep 32) 246 123 (Length 123)
+    ∷ asked four_rows (picture (root 0 ∷ some_row 0 8 2 ∷ some_row 0 8 4 ∷ some_row 0 8 8 ∷ [])) (one 2) 198 99 (Ok 99)
+    ∷ asked five_rows (two 2 4) (two 2 4) 246 123 (Ok 123)
+    ∷ asked five_rows (beside 8) (beside 32) 246 123 (Ok 123)
+    ∷ asked five_rows (beside_deep 8) (beside_deep 32) 246 123 (Ok 123)
     ∷ asked five_rows (beside 8) (beside 40) 246 123 (refused 15 Second)
     -- the result buffer: the common picture, and after it what was there; nothing written where the call refuses
     ∷ wrote one_row (names 40 64) (names 32 192) 54 29 (names 32 64 ++ (255 ∷ 255 ∷ []))

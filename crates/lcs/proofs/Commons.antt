@@ -15,6 +15,7 @@ use lib.ListN.{length}
 use mathlib.Core.List.{List}
 use mathlib.Core.Path.{◌≡◌, subst, sym}
 use native.Mathlib.Omega.{arith}
+use Rattle.std.proofs.Common.{Ok}
 use Rattle.ale.proofs.CommonSubsumers as trees
 use Rattle.ale.proofs.ConceptTrees.{concept_of_over, concept_tree, concept_tree_means, concept_tree_roles_known, picture_singletons}
 use Rattle.ale.proofs.Concepts.{subsumed_concepts, subsumed_means}
@@ -36,7 +37,6 @@ use Rattle.meaning.specs.Meaning.{picture_table, picture_tree}
 use Rattle.meaning.specs.NormalTable.{normal_tree_of}
 use Rattle.picture.specs.Read.{reading_of}
 use Rattle.picture.specs.Readable.{Readable}
-use Rattle.picture.specs.declared.read.Reading.TheVariants.{Rows}
 use Rattle.table.specs.Bounds.{Bounded, picture_size}
 use Rattle.table.specs.Layout.{end_size, number_size, place}
 use Rattle.table.specs.Number.{Bytes}
@@ -96,7 +96,7 @@ module _ (limits : Limits) (first second : List ℕ) where
     lcs_size = omega (arith, lcs_length)
 
     module _ (bounded : Bounded limits) where
-      pub lcs_reads : reading_of limits (lcs_file limits first second) ≡ Rows (lcs_count limits first second)
+      pub lcs_reads : reading_of limits (lcs_file limits first second) ≡ Ok (lcs_count limits first second)
       unfolding lcs_file lcs_count
       lcs_reads = encoded_reads (lcs_tree limits first second) limits bounded few lcs_height lcs_roles
 

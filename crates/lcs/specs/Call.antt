@@ -7,19 +7,16 @@
 --   lcs_work     the work space: both tables once 14 is answered yes for both, whatever 15 says; else nothing written
 --   lcs_result   the result buffer: the common picture from its first byte on where all is answered yes; else nothing
 --               written
-use Rattle.std.specs.Prelude.{ℕ, leb, length, List}
+use Rattle.std.specs.Prelude.{ℕ, leb, length, List, Ok, Result}
 use Rattle.table.specs.Bounds.{picture_size}
 use Rattle.table.specs.Put.{put}
 use Rattle.table.specs.declared.layout.Limits.{Limits}
-use Rattle.picture.specs.Asked.{and_then, asked, kept, on_asked}
+use Rattle.picture.specs.Asked.{and_then, asked, kept, on_asked, Asked}
 use Rattle.picture.specs.Refusal.{refusal}
-use Rattle.picture.specs.declared.answer.Asked.{Asked}
 use Rattle.picture.specs.declared.answer.Input.TheVariants.{Second}
 use Rattle.picture.specs.declared.answer.Refusal.{Refusal}
 use Rattle.workspace.specs.Lent.{lent_asked, pair_work, roomy}
 use Rattle.lcs.specs.Product.{lcs_count, lcs_file}
-use Rattle.lcs.specs.declared.common.Common.{Common}
-use Rattle.lcs.specs.declared.common.Common.TheVariants.{Length, Refused}
 
 abbrev pub too_large : Refusal
 too_large = refusal 15 Second
@@ -34,9 +31,9 @@ abbrev pub lcs_asked : Limits → List ℕ → List ℕ → ℕ → ℕ → Aske
 lcs_asked limits first second work result =
     and_then (lcs_lent limits first second work result) (large_asked limits first second)
 
-unfoldable pub lcs_answer : Limits → List ℕ → List ℕ → ℕ → ℕ → Common
+unfoldable pub lcs_answer : Limits → List ℕ → List ℕ → ℕ → ℕ → Result ℕ Refusal
 lcs_answer limits first second work result =
-    on_asked Refused (lcs_asked limits first second work result) (Length (length (lcs_file limits first second)))
+    on_asked (lcs_asked limits first second work result) (Ok (length (lcs_file limits first second)))
 
 abbrev pub lcs_work : Limits → List ℕ → List ℕ → List ℕ → ℕ → List ℕ
 lcs_work limits first second work result =

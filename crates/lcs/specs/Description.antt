@@ -3,7 +3,7 @@
 --   DescriptionCovers   a concept covers a picture: `Covers` (meaning, specs/Covering) with any concept for the second
 --   LeastCommon         a picture file of n bytes is the least common subsumer of two pictures, with a row for each
 --                       node of the product
-use Rattle.std.specs.Prelude.{◌≤◌, ℕ, length, List, ◌≡◌}
+use Rattle.std.specs.Prelude.{◌≤◌, ℕ, length, List, ◌≡◌, Ok}
 use Rattle.table.specs.Bounds.{picture_size}
 use Rattle.table.specs.Number.{Bytes}
 use Rattle.table.specs.declared.layout.Limits.{Limits}
@@ -11,7 +11,6 @@ use Rattle.ale.specs.Concept.{Concept, ConceptSubsumed, Over, concept_of}
 use Rattle.ale.specs.PictureSignature.{picture_signature}
 use Rattle.picture.specs.Read.{reading_of}
 use Rattle.picture.specs.Readable.{Readable}
-use Rattle.picture.specs.declared.read.Reading.TheVariants.{Rows}
 use Rattle.meaning.specs.Covering.{Covers}
 use Rattle.meaning.specs.Meaning.{picture_tree}
 use Rattle.lcs.specs.Product.{lcs_count}
@@ -23,7 +22,7 @@ DescriptionCovers limits c picture =
 pub record LeastCommon (limits : Limits) (first second : List ℕ) (n : ℕ) (picture : List ℕ) : Type 0 where
   -- it is a picture, of so many bytes, with the rows of the product
   pub readable : Readable limits picture
-  pub rows : reading_of limits picture ≡ Rows (lcs_count limits first second)
+  pub rows : reading_of limits picture ≡ Ok (lcs_count limits first second)
   pub sized : length picture ≡ n
   pub fits : n ≤ picture_size limits
   pub bytes : Bytes picture

@@ -11,6 +11,7 @@ use mathlib.Core.Bool.{Bool}
 use mathlib.Core.List.{List, ◌++◌}
 use mathlib.Core.Path.{◌∙◌, ◌≡◌, ap, subst, sym}
 use native.Mathlib.Omega.{arith}
+use Rattle.std.proofs.Common.{Err, Ok, Result}
 use Rattle.ale.proofs.Encodings.{encode_tree_length}
 use Rattle.ale.specs.Encoding.{encode}
 use Rattle.ale.specs.PictureSignature.{picture_signature}
@@ -22,8 +23,7 @@ use Rattle.meaning.proofs.Normals.{normal_meaning, normal_normal, normal_roles}
 use Rattle.meaning.specs.File.{file_of}
 use Rattle.meaning.specs.NormalTable.{normal_file, normal_tree_of}
 use Rattle.table_rows.specs.Rows.{prefix}
-use Rattle.picture.specs.Asked.{and_then, kept, on_asked}
-use Rattle.picture.specs.declared.answer.Asked.{Asked}
+use Rattle.picture.specs.Asked.{and_then, kept, on_asked, Asked}
 use Rattle.picture.specs.Readable.{Readable}
 use Rattle.table.specs.Bounds.{Bounded, picture_size}
 use Rattle.table.specs.Fields.{end_bytes}
@@ -45,9 +45,8 @@ use Rattle.product_writer.specs.Tables.{Trims, common_file_in, product_at}
 use Rattle.definitions.specs.Unfolded.{unfolded_file}
 use Rattle.under.proofs.Asked.{lcs_asked_is, lcs_result_asked, lcs_work_asked}
 use Rattle.under.specs.Asked.{pair_asked_under}
+use Rattle.picture.specs.declared.answer.Refusal.{Refusal}
 use Rattle.under.specs.Calls.{lcs_result_under, lcs_under, lcs_work_under}
-use Rattle.lcs.specs.declared.common.Common.{Common}
-use Rattle.lcs.specs.declared.common.Common.TheVariants.{Length, Refused}
 
 -- ---- on two tables
 
@@ -59,14 +58,14 @@ module _ (limits : Limits) (s t : List ℕ) (b : Builder) (scratch mid : List �
   file = common_file_in limits s t
 
   pub made_many : (out : List ℕ) → limits.rows < b.rows →
-      (Refused too_large ≡ on_asked Refused (large_in limits s t) (Length (length file)))
+      (Err too_large ≡ on_asked (large_in limits s t) (Ok (length file)))
       × (out ≡ kept (large_in limits s t) (put out 0 file) out)
   unfolding large_in
   made_many out many = let e = lt-leb (size picture_signature made) limits.rows (omega (arith, built.count)) in
       (rw e, rw e)
 
   pub made_few : (n : ℕ) (out end : List ℕ) → b.rows ≤ limits.rows → n ≡ place b.rows end_size → end ≡ put out 0 (prefix b.rows mid ++ end_bytes) →
-      (Length n ≡ on_asked Refused (large_in limits s t) (Length (length file)))
+      (Ok n ≡ on_asked (large_in limits s t) (Ok (length file)))
       × (end ≡ kept (large_in limits s t) (put out 0 file) out)
   unfolding large_in common_file_in
   made_few n out end few long written =
@@ -74,7 +73,7 @@ module _ (limits : Limits) (s t : List ℕ) (b : Builder) (scratch mid : List �
       let yes-is = le-leb (size picture_signature made) limits.rows within in
       let size_is : n ≡ length (file_of (encode picture_signature made)) =
       omega (arith, long, built.count, length_file_of (encode picture_signature made), encode_tree_length picture_signature made 0 exists 0 0) in (
-        rw yes-is (ap Length size_is),
+        rw yes-is (ap Ok size_is),
         rw yes-is (written ∙ ap (λ (x : List ℕ). put out 0 (x ++ end_bytes)) (built.bytes_are within)),
       )
 
@@ -115,7 +114,7 @@ module _ (limits : Limits) (first second : List ℕ) (bounded : Bounded limits) 
 -- ---- the call by its tests
 
 module _ (limits : Limits) (bounded : Bounded limits) (tbox first second work result : List ℕ) where
-  abbrev pub Gives : Common → List ℕ → List ℕ → Type 0
+  abbrev pub Gives : Result ℕ Refusal → List ℕ → List ℕ → Type 0
   Gives answer space buffer =
       (answer ≡ lcs_under limits tbox first second (length work) (length result))
       × ((space ≡ lcs_work_under limits tbox first second work (length result))
@@ -131,7 +130,7 @@ module _ (limits : Limits) (bounded : Bounded limits) (tbox first second work re
   pub prepared_call : (b : Bool) → b ≡ roomy limits (picture_size limits) (length work) (length result) →
       (a : Asked) → pair_asked_under limits tbox b first second ≡ a → (space : List ℕ) →
       space ≡ work_under limits tbox first second b work →
-      Gives (on_asked Refused (and_then a (large_asked limits u v)) (Length (length (lcs_file limits u v)))) space
+      Gives (on_asked (and_then a (large_asked limits u v)) (Ok (length (lcs_file limits u v)))) space
       (kept (and_then a (large_asked limits u v)) (put result 0 (lcs_file limits u v)) result)
   prepared_call b room a is space written =
       let asks : pair_asked_under limits tbox (roomy limits (picture_size limits) (length work) (length result)) first
@@ -153,10 +152,10 @@ module _ {limits : Limits} {first second s t : List ℕ} {pair : Pair} (bounded 
   tables_trims =
       on_tables tables (λ s t. Trims s t limits.depth) (trims limits first second bounded tables.accepted)
 
-  abbrev AnswerOn : Asked → List ℕ → Common
-  AnswerOn a file = on_asked Refused a (Length (length file))
+  abbrev AnswerOn : Asked → List ℕ → Result ℕ Refusal
+  AnswerOn a file = on_asked a (Ok (length file))
 
-  pub tables_common : (r : Common) (out end : List ℕ) → r ≡ AnswerOn (large_in limits s t) (common_file_in limits s t) →
+  pub tables_common : (r : Result ℕ Refusal) (out end : List ℕ) → r ≡ AnswerOn (large_in limits s t) (common_file_in limits s t) →
       end ≡ kept (large_in limits s t) (put out 0 (common_file_in limits s t)) out →
       (r ≡ AnswerOn (large_asked limits first second) (lcs_file limits first second))
       × (end ≡ kept (large_asked limits first second) (put out 0 (lcs_file limits first second)) out)

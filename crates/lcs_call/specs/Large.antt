@@ -4,8 +4,7 @@ use Rattle.std.specs.Prelude.{ℕ, leb, List}
 use Rattle.table.specs.declared.layout.Limits.{Limits}
 use Rattle.ale.specs.PictureSignature.{picture_signature}
 use Rattle.ale.specs.Tree.{size}
-use Rattle.picture.specs.Asked.{asked}
-use Rattle.picture.specs.declared.answer.Asked.{Asked}
+use Rattle.picture.specs.Asked.{asked, Asked}
 use Rattle.lcs.specs.Call.{too_large}
 use Rattle.product_writer.specs.Tables.{product_at}
 

@@ -1,6 +1,6 @@
 // The fourth call: question 1, both pictures, unfolded, into the work space, question 15, and the common picture into
 // the result buffer.
-ghost use Rattle.std.specs.Prelude.{◌≡◌, ℕ, ◌≤◌, length};
+ghost use Rattle.std.specs.Prelude.{Ok, ◌≡◌, ℕ, ◌≤◌, length};
 ghost use Rattle.table.specs.Bounds.{Bounded, picture_size};
 ghost use Rattle.table.specs.Put.{put};
 ghost use Rattle.row_sets.specs.Rows.{Checked};
@@ -9,10 +9,9 @@ ghost use Rattle.under.specs.Calls.{lcs_result_under, lcs_under, lcs_work_under}
 ghost use Rattle.lcs_call.specs.Large.{large_in};
 ghost use Rattle.product_writer.specs.Tables.{Trims, common_file_in};
 
-use lcs::common::Common;
 use normal_writer::write::{SCRATCH, write_table};
-use picture::answer::{Input, refuse};
-use prepare_pair::prepare::{Prepared, half_size, has_room, prepare};
+use picture::answer::{Input, Refusal, refuse};
+use prepare_pair::prepare::{half_size, has_room, prepare};
 use prepare_pair::tables::{first_table, second_table};
 use product_writer::graft::build;
 use table::layout::Limits;
@@ -25,10 +24,10 @@ fn write_common(
     m: usize,
     limits: Limits,
     res: &mut [u8],
-) -> Common
+) -> Result<usize, Refusal>
     requires { (Checked first.now n) × ((Checked second.now m) × ((Trims first.now second.now limits.depth) × ((Bounded limits) × (picture_size limits ≤ length res.old)))) }
-    ensures { (result ≡ on_asked Common.Refused (large_in limits first.now second.now)
-        (Common.Length (length (common_file_in limits first.now second.now))))
+    ensures { (result ≡ on_asked (large_in limits first.now second.now)
+        (Ok (length (common_file_in limits first.now second.now))))
         × (res.new ≡ kept (large_in limits first.now second.now)
         (put res.old 0 (common_file_in limits first.now second.now))
         res.old) }
@@ -36,9 +35,9 @@ fn write_common(
     let mut scratch = [0u8; SCRATCH];
     let table = build(first, n, second, m, limits, &mut scratch);
     if limits.rows < table.rows {
-        return Common::Refused(refuse(15, Input::Second));
+        return Err(refuse(15, Input::Second));
     }
-    Common::Length(write_table(&scratch, table, res))
+    Ok(write_table(&scratch, table, res))
 }
 
 // The call: 1; the pair under the definitions book; 15. Nothing is written before 14 is answered yes for both.
@@ -49,7 +48,7 @@ pub fn lcs(
     limits: Limits,
     work: &mut [u8],
     res: &mut [u8],
-) -> Common
+) -> Result<usize, Refusal>
     requires { Bounded limits }
     ensures { (result ≡ lcs_under limits tbox.now first.now second.now
         (length work.old) (length res.old))
@@ -59,12 +58,8 @@ pub fn lcs(
         (length work.old) res.old)) }
 {
     let enough = has_room(limits, half_size(limits), work.len(), res.len());
-    match prepare(tbox, first, second, limits, enough, work) {
-        Prepared::Tables(pair) => {
-            let low = first_table(work, pair);
-            let high = second_table(work, limits, pair);
-            write_common(low, pair.first, high, pair.second, limits, res)
-        }
-        Prepared::Refused(refusal) => Common::Refused(refusal),
-    }
+    let pair = prepare(tbox, first, second, limits, enough, work)?;
+    let low = first_table(work, pair);
+    let high = second_table(work, limits, pair);
+    write_common(low, pair.first, high, pair.second, limits, res)
 }

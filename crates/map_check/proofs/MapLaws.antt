@@ -17,6 +17,7 @@ use mathlib.Core.Bool.{Bool, and-false, false, true}
 use mathlib.Core.List.{List}
 use mathlib.Core.Path.{◌∙◌, ◌≡◌, refl}
 use native.Mathlib.Omega.{arith}
+use Rattle.std.proofs.Common.{Err}
 use Rattle.ale.specs.PictureSignature.{picture_signature}
 use Rattle.ale.specs.RowMap.{edge_agrees, edge_joins, label_agrees}
 use Rattle.evidence.proofs.Homomorphisms.{row_exactly}
@@ -25,10 +26,8 @@ use Rattle.evidence.specs.Map.{map_asked, refusal_by, row_asked}
 use Rattle.homomorphism.specs.Layout.{image_of, «image_place»}
 use Rattle.homomorphism_search.specs.Search.{label_carried, same_edge}
 use Rattle.meaning.specs.Meaning.{picture_table}
-use Rattle.picture.specs.Asked.{and_then, asked, asked_from}
+use Rattle.picture.specs.Asked.{and_then, asked, asked_from, Asked, yes}
 use Rattle.picture.specs.Readable.{row_count}
-use Rattle.picture.specs.declared.answer.Asked.{Asked}
-use Rattle.picture.specs.declared.answer.Asked.TheVariants.{No, Yes}
 use Rattle.table.proofs.Bools.{both, by_test}
 use Rattle.table.proofs.Rows.{ends_parts}
 use Rattle.table.specs.Fields.{ends_at, impossible_of, parent_of}
@@ -92,10 +91,10 @@ module _ (first second e : List ℕ) (n i v : ℕ) (counted : n ≡ row_count fi
   unfolding row_asked
   row_read label edge labelled edged = rw (labelled, edged, counted, image)
 
-  pub row_outside : n ≤ v → Row (No (refusal_by 17))
+  pub row_outside : n ≤ v → Row (Err (refusal_by 17))
   row_outside l = row_read _ _ refl refl ∙ simp (le-ltb v n l)
 
-  pub row_unrooted : v < n → i ≡ 0 → (v ≡ 0 → ⊥) → Row (No (refusal_by 18))
+  pub row_unrooted : v < n → i ≡ 0 → (v ≡ 0 → ⊥) → Row (Err (refusal_by 18))
   row_unrooted l z d = row_read _ _ refl refl ∙ simp (lt-ltb v n l, eq-eqb i 0 z, ne_eqb v 0 d)
 
   -- 17 and 18 are answered yes
@@ -104,10 +103,10 @@ module _ (first second e : List ℕ) (n i v : ℕ) (counted : n ≡ row_count fi
     rooted : pick (eqb i 0) (eqb v 0) true ≡ true
     rooted = by_test (eqb i 0) (λ z. rw z (eq-eqb v 0 (root (eqb-true i 0 z)))) (λ z. rw z)
 
-    pub row_unlike : label ≡ false → Row (No (refusal_by 19))
+    pub row_unlike : label ≡ false → Row (Err (refusal_by 19))
     row_unlike h = row_read label _ labelled refl ∙ simp (lt-ltb v n inside, rooted, h)
 
-    pub row_first : label ≡ true → i ≡ 0 → Row Yes
+    pub row_first : label ≡ true → i ≡ 0 → Row yes
     row_first h z = row_read label _ labelled refl ∙ simp (lt-ltb v n inside, eq-eqb v 0 (root z), h, eq-eqb i 0 z)
 
     pub row_edge : label ≡ true → (i ≡ 0 → ⊥) → (u : ℕ) → u ≡ image_of e (parent_of second i) →

@@ -13,7 +13,7 @@ use crate::refusal::refusal_by;
 use homomorphism_search::label::{label_at, label_within};
 use homomorphism_search::search::same_edge;
 use map_writer::layout::image;
-use picture::answer::Asked;
+use picture::answer::Refusal;
 use table_rows::row::{impossible, parent};
 
 // 19: the image carries the row's names and its mark, or is marked.
@@ -38,7 +38,7 @@ fn edge_joins(first: &[u8], n: usize, u: usize, v: usize, second: &[u8], m: usiz
     if parent(first, v) != u {
         return false;
     }
-    same_edge(first, n, v, second, m, i)
+    same_edge(first, v, second, i)
 }
 
 // 20: they are so joined, or u is marked and v is u.
@@ -63,45 +63,44 @@ fn edge_agrees(
 }
 
 // 17 to 20 of row i, after the rows before it.
-fn row_asked(first: &[u8], n: usize, second: &[u8], m: usize, e: &[u8], i: usize) -> Asked
+fn row_asked(
+    first: &[u8],
+    n: usize,
+    second: &[u8],
+    m: usize,
+    e: &[u8],
+    i: usize,
+) -> Result<(), Refusal>
     requires { (Checked first.now n) × ((Checked second.now m) × ((map_form m e.now ≡ true) × ((i < m) × ((k : ℕ) → k < i → image_of e.now k < n)))) }
     ensures { result ≡ row_asked (picture_table first.now) (picture_table second.now) (image_of e.now) i }
 {
     let v = image(e, i);
     if n <= v {
-        return Asked::No(refusal_by(17));
+        return Err(refusal_by(17));
     }
     if i == 0 {
         if v != 0 {
-            return Asked::No(refusal_by(18));
+            return Err(refusal_by(18));
         }
     }
     if !label_agrees(first, v, second, i) {
-        return Asked::No(refusal_by(19));
+        return Err(refusal_by(19));
     }
     if i != 0 {
         if !edge_agrees(first, n, image(e, parent(second, i)), v, second, m, i) {
-            return Asked::No(refusal_by(20));
+            return Err(refusal_by(20));
         }
     }
-    Asked::Yes
+    Ok(())
 }
 
 // 17 to 20 of every row, to the first no.
-pub fn map_asked(first: &[u8], n: usize, second: &[u8], m: usize, e: &[u8]) -> Asked
+pub fn map_asked(first: &[u8], n: usize, second: &[u8], m: usize, e: &[u8]) -> Result<(), Refusal>
     requires { (Checked first.now n) × ((Checked second.now m) × (map_form m e.now ≡ true)) }
     ensures { result ≡ map_asked (picture_table first.now) (picture_table second.now) (image_of e.now) }
 {
-    let mut i = 0;
-    while i < m {
-        match row_asked(first, n, second, m, e, i) {
-            Asked::Yes => {
-                i += 1;
-            }
-            Asked::No(refusal) => {
-                return Asked::No(refusal);
-            }
-        }
+    for i in 0..m {
+        row_asked(first, n, second, m, e, i)?;
     }
-    Asked::Yes
+    Ok(())
 }

@@ -10,6 +10,7 @@ use Prim.Native.Nat.{◌<◌, ◌^◌, ◌≤◌, suc, ℕ}
 use lib.ListN.{get_or, length}
 use mathlib.Core.Path.{◌∙◌, ◌≡◌, ap, refl}
 use native.Mathlib.Omega.{arith}
+use Rattle.std.proofs.Common.{Ok}
 use Rattle.ale.proofs.EncodedDepths.{encoded_depth}
 use Rattle.ale.proofs.Encodings.{encode_tree_length, encoded_parents_first, encoded_tree, height_size}
 use Rattle.ale.proofs.RoleLaws.{encoded_known}
@@ -24,7 +25,6 @@ use Rattle.picture.specs.Read.{reading_of}
 use Rattle.table.specs.Bounds.{Bounded}
 use Rattle.table.specs.Layout.{number_size}
 use Rattle.table.specs.declared.layout.Limits.{Limits}
-use Rattle.picture.specs.declared.read.Reading.TheVariants.{Rows}
 use Rattle.meaning.specs.File.{file_of, rows_from}
 use Rattle.meaning.specs.Meaning.{picture_table, picture_tree}
 use Rattle.meaning.proofs.FileReadings.{Writable, file_readable}
@@ -67,9 +67,9 @@ module _ (t : Tree picture_signature) where
   }
 
   pub encoded_reads : (limits : Limits) → Bounded limits → size picture_signature t ≤ limits.rows → height picture_signature t ≤ limits.depth →
-      RolesKnown picture_signature t → reading_of limits (file_of (encode picture_signature t)) ≡ Rows (size picture_signature t)
+      RolesKnown picture_signature t → reading_of limits (file_of (encode picture_signature t)) ≡ Ok (size picture_signature t)
   encoded_reads limits bounded few low known =
-      file_readable limits (encode picture_signature t) bounded (encoded_writable limits few low known) ∙ ap Rows rows_of
+      file_readable limits (encode picture_signature t) bounded (encoded_writable limits few low known) ∙ ap Ok rows_of
 
   module _ (few : size picture_signature t ≤ 256 ^ number_size) where
     encoded_fit : ParentsFit (encode picture_signature t)

@@ -9,6 +9,7 @@ use mathlib.Core.List.{List}
 use mathlib.Core.Logic.{inl, inr}
 use mathlib.Core.Path.{◌≡◌, refl}
 use native.Mathlib.Omega.{arith}
+use Rattle.std.proofs.Common.{Ok}
 use Rattle.ale.specs.Encoding.{Row, table_of}
 use Rattle.ale.specs.PictureSignature.{picture_signature}
 use Rattle.ale.specs.Table.{KnownRoles, ParentsFirst}
@@ -25,7 +26,6 @@ use Rattle.table.specs.Bounds.{Bounded}
 use Rattle.table.specs.Fields.{kind_of, parent_of, role_of}
 use Rattle.table.specs.Layout.{kind_exists, kind_for_all, number_size}
 use Rattle.table.specs.declared.layout.Limits.{Limits}
-use Rattle.picture.specs.declared.read.Reading.TheVariants.{Rows}
 use Rattle.meaning.specs.File.{file_of, kind_code, mark_code}
 use Rattle.meaning.proofs.FileTables.{parents_fit}
 use Rattle.meaning.proofs.Files.{end_held, file_impossible, file_kind, file_length, file_parent, file_role, file_tag, length_file_of, row_in}
@@ -86,7 +86,7 @@ module _ (limits : Limits) (ws : List (Row picture_signature)) (bounded : Bounde
     impossible = rw (file_impossible ws j l) (mark_ok (row_in ws j).label.bottom);
   }
 
-  pub file_readable : reading_of limits (file_of ws) ≡ Rows (length ws)
+  pub file_readable : reading_of limits (file_of ws) ≡ Ok (length ws)
   file_readable = formed_reading limits (file_of ws) (length ws) (record {
     rows = row_answered;
     end = record {

@@ -13,6 +13,7 @@ use lib.ListN.{length}
 use mathlib.Core.List.{List, [], ◌∷◌}
 use mathlib.Core.Path.{◌≡◌, subst, sym}
 use native.Mathlib.Omega.{arith}
+use Rattle.std.proofs.Common.{Ok}
 use Rattle.ale.proofs.Confined.{Confined, confined_height, confined_roles_known, normal_confined}
 use Rattle.ale.proofs.Encodings.{encode_tree_length}
 use Rattle.ale.proofs.SameTables.{SameTable}
@@ -31,7 +32,6 @@ use Rattle.picture.specs.Readable.{Readable}
 use Rattle.table.specs.Bounds.{Bounded, picture_size}
 use Rattle.table.specs.Layout.{end_size, number_size, place}
 use Rattle.table.specs.declared.layout.Limits.{Limits}
-use Rattle.picture.specs.declared.read.Reading.TheVariants.{Rows}
 use Rattle.meaning.specs.Meaning.{picture_table, picture_tree}
 use Rattle.meaning.specs.NormalTable.{merged_count, merged_tree, normal_file, normal_tree_of}
 use Rattle.meaning.proofs.EncodedFiles.{encoded_meaning_at, encoded_reads, encoded_table}
@@ -63,7 +63,7 @@ module _ (limits : Limits) (s : List ℕ) where
     normal_size = omega (arith, normal_length, normal_count)
 
     module _ (bounded : Bounded limits) where
-      pub normal_reads : reading_of limits (normal_file limits s) ≡ Rows (size picture_signature (normal_tree_of limits s))
+      pub normal_reads : reading_of limits (normal_file limits s) ≡ Ok (size picture_signature (normal_tree_of limits s))
       unfolding normal_file
       normal_reads = encoded_reads (normal_tree_of limits s) limits bounded (omega (arith, normal_count)) normal_height normal_roles
 

@@ -1,18 +1,17 @@
 -- Laws of what hangs from a set of rows.
 --   hung_none                         nothing, from no rows
 --   hung_with_is                         from a set with row c
---   walk_start, walk_next, walk_end   the walk along the rows of a set: those before row n have been met
+--   walk_start, walk_next, walk_end   the walk over the rows of a set: those before the next have been met
 --   tree_size_is, beside_size_is            the merged rows of a set, by what hangs from it; those of the set with row c
 --   beside_leaf, beside_more          the latter: nothing hangs from row c; by what hangs from row c as well
-use Prim.Native.Nat.{◌+◌, ◌<◌, ◌≤◌, suc, ℕ}
-use borrow.Author.Tests.{lt-ltb, ltb-true}
+use Prim.Native.Nat.{◌<◌, suc, ℕ}
+use borrow.Author.Tests.{le-ltb, lt-ltb}
 use lib.Dec.{eqb, ltb}
 use lib.ListN.{get_or}
-use mathlib.Core.Bool.{Bool, ◌&&◌, ◌||◌, false, false≢true, true}
+use mathlib.Core.Bool.{Bool, ◌&&◌, ◌||◌, false, false≢true}
 use mathlib.Core.List.{List}
 use mathlib.Core.Path.{◌∙◌, ◌≡◌, ap, sym}
 use native.Mathlib.Omega.{arith}
-use Rattle.table.proofs.Bools.{by_test}
 use Rattle.table.proofs.Tests.{refuted}
 use Rattle.table.specs.Bounds.{max_rows}
 use Rattle.table.specs.Fields.{parent_of}
@@ -20,10 +19,14 @@ use Rattle.table_rows.specs.Links.{Linked}
 use Rattle.ale.specs.PictureSignature.{picture_signature}
 use Rattle.ale.specs.Tree.{size, sizes}
 use Rattle.row_sets.specs.Parts.{merged_at}
-use Rattle.row_sets.specs.Rows.{Checked, Hung, Next, also, hangs, holds}
+use Rattle.row_sets.specs.Rows.{Checked, Hung, also, hangs, holds}
 use Rattle.row_sets.specs.declared.rows.RowSet.{RowSet}
 use Rattle.row_sets.specs.declared.rows.Successors.{Successors}
+use Rattle.std.proofs.Common.{None, Some}
+use Rattle.row_sets.specs.Walks.{MemberStep}
+use Rattle.row_sets.specs.declared.members.Members.{Members}
 use Rattle.row_sets.proofs.Gathers.{more, skip}
+use Rattle.row_sets.proofs.MemberWalks.{Over, last_row, next_row}
 use Rattle.row_sets.proofs.LabelLaws.{known_with, none_hangs, same_hangs, with_hangs}
 use Rattle.row_sets.proofs.Links.{hangs_successor}
 use Rattle.row_sets.proofs.PartLaws.{merged_node, successors_same}
@@ -99,21 +102,28 @@ module _ (s : List ℕ) (rows : ℕ) where
       abbrev before : ℕ → ℕ → Bool
       before n k = ltb k n && holds set k
 
-      pub walk_start : (n : ℕ) (r : Successors) → Next set 0 rows n → ((j : ℕ) → holds r.set j ≡ false) →
-          HungFrom s rows (before n) r
-      walk_start n r next empty =
-          hung_same (λ j. false) (before n) r
-          (λ k l. sym (by_test (ltb k n) (λ e. rw (e, next.between k (omega arith) (ltb-true k n e) l)) (λ e. rw e)))
-          (hung_none r empty)
+      pub walk_start : (from : ℕ) (r : Successors) → from ≡ 0 → ((j : ℕ) → holds r.set j ≡ false) →
+          HungFrom s rows (before from) r
+      walk_start from r first empty =
+          hung_same (λ j. false) (before from) r (λ k l. rw (first, le-ltb k 0 (omega arith))) (hung_none r empty)
 
-      pub walk_next : (j n : ℕ) (below r : Successors) → j < rows → holds set j ≡ true → Next set (j + 1) rows n →
-          HungFrom s rows (before j) below → Hung s rows j below r → HungFrom s rows (before n) r
-      walk_next j n below r l held next from hung =
-          hung_same (also j (before j)) (before n) r
-          (λ k b.
-          more (holds set) j k held
-          ∙ skip (holds set) (j + 1) n k next.onward (λ x y. next.between k x y b))
-          (hung_with_is (before j) j below r l from hung)
+      module _ (m n : Members) (over : Over set rows m) where
+        pub walk_next : (j : ℕ) (below r : Successors) → MemberStep m (Some j) n → HungFrom s rows (before m.from) below →
+            Hung s rows j below r → HungFrom s rows (before n.from) r
+        walk_next j below r step from hung =
+            let (l, next, on) = next_row set rows m n over j step in
+            hung_same (also j (before m.from)) (before n.from) r
+            (λ k b.
+            rw on
+            (ap (λ (t : Bool). eqb k j || t) (skip (holds set) m.from j k next.onward (λ x y. next.between k x y b))
+            ∙ more (holds set) j k (next.held l)))
+            (hung_with_is (before m.from) j below r l from hung)
 
-      pub walk_end : (j : ℕ) (r : Successors) → rows ≤ j → HungFrom s rows (before j) r → HungFrom s rows (holds set) r
-      walk_end j r last from = hung_same (before j) (holds set) r (λ k b. rw (lt-ltb k j (omega arith))) from
+        pub walk_end : (r : Successors) → MemberStep m None n → HungFrom s rows (before m.from) r →
+            HungFrom s rows (holds set) r
+        walk_end r step from =
+            let last = last_row set rows m n over step in
+            hung_same (before m.from) (holds set) r
+            (λ k b.
+            skip (holds set) m.from rows k last.onward (λ x y. last.between k x y b) ∙ rw (lt-ltb k rows b))
+            from

@@ -48,6 +48,7 @@ from_next q f k (suc n) l =
 pub record WeighedFrom (s : List ℕ) (rows : ℕ) (keys somes : List ℕ) (j : ℕ) (below : List ℕ) : Type 0 where
   pub most : j ≤ rows
   pub size : length below ≡ max_rows
+  pub low : (i : ℕ) → get_or below i 0 < 256
   pub weight : (i : ℕ) → i < rows →
       get_or below i 0 ≡ total (from j (hangs s (λ c. eqb c i))) (share_of s keys somes below) rows
 
@@ -57,16 +58,16 @@ weigh_none s rows keys somes below empty =
     record {
       most = omega arith;
       size = empty.size;
+      low = λ i. omega (arith, empty.zeros i);
       weight = λ i l. empty.zeros i ∙ sym (from_none _ _ rows rows (omega arith));
     }
 
--- row k: its parent, what hangs below it, how often that is counted, and what hangs below the parent so far
-module _ (s : List ℕ) (rows : ℕ) (keys somes : List ℕ) (k j above weight often old : ℕ) (below : List ℕ)
+-- row k: its parent, and how often what hangs below it is counted
+module _ (s : List ℕ) (rows : ℕ) (keys somes : List ℕ) (k j above often : ℕ) (below : List ℕ)
     (checked : Checked s rows) (under : j ≡ suc k) (later : k ≡ 0 → ⊥) (is : above ≡ parent_of s k) (before : above < k)
-    (weight_is : weight ≡ get_or below k 0) (often-is : often ≡ times_of s keys somes k)
-    (old-is : old ≡ get_or below above 0) (from-j : WeighedFrom s rows keys somes j below) where
+    (often-is : often ≡ times_of s keys somes k) (from-j : WeighedFrom s rows keys somes j below) where
   abbrev sum : ℕ
-  sum = old + (1 + weight * often)
+  sum = get_or below above 0 + (1 + get_or below k 0 * often)
 
   abbrev more : List ℕ
   more = set below above sum
@@ -79,7 +80,7 @@ module _ (s : List ℕ) (rows : ℕ) (keys somes : List ℕ) (k j above weight o
   share_same c l = ap (λ n. 1 + n * times_of s keys somes c) (get_or-set_other below above c sum 0 (λ same. omega arith))
 
   sum_is : sum ≡ get_or below above 0 + share k
-  sum_is = rw (weight_is, often-is, old-is)
+  sum_is = rw often-is
 
   module _ (i : ℕ) where
     abbrev hung : ℕ → Bool
@@ -107,12 +108,15 @@ module _ (s : List ℕ) (rows : ℕ) (keys somes : List ℕ) (k j above weight o
         (λ c b. by_test (leb k c) (λ e. rw (share_same c (leb-true k c e))) (λ e. rw e)) in
         omega (arith, weight_more, so_far, same, from_next hung share k rows (omega arith))
 
-  pub weigh_next : WeighedFrom s rows keys somes k more
-  weigh_next =
+  pub weigh_next : sum < 256 → WeighedFrom s rows keys somes k more
+  weigh_next l =
+      let few = checked.most in
       let most = from-j.most in
+      let size = from-j.size in
       record {
         most = omega arith;
         size = length-set below above sum ∙ from-j.size;
+        low = λ i. stored (λ v. v < 256) below above sum i (omega arith) (λ same. l) (λ other. from-j.low i);
         weight = total_more;
       }
 

@@ -1,25 +1,17 @@
 -- What the count has of a set, and what it needs of its arguments. Nobody has to believe these.
 --   Counts          a forest was counted after so many merged rows, up to the limit and one more
 --   role_at          the successors of one role, where p are those of all roles
---   FirstOf         a set of rows, and its first row
 --   HungFrom        the rows that hang from those of a set, and their roles
 --   tree_size        the merged rows of a set from which these hang, down to a depth
 --   hung_with        what hangs from row c, and these
 --   beside_size      the merged rows of a set with row c, where these hang from the set
---   Counting        a picture is being counted, and so many merged rows were
---   OneRole         the rows that hang from a set, of which those of one role are to be counted
 --   Beside          the successors of one role: up to the limit, `each` is what A and what hangs from it count
 --   ExistsCounted   its some-successors below row n were counted, whatever set q is A, and whatever role it is
-use Rattle.std.specs.Prelude.{◌+◌, ◌<◌, ◌≤◌, suc, ℕ, eqb, Bool, ◌||◌, false, List, ◌≡◌}
-use Rattle.table.specs.Bounds.{max_rows}
-use Rattle.table.specs.Fields.{parent_of}
-use Rattle.table.specs.Layout.{roles}
-use Rattle.table_rows.specs.Links.{Linked}
+use Rattle.std.specs.Prelude.{◌+◌, ◌<◌, ◌≤◌, suc, ℕ, eqb, Bool, ◌||◌, List, ◌≡◌}
 use Rattle.ale.specs.PictureSignature.{picture_signature}
 use Rattle.ale.specs.Tree.{Forest, sizes}
 use Rattle.row_sets.specs.Parts.{capped, exists_part_at, parts_at, successors_at}
-use Rattle.row_sets.specs.Rows.{Checked, Known, Next, Surveyed, hangs, holds, of_role}
-use Rattle.row_sets.specs.declared.rows.RowSet.{RowSet}
+use Rattle.row_sets.specs.Rows.{Known, hangs, holds, of_role}
 use Rattle.row_sets.specs.declared.rows.Successors.{Successors}
 use Rattle.merged_count.specs.declared.count.RoleParts.{RoleParts}
 
@@ -28,11 +20,6 @@ Counts limit merged f r = r ≡ capped limit (merged + sizes picture_signature f
 
 abbrev pub role_at : List ℕ → ℕ → ℕ → ℕ → (ℕ → Bool) → Forest picture_signature
 role_at s rows depth role p = parts_at s rows depth role (of_role s role p)
-
-pub record FirstOf (s : List ℕ) (rows : ℕ) (links : List ℕ) (set : RowSet) (first : ℕ) : Type 0 where
-  pub checked : Checked s rows
-  pub linked : Linked (parent_of s) rows max_rows links
-  pub next : Next set 0 rows first
 
 pub record HungFrom (s : List ℕ) (rows : ℕ) (q : ℕ → Bool) (successors : Successors) : Type 0 where
   pub set_is : (j : ℕ) → j < rows → holds successors.set j ≡ hangs s q j
@@ -47,17 +34,7 @@ hung_with s c successors k = hangs s (λ i. eqb i c) k || holds successors.set k
 abbrev pub beside_size : List ℕ → ℕ → ℕ → ℕ → Successors → ℕ
 beside_size s rows depth c successors = tree_size s rows depth (hung_with s c successors)
 
-pub record Counting (s : List ℕ) (rows : ℕ) (links masks : List ℕ) (limit merged : ℕ) : Type 0 where
-  pub surveyed : Surveyed s rows links masks
-  pub limit_most : limit ≤ max_rows
-  pub counted : merged ≤ suc limit
-
-pub record OneRole (set : RowSet) (role : ℕ) : Type 0 where
-  pub role_below : role < roles
-  pub rootless : holds set 0 ≡ false
-
-pub record Beside (s : List ℕ) (rows : ℕ) (links masks : List ℕ) (depth limit merged : ℕ) (parts : RoleParts) : Type 0 where
-  pub counting : Counting s rows links masks limit merged
+pub record Beside (s : List ℕ) (rows depth limit merged : ℕ) (parts : RoleParts) : Type 0 where
   pub known : Known s rows parts.below
   pub each_most : parts.each ≤ suc limit
   pub each_is :

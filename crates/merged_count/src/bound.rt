@@ -11,18 +11,10 @@ ghost use Rattle.merged_count.specs.Bound.{below_key, key_count, times_of};
 ghost use Rattle.merged_count.specs.Weighing.{Blank, Filled, Later, Weighable};
 
 use table::layout::{Limits, MAX_ROWS, NUMBER_SIZE, PARENT_AT, place};
-use table::number::wide;
 use table_rows::row::{kind, role};
 
 // More keys than rows, so that few paths of roles share one by chance.
 pub const KEYS: usize = 1024;
-
-// A key, with its range.
-fn index(x: u16) -> usize
-    ensures { (result ≡ x) × (result < 65536) }
-{
-    x as usize
-}
 
 // The key of a row, by that of its parent and its role. Any function would do; this one is a few instructions, keeps
 // short paths of few roles apart, and gives no path the root's key at once.
@@ -30,7 +22,7 @@ fn key_below(key: usize, role: u8) -> usize
     requires { key < key_count }
     ensures { (result ≡ below_key key role) × (result < key_count) }
 {
-    (9 * key + wide(role) as usize + 1) % KEYS
+    (9 * key + role as usize + 1) % KEYS
 }
 
 // The parent of row j by its last byte: it stands before its row, so that the byte before that is 0. To read one byte in
@@ -39,7 +31,7 @@ fn above(s: &[u8], rows: usize, j: usize) -> usize
     requires { Later s.now rows j }
     ensures { (result ≡ parent_of s.now j) × (result < j) }
 {
-    wide(s[place(j, PARENT_AT + NUMBER_SIZE - 1)]) as usize
+    s[place(j, PARENT_AT + NUMBER_SIZE - 1)] as usize
 }
 
 // 1 of a some-row, 0 of an all-row; the kind is one of two after 9, and this needs no branch.
@@ -55,12 +47,10 @@ fn fill_keys(s: &[u8], rows: usize, keys: &mut [u16; MAX_ROWS], somes: &mut [u8;
     requires { Blank s.now rows keys.old somes.old }
     ensures { Filled s.now rows keys.new somes.new }
 {
-    let mut j = 1;
-    while j < rows {
-        let key = key_below(index(keys[above(s, rows, j)]), role(s, j));
+    for j in 1..rows {
+        let key = key_below(keys[above(s, rows, j)] as usize, role(s, j));
         keys[j] = key as u16;
-        somes[key] = somes[key] + some_count(s, rows, j);
-        j += 1;
+        somes[key] += some_count(s, rows, j);
     }
 }
 
@@ -69,8 +59,8 @@ fn times(s: &[u8], rows: usize, keys: &[u16; MAX_ROWS], somes: &[u8; KEYS], j: u
     requires { (Later s.now rows j) × (get_or keys.now j 0 < key_count) }
     ensures { (result ≡ times_of s.now keys.now somes.now j) × (result ≤ 256) }
 {
-    let all = 1 - wide(some_count(s, rows, j)) as usize;
-    1 + all * (wide(somes[index(keys[j])]) as usize)
+    let all = 1 - some_count(s, rows, j) as usize;
+    1 + all * somes[keys[j] as usize] as usize
 }
 
 // The bound, from the last row back; beyond the limit, one more than it.
@@ -79,18 +69,16 @@ fn weigh(s: &[u8], rows: usize, limit: usize, keys: &[u16; MAX_ROWS], somes: &[u
     ensures { result ≤ limit → (limits : Limits) → merged_count limits s.now ≤ result }
 {
     let mut below = [0u8; MAX_ROWS];
-    let mut j = rows;
-    while 1 < j {
-        j -= 1;
+    for j in (1..rows).rev() {
         let parent = above(s, rows, j);
-        let share = 1 + wide(below[j]) as usize * times(s, rows, keys, somes, j);
-        let sum = wide(below[parent]) as usize + share;
+        let share = 1 + below[j] as usize * times(s, rows, keys, somes, j);
+        let sum = below[parent] as usize + share;
         if limit <= sum {
             return limit + 1;
         }
         below[parent] = sum as u8;
     }
-    1 + wide(below[0]) as usize
+    1 + below[0] as usize
 }
 
 // Whether the bound is within the limit; then so are the merged rows.

@@ -1,16 +1,16 @@
 // The merged rows of a picture, counted in the order in which the writer makes them, up to the limit and one more. What
 // hangs from each set of file rows is enough for that, so there are no labels here.
-ghost use Rattle.std.specs.Prelude.{◌≡◌, ◌+◌, ◌<◌};
-ghost use Rattle.table.specs.Bounds.{Bounded};
+ghost use Rattle.std.specs.Prelude.{◌≡◌, ◌+◌, ◌<◌, ◌≤◌, false, suc};
+ghost use Rattle.table.specs.Bounds.{Bounded, max_rows};
+ghost use Rattle.table.specs.Layout.{roles};
 ghost use Rattle.meaning.specs.NormalTable.{merged_count};
-ghost use Rattle.row_sets.specs.Rows.{Checked, Known, holds};
+ghost use Rattle.row_sets.specs.Rows.{Checked, Found, Known, holds};
 ghost use Rattle.row_sets.specs.Parts.{capped, successors_at};
-ghost use Rattle.merged_count.specs.Count.{Beside, Counting, Counts, ExistsCounted, FirstOf, HungFrom};
-ghost use Rattle.merged_count.specs.Count.{OneRole, beside_size, role_at, tree_size};
+ghost use Rattle.merged_count.specs.Count.{Beside, Counts, ExistsCounted, HungFrom, beside_size, role_at, tree_size};
 
-use row_sets::rows::{
-    LINKS, MASKS, ROLE_BITS, RowSet, Successors, fill_links, fill_masks, next_bit,
-};
+use row_sets::linked::Table;
+use row_sets::rows::{LINKS, MASKS, RowSet, Successors};
+use row_sets::survey::Survey;
 use table::layout::{KIND_EXISTS, KIND_FOR_ALL, Limits};
 
 // Of one role: the some-successors, what hangs from A, and the merged rows of a set from which the same hangs.
@@ -21,34 +21,34 @@ struct RoleParts {
     each: usize,
 }
 
-// The rows that hang from those of a set, the first of which is given.
-fn hung(s: &[u8], rows: usize, links: &[u8; LINKS], set: RowSet, first: usize) -> Successors
-    requires { FirstOf s.now rows links.now set first }
-    ensures { HungFrom s.now rows (holds set) result }
+// The rows that hang from those of a set, and a row of the set; the number of rows if there is none.
+fn hung<'a>(table: &'a Table<'a>, set: RowSet) -> (Successors, usize)
+    ensures successors { HungFrom table.now.bytes.now table.now.rows (holds set) result.0 }
+    ensures first { Found (holds set) table.now.rows result.1 }
 {
     let mut successors = Successors::none();
-    let mut j = first;
-    while j < rows {
-        successors = successors.add(s, rows, links, j);
-        j = set.next(j + 1, rows);
+    let mut first = table.rows;
+    for j in set.members(table.rows) {
+        successors = successors.add(table, j);
+        first = j;
     }
-    successors
+    (successors, first)
 }
 
 // One merged row more, of a set from which these hang, and what hangs from it down to a depth.
-#[cycle(count_beside_count_exists_count_role_count_row_count_successors)]
-fn count_row(
-    s: &[u8],
-    rows: usize,
+#[cycle(count)]
+fn count_row<'a>(
+    survey: &'a Survey<'a>,
     limit: usize,
-    links: &[u8; LINKS],
-    masks: &[u64; MASKS],
     successors: Successors,
     depth: usize,
     merged: usize,
 ) -> usize
-    requires { (Counting s.now rows links.now masks.now limit merged) × (Known s.now rows successors) }
-    ensures { result ≡ capped limit (merged + tree_size s.now rows depth (holds successors.set)) }
+    requires low { limit ≤ max_rows }
+    requires counted { merged ≤ suc limit }
+    requires known { Known survey.now.table.bytes.now survey.now.table.rows successors }
+    ensures { result ≡ capped limit
+        (merged + tree_size survey.now.table.bytes.now survey.now.table.rows depth (holds successors.set)) }
 {
     if limit <= merged {
         return limit + 1;
@@ -57,128 +57,118 @@ fn count_row(
     if successors.roles == 0 {
         return counted;
     }
-    count_successors(s, rows, limit, links, masks, successors, depth, counted)
+    count_successors(survey, limit, successors, depth, counted)
 }
 
 // The successors of the merged row of a set, role by role.
-#[cycle(count_beside_count_exists_count_role_count_row_count_successors)]
-fn count_successors(
-    s: &[u8],
-    rows: usize,
+#[cycle(count)]
+fn count_successors<'a>(
+    survey: &'a Survey<'a>,
     limit: usize,
-    links: &[u8; LINKS],
-    masks: &[u64; MASKS],
     successors: Successors,
     depth: usize,
     merged: usize,
 ) -> usize
-    requires { (Counting s.now rows links.now masks.now limit merged) × (Known s.now rows successors) }
-    ensures { Counts limit merged (successors_at s.now rows depth (holds successors.set)) result }
+    requires low { limit ≤ max_rows }
+    requires counted { merged ≤ suc limit }
+    requires known { Known survey.now.table.bytes.now survey.now.table.rows successors }
+    ensures { Counts limit merged
+        (successors_at survey.now.table.bytes.now survey.now.table.rows depth (holds successors.set)) result }
 {
     if depth == 0 {
         return merged;
     }
     let mut counted = merged;
-    let mut role = next_bit(successors.roles, 0);
-    while role < ROLE_BITS {
-        let set = successors.set;
-        counted = count_role(
-            s,
-            rows,
-            limit,
-            links,
-            masks,
-            set,
-            depth - 1,
-            counted,
-            role as u8,
-        );
+    for role in successors.distinct_roles() {
+        counted = count_role(survey, limit, successors.set, depth - 1, counted, role);
         if limit < counted {
             return counted;
         }
-        role = next_bit(successors.roles, role + 1);
     }
     counted
 }
 
-// Those of one role: one for A, if A is not empty, and then one for each some-successor with A.
-#[cycle(count_beside_count_exists_count_role_count_row_count_successors)]
-fn count_role(
-    s: &[u8],
-    rows: usize,
+// Those of one role: one for A, if A is not empty, and then one for each some-successor with A. The recursion comes back
+// here: so the others are compiled into their callers, and a row from which nothing hangs costs no call.
+#[cycle(count)]
+#[inline(never)]
+fn count_role<'a>(
+    survey: &'a Survey<'a>,
     limit: usize,
-    links: &[u8; LINKS],
-    masks: &[u64; MASKS],
     set: RowSet,
     depth: usize,
     merged: usize,
     role: u8,
 ) -> usize
-    requires { (Counting s.now rows links.now masks.now limit merged) × (OneRole set role) }
-    ensures { Counts limit merged (role_at s.now rows depth role (holds set)) result }
+    requires low { limit ≤ max_rows }
+    requires counted { merged ≤ suc limit }
+    requires role_below { role < roles }
+    requires rootless { holds set 0 ≡ false }
+    ensures { Counts limit merged
+        (role_at survey.now.table.bytes.now survey.now.table.rows depth role (holds set)) result }
 {
-    let all = set.of_edge(masks, KIND_FOR_ALL, role);
-    let some = set.of_edge(masks, KIND_EXISTS, role);
-    let first = all.next(0, rows);
-    let below = hung(s, rows, links, all, first);
-    let whole = count_row(s, rows, limit, links, masks, below, depth, merged);
-    let each = whole - merged;
-    let parts = RoleParts { some, below, each };
+    let all = set.of_edge(survey.masks, KIND_FOR_ALL, role);
+    let some = set.of_edge(survey.masks, KIND_EXISTS, role);
+    let rows = survey.table.rows;
+    let (below, first) = hung(&survey.table, all);
+    let whole = count_row(survey, limit, below, depth, merged);
+    let parts = RoleParts {
+        some,
+        below,
+        each: whole - merged,
+    };
     let counted = if first < rows { whole } else { merged };
-    count_exists(s, rows, limit, links, masks, parts, depth, counted)
+    count_exists(survey, limit, parts, depth, counted)
 }
 
 // The some-successors of one role, each with A.
-#[cycle(count_beside_count_exists_count_role_count_row_count_successors)]
-fn count_exists(
-    s: &[u8],
-    rows: usize,
+#[cycle(count)]
+fn count_exists<'a>(
+    survey: &'a Survey<'a>,
     limit: usize,
-    links: &[u8; LINKS],
-    masks: &[u64; MASKS],
     parts: RoleParts,
     depth: usize,
     merged: usize,
 ) -> usize
-    requires { Beside s.now rows links.now masks.now depth limit merged parts }
-    ensures { ExistsCounted s.now rows depth parts limit merged rows result }
+    requires low { limit ≤ max_rows }
+    requires counted { merged ≤ suc limit }
+    requires beside { Beside survey.now.table.bytes.now survey.now.table.rows depth limit merged parts }
+    ensures { ExistsCounted survey.now.table.bytes.now survey.now.table.rows depth parts limit merged
+        survey.now.table.rows result }
 {
-    let some = parts.some;
     let mut counted = merged;
-    let mut j = some.next(0, rows);
-    while j < rows {
-        counted = count_beside(s, rows, limit, links, masks, parts, depth, counted, j);
+    for j in parts.some.members(survey.table.rows) {
+        counted = count_beside(survey, limit, parts, depth, counted, j);
         if limit < counted {
             return counted;
         }
-        j = some.next(j + 1, rows);
     }
     counted
 }
 
 // The merged row of row c with A. If nothing hangs from row c, the same hangs from both as from A.
-#[cycle(count_beside_count_exists_count_role_count_row_count_successors)]
-fn count_beside(
-    s: &[u8],
-    rows: usize,
+#[cycle(count)]
+fn count_beside<'a>(
+    survey: &'a Survey<'a>,
     limit: usize,
-    links: &[u8; LINKS],
-    masks: &[u64; MASKS],
     parts: RoleParts,
     depth: usize,
     merged: usize,
     c: usize,
 ) -> usize
-    requires { (Beside s.now rows links.now masks.now depth limit merged parts) × (c < rows) }
-    ensures { result ≡ capped limit (merged + beside_size s.now rows depth c parts.below) }
+    requires low { limit ≤ max_rows }
+    requires counted { merged ≤ suc limit }
+    requires beside { Beside survey.now.table.bytes.now survey.now.table.rows depth limit merged parts }
+    requires inside { c < survey.now.table.rows }
+    ensures { result ≡ capped limit
+        (merged + beside_size survey.now.table.bytes.now survey.now.table.rows depth c parts.below) }
 {
-    if links[c] != 0 {
-        let below = parts.below;
-        let whole = below.add(s, rows, links, c);
-        return count_row(s, rows, limit, links, masks, whole, depth, merged);
+    let table = &survey.table;
+    if table.links[c] != 0 {
+        let whole = parts.below.add(table, c);
+        return count_row(survey, limit, whole, depth, merged);
     }
-    let each = parts.each;
-    let counted = merged + each;
+    let counted = merged + parts.each;
     if limit < counted { limit + 1 } else { counted }
 }
 
@@ -188,10 +178,8 @@ pub fn count(s: &[u8], rows: usize, limits: Limits) -> usize
     ensures { result ≡ capped limits.rows (merged_count limits s.now) }
 {
     let mut links = [0u8; LINKS];
-    fill_links(s, rows, &mut links);
     let mut masks = [0u64; MASKS];
-    fill_masks(s, rows, &mut masks);
-    let none = Successors::none();
-    let root = none.add(s, rows, &links, 0);
-    count_row(s, rows, limits.rows, &links, &masks, root, limits.depth, 0)
+    let survey = Survey::new(Table::new(s, rows, &mut links), &mut masks);
+    let root = Successors::none().add(&survey.table, 0);
+    count_row(&survey, limits.rows, root, limits.depth, 0)
 }

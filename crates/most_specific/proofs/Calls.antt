@@ -16,14 +16,14 @@ use mathlib.Core.Bool.{Bool, ◌&&◌, and_assoc, false, not, true}
 use mathlib.Core.List.{List, ◌++◌, ◌∷◌}
 use mathlib.Core.Path.{◌∙◌, ◌≡◌, ap, refl, subst, sym}
 use native.Mathlib.Omega.{arith}
+use Rattle.std.proofs.Common.{Err, Ok, Result}
+use Rattle.std.specs.Borrow.{Bor}
 use Rattle.picture.specs.Refusal.{short_buffer}
 use Rattle.picture.proofs.Orders.{and_yes, read_decides, refused_no, rows_yes, yes_to}
 use Rattle.picture.proofs.ReadInTurn.{read_each}
-use Rattle.picture.specs.Asked.{and_then, asked_from}
+use Rattle.picture.specs.Asked.{and_then, asked_from, Asked, yes}
 use Rattle.picture.specs.Read.{answer_of}
 use Rattle.picture.specs.Readable.{Readable}
-use Rattle.picture.specs.declared.answer.Answer.{Answer}
-use Rattle.picture.specs.declared.answer.Answer.TheVariants as answer
 use Rattle.picture.specs.declared.answer.Input.TheVariants.{Card, First}
 use Rattle.picture.specs.declared.answer.Refusal.{Refusal}
 use Rattle.table.proofs.Bools.{both}
@@ -50,17 +50,13 @@ use Rattle.under.specs.Asked.{card_few, most_specific_asked_under}
 use Rattle.under.specs.Book.{AcceptableBookUnder, PreparedBook, book_before, case_and_cards, most_specific_under}
 use Rattle.under.specs.Book.{most_specific_work_under}
 use Rattle.definitions_asked.specs.Given.{given_of}
-use Rattle.definitions_asked.specs.declared.given.Rest.TheVariants as rest
+use Rattle.definitions_asked.specs.declared.lots.Lot.TheVariants.{Cards}
 use Rattle.book_tables.specs.Tables.{AllRead}
-use Rattle.book_tables.specs.declared.books.Books.{Books}
+use Rattle.definition_parts.specs.declared.opened.Tbox.{Tbox}
 use Rattle.most_specific.specs.Asking.{BookRoom, CardsRoom, Left, after_cards, after_case, after_definitions}
 use Rattle.most_specific.specs.Asking.{word_under}
 use Rattle.field_places.specs.Places.{Placed}
 use Rattle.field_places.specs.declared.places.Fields.{Fields}
-use Rattle.picture.specs.declared.answer.Asked.{Asked}
-use Rattle.picture.specs.declared.answer.Asked.TheVariants.{No, Yes}
-use Rattle.book.specs.declared.answer.Selected.{Selected}
-use Rattle.book.specs.declared.answer.Selected.TheVariants as selected
 use Rattle.table.proofs.SetsBelow.{has_set_below, word_is}
 
 -- ---- what is selected
@@ -106,24 +102,28 @@ module _ (limits : Limits) (case book : List ℕ) (count covering : ℕ) (counte
 -- ---- what is answered, and what is left in the work space, by what the questions answer
 
 module _ (limits : Limits) (word : ℕ) (work : List ℕ) where
-  pub stopped : (a : Asked) (r : Refusal) → a ≡ No r → Left limits word work a (selected.Refused r) work
+  pub stopped : (a : Asked) (r : Refusal) → a ≡ Err r → Left limits word work a (Err r) work
   stopped a r e = (rw e, rw e)
 
-  pub done : (a : Asked) → a ≡ Yes → (n : ℕ) (end : List ℕ) → n ≡ word → end ≡ put work 0 (zeros (work_size limits)) →
-      Left limits word work a (selected.Cards n) end
-  done a e n end is cleared = (rw e (ap selected.Cards is), rw e cleared)
+  pub done : (a : Asked) → a ≡ yes → (n : ℕ) (end : List ℕ) → n ≡ word → end ≡ put work 0 (zeros (work_size limits)) →
+      Left limits word work a (Ok n) end
+  done a e n end is cleared = (rw e (ap Ok is), rw e cleared)
 
-  pub left_as : (a b : Asked) → a ≡ b → (r : Selected) (end : List ℕ) → Left limits word work b r end →
+  pub left_as : (a b : Asked) → a ≡ b → (r : Result ℕ Refusal) (end : List ℕ) → Left limits word work b r end →
       Left limits word work a r end
   left_as a b e r end = subst (λ q. Left limits word work q r end) (sym e)
 
 -- ---- 14 of the case and of the cards
 
-module _ (limits : Limits) (tbox case book : List ℕ) (books : Books) (so : AllRead limits tbox case book books) where
+module _ (limits : Limits) (opened : Tbox) (case book : List ℕ) (cards : Fields)
+    (so : AllRead limits opened case book cards) where
+  abbrev tbox : List ℕ
+  tbox = opened.bytes.now
+
   abbrev merged : Asked
   merged =
       and_then (merged_asked limits First (unfolded_file limits tbox case))
-      (asked_from (card_few limits tbox book) books.cards.count 0)
+      (asked_from (card_few limits tbox book) cards.count 0)
 
   merged_is : after_definitions limits tbox case book ≡ merged
   merged_is =
@@ -131,62 +131,65 @@ module _ (limits : Limits) (tbox case book : List ℕ) (books : Books) (so : All
       (asked_from (card_few limits tbox book) n 0)) so.places_are.counted)
 
   module _ (a : Asked) (is : a ≡ merged) where
-    pub merged_refused : (r : Refusal) → a ≡ No r → after_definitions limits tbox case book ≡ No r
+    pub merged_refused : (r : Refusal) → a ≡ Err r → after_definitions limits tbox case book ≡ Err r
     merged_refused r e = merged_is ∙ sym is ∙ e
 
-    module _ (e : a ≡ Yes) where
-      pub merged_passed : after_definitions limits tbox case book ≡ Yes
+    module _ (e : a ≡ yes) where
+      pub merged_passed : after_definitions limits tbox case book ≡ yes
       merged_passed = merged_is ∙ sym is ∙ e
 
       pub merged_accepted : AcceptableBookUnder limits tbox case book
       merged_accepted =
           let (here, rest) = (and_yes (merged_asked limits First (unfolded_file limits tbox case))
-          (asked_from (card_few limits tbox book) books.cards.count 0)).0 (sym is ∙ e) in
+          (asked_from (card_few limits tbox book) cards.count 0)).0 (sym is ∙ e) in
           record {
             prepared = so.prepared;
             case_few = (merged_decides limits First (unfolded_file limits tbox case)).yes.0 here;
             cards_few = λ k l.
                 (merged_decides limits (Card k) (unfolded_file limits tbox (card book k))).yes.0
-                (yes_to (card_few limits tbox book) books.cards.count rest k
+                (yes_to (card_few limits tbox book) cards.count rest k
                 (omega (arith, l, so.places_are.counted)));
           }
 
 -- ---- what is asked of the definitions book
 
-module _ (limits : Limits) (tbox case book : List ℕ) (cards : Fields) (work : List ℕ)
-    (so : CardsRoom limits case book cards work) (a : Asked)
-    (is : a ≡ definitions_asked limits tbox (given_of case book rest.Cards cards)) where
-  asks_both : definitions_asked limits tbox (case_and_cards case book) ≡ a
+module _ (limits : Limits) (tbox case : List ℕ) (book : Bor (List ℕ)) (cards : Fields) (work : List ℕ)
+    (so : CardsRoom limits case book.now cards work) where
+  abbrev asks-given : Asked
+  asks-given = definitions_asked limits tbox (given_of case (Cards book cards))
+
+  asks_both : definitions_asked limits tbox (case_and_cards case book.now) ≡ asks-given
   asks_both =
       sym (ap (λ (n : ℕ). definitions_asked limits tbox
-      (record { input = First; file = case } ∷ listed (λ k. record { input = Card k; file = card book k }) n 0))
+      (record { input = First; file = case } ∷ listed (λ k. record { input = Card k; file = card book.now k }) n 0))
       so.places_are.counted)
-      ∙ sym is
 
-  pub definitions_refused : (r : Refusal) → a ≡ No r → after_cards limits tbox case book ≡ No r
+  pub definitions_refused : (r : Refusal) → asks-given ≡ Err r → after_cards limits tbox case book.now ≡ Err r
   definitions_refused r e = rw (asks_both, e)
 
-  pub definitions_passed : a ≡ Yes → after_cards limits tbox case book ≡ after_definitions limits tbox case book
-  definitions_passed e = rw (asks_both, e)
+  module _ (e : asks-given ≡ yes) where
+    pub definitions_passed : after_cards limits tbox case book.now ≡ after_definitions limits tbox case book.now
+    definitions_passed = rw (asks_both, e)
 
-  pub definitions_prepared : a ≡ Yes → PreparedBook limits tbox case book
-  definitions_prepared e =
-      let (ok, (first, others)) = (definitions_decides limits tbox (case_and_cards case book)).yes.0 (asks_both ∙ e) in
-      record {
-        definable = ok;
-        case_readable = so.book_room.readable;
-        form = so.form;
-        cards_readable = λ k l. so.cards_readable k (omega (arith, l, so.places_are.counted));
-        case_unfolds = first;
-        cards_unfold = λ k l.
-            (cards_all (λ p. Unfolds limits tbox p.file) book (card_count book) 0).0 others k (omega arith)
-            (omega arith);
-      }
+    pub definitions_prepared : PreparedBook limits tbox case book.now
+    definitions_prepared =
+        let (ok, (first, others)) =
+        (definitions_decides limits tbox (case_and_cards case book.now)).yes.0 (asks_both ∙ e) in
+        record {
+          definable = ok;
+          case_readable = so.book_room.readable;
+          form = so.form;
+          cards_readable = λ k l. so.cards_readable k (omega (arith, l, so.places_are.counted));
+          case_unfolds = first;
+          cards_unfold = λ k l.
+              (cards_all (λ p. Unfolds limits tbox p.file) book.now (card_count book.now) 0).0 others k (omega arith)
+              (omega arith);
+        }
 
 -- ---- 24, and 2 to 13 of the cards
 
 module _ (limits : Limits) (tbox case book : List ℕ) where
-  pub form_refused : book_form book ≡ false → after_case limits tbox case book ≡ No no_book
+  pub form_refused : book_form book ≡ false → after_case limits tbox case book ≡ Err no_book
   form_refused bad = rw bad
 
   module _ (good : book_form book ≡ true) (cards : Fields) (placed : Placed card_tag book cards)
@@ -194,13 +197,13 @@ module _ (limits : Limits) (tbox case book : List ℕ) where
     cards_are : asked_from (card_read limits book) (card_count book) 0 ≡ a
     cards_are = ap (λ (n : ℕ). asked_from (card_read limits book) n 0) (sym placed.counted) ∙ sym is
 
-    pub cards_refused : (r : Refusal) → a ≡ No r → after_case limits tbox case book ≡ No r
+    pub cards_refused : (r : Refusal) → a ≡ Err r → after_case limits tbox case book ≡ Err r
     cards_refused r e = rw (good, cards_are, e)
 
-    pub cards_passed : a ≡ Yes → after_case limits tbox case book ≡ after_cards limits tbox case book
+    pub cards_passed : a ≡ yes → after_case limits tbox case book ≡ after_cards limits tbox case book
     cards_passed e = rw (good, cards_are, e)
 
-    pub cards_room : {work : List ℕ} → BookRoom limits case work → a ≡ Yes → CardsRoom limits case book cards work
+    pub cards_room : {work : List ℕ} → BookRoom limits case work → a ≡ yes → CardsRoom limits case book cards work
     cards_room room e =
         record {
           book_room = room;
@@ -215,12 +218,12 @@ module _ (limits : Limits) (bounded : Bounded limits) (tbox case book work : Lis
   abbrev asks : Asked
   asks = most_specific_asked_under limits tbox case book (length work)
 
-  abbrev Gives : Selected → List ℕ → Type 0
+  abbrev Gives : Result ℕ Refusal → List ℕ → Type 0
   Gives r end =
       (r ≡ most_specific_under limits tbox case book (length work))
       × (end ≡ most_specific_work_under limits tbox case book work)
 
-  gives : (a : Asked) → asks ≡ a → (r : Selected) (end : List ℕ) →
+  gives : (a : Asked) → asks ≡ a → (r : Result ℕ Refusal) (end : List ℕ) →
       Left limits (word_under limits tbox case book) work a r end → Gives r end
   gives a e r end left =
       let (says, leaves) = left_as limits (word_under limits tbox case book) work asks a e r end left in (
@@ -228,24 +231,24 @@ module _ (limits : Limits) (bounded : Bounded limits) (tbox case book work : Lis
         leaves ∙ sym (most_specific_work_asked limits bounded tbox case book work),
       )
 
-  refused : (r : Refusal) → asks ≡ No r → Gives (selected.Refused r) work
+  refused : (r : Refusal) → asks ≡ Err r → Gives (Err r) work
   refused r e =
-      gives asks refl (selected.Refused r) work (stopped limits (word_under limits tbox case book) work asks r e)
+      gives asks refl (Err r) work (stopped limits (word_under limits tbox case book) work asks r e)
 
-  pub short_call : length work < work_size limits → Gives (selected.Refused short_buffer) work
+  pub short_call : length work < work_size limits → Gives (Err short_buffer) work
   unfolding book_before
   short_call short = refused short_buffer (rw (lt-leb (work_size limits) (length work) short))
 
-  module _ (long : work_size limits ≤ length work) (a : Answer) (is : a ≡ answer_of limits First case) where
-    pub case_refused : (r : Refusal) → a ≡ answer.Refused r → Gives (selected.Refused r) work
+  module _ (long : work_size limits ≤ length work) (a : Result ℕ Refusal) (is : a ≡ answer_of limits First case) where
+    pub case_refused : (r : Refusal) → a ≡ Err r → Gives (Err r) work
     unfolding book_before
     case_refused r e =
         refused r (rw (le-leb (work_size limits) (length work) long, refused_no limits First case r (sym is ∙ e)))
 
-    pub case_readable : (n : ℕ) → a ≡ answer.Rows n → Readable limits case
+    pub case_readable : (n : ℕ) → a ≡ Ok n → Readable limits case
     case_readable n e = (read_decides limits First case).yes.0 (rows_yes limits First case n (sym is ∙ e))
 
-    pub case_passed : (n : ℕ) → a ≡ answer.Rows n → (r : Selected) (end : List ℕ) →
+    pub case_passed : (n : ℕ) → a ≡ Ok n → (r : Result ℕ Refusal) (end : List ℕ) →
         Left limits (word_under limits tbox case book) work (after_case limits tbox case book) r end → Gives r end
     unfolding book_before
     case_passed n e =

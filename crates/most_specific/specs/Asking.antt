@@ -7,11 +7,11 @@
 --   word_under          the word of the most specific cards, all of them unfolded
 --   selected_on         a word of cards where all is answered yes, else the refusal
 --   Left               what is answered, and what is left in the work space, by what the questions answer
-use Rattle.std.specs.Prelude.{ℕ, ◌<◌, ◌≤◌, length, true, List, ◌≡◌}
+use Rattle.std.specs.Prelude.{ℕ, ◌<◌, ◌≤◌, length, true, List, ◌≡◌, Ok, Result}
 use Rattle.table.specs.declared.layout.Limits.{Limits}
 use Rattle.table.specs.Bounds.{Bounded}
 use Rattle.table.specs.Put.{put, zeros}
-use Rattle.picture.specs.Asked.{and_then, asked_from, kept, on_asked}
+use Rattle.picture.specs.Asked.{and_then, asked_from, kept, on_asked, Asked}
 use Rattle.picture.specs.Readable.{Readable}
 use Rattle.workspace.specs.Prepare.{work_size}
 use Rattle.picture.specs.declared.answer.Input.TheVariants.{First}
@@ -24,10 +24,8 @@ use Rattle.field_places.specs.declared.places.Fields.{Fields}
 use Rattle.definitions.specs.Asked.{definitions_asked}
 use Rattle.definitions.specs.Unfolded.{unfolded_file}
 use Rattle.under.specs.Asked.{card_few}
+use Rattle.picture.specs.declared.answer.Refusal.{Refusal}
 use Rattle.under.specs.Book.{case_and_cards, unfolded_book}
-use Rattle.picture.specs.declared.answer.Asked.{Asked}
-use Rattle.book.specs.declared.answer.Selected.{Selected}
-use Rattle.book.specs.declared.answer.Selected.TheVariants.{Cards, Refused}
 
 module _ (limits : Limits) (tbox case book : List ℕ) where
   abbrev pub after_definitions : Asked
@@ -60,9 +58,9 @@ pub record CardsRoom (limits : Limits) (case book : List ℕ) (cards : Fields) (
   pub places_are : Placed card_tag book cards
   pub cards_readable : (k : ℕ) → k < cards.count → Readable limits (card book k)
 
-abbrev pub selected_on : Asked → ℕ → Selected
-selected_on a word = on_asked Refused a (Cards word)
+abbrev pub selected_on : Asked → ℕ → Result ℕ Refusal
+selected_on a word = on_asked a (Ok word)
 
-abbrev pub Left : Limits → ℕ → List ℕ → Asked → Selected → List ℕ → Type 0
+abbrev pub Left : Limits → ℕ → List ℕ → Asked → Result ℕ Refusal → List ℕ → Type 0
 Left limits word work a r end =
     (r ≡ selected_on a word) × (end ≡ kept a (put work 0 (zeros (work_size limits))) work)

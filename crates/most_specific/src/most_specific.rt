@@ -14,104 +14,67 @@ ghost use Rattle.book_tables.specs.Tables.{AllRead};
 ghost use Rattle.most_specific.specs.Asking.{BookRoom, CardsRoom, Left, word_under};
 ghost use Rattle.most_specific.specs.Asking.{after_cards, after_case, after_definitions};
 
-use book::answer::Selected;
 use book_form::form::{card, find_cards, has_book_form};
 use book_selection::compare::select_cards;
-use book_tables::books::Books;
-use book_tables::cache::{SPANS, TABLES};
+use book_tables::cache::Cache;
 use book_tables::merged::ask_merged;
 use book_tables::subsumers::find_subsumers;
+use definition_parts::opened::Tbox;
 use definitions_asked::ask::open_definitions;
-use definitions_asked::given::Rest;
+use definitions_asked::lots::Lot;
 use field_places::places::Fields;
-use picture::answer::{Answer, Asked, Input, refuse, short_buffer};
+use picture::answer::{Input, Refusal, refuse, short_buffer};
 use picture_reader::read::read;
 use prepare_pair::prepare::half_size;
 use table::layout::Limits;
 
 // 2 to 13 of each card in turn.
-fn read_cards(book: &[u8], cards: Fields, limits: Limits) -> Asked
+fn read_cards(book: &[u8], cards: Fields, limits: Limits) -> Result<(), Refusal>
     requires { (Bounded limits) × (Placed card_tag book.now cards) }
     ensures { result ≡ asked_from (card_read limits book.now) cards.count 0 }
 {
-    let mut k = 0;
-    while k < cards.count {
-        match read(card(book, cards, k), limits, Input::Card(k as u8)) {
-            Answer::Rows(_) => {
-                k += 1;
-            }
-            Answer::Refused(refusal) => {
-                return Asked::No(refusal);
-            }
-        }
+    for k in 0..cards.count {
+        read(card(book, cards, k), limits, Input::Card(k as u8))?;
     }
-    Asked::Yes
+    Ok(())
 }
 
 // The word, once 14 is answered yes for all; the work space is cleared.
 fn specific_cards(
-    tbox: &[u8],
+    tbox: &Tbox<'_>,
     case: &[u8],
     book: &[u8],
-    books: Books,
+    cards: Fields,
     limits: Limits,
     work: &mut [u8],
 ) -> u32
-    requires { Findable limits tbox.now case.now book.now books work.old }
-    ensures { (result ≡ word_under limits tbox.now case.now book.now)
+    requires { Findable limits tbox.now case.now book.now cards work.old }
+    ensures { (result ≡ word_under limits tbox.now.bytes.now case.now book.now)
         × (work.new ≡ zeros (work_size limits)) }
 {
-    let mut tables = [0u8; TABLES];
-    let mut spans = [0usize; SPANS];
-    let found = find_subsumers(
-        tbox,
-        case,
-        book,
-        books,
-        limits,
-        work,
-        &mut tables,
-        &mut spans,
-    );
-    select_cards(
-        tbox,
-        book,
-        limits,
-        &mut tables,
-        &mut spans,
-        found.word,
-        found.at,
-        work,
-    )
+    let mut cache = Cache::new();
+    let word = find_subsumers(tbox, case, book, cards, limits, work, &mut cache);
+    select_cards(tbox.bytes, book, limits, &mut cache, word, work)
 }
 
 // 14 of the case and of each card; then the word.
 fn select(
-    tbox: &[u8],
+    tbox: &Tbox<'_>,
     case: &[u8],
     book: &[u8],
-    books: Books,
+    cards: Fields,
     limits: Limits,
     work: &mut [u8],
-) -> Selected
-    requires { (AllRead limits tbox.now case.now book.now books) × (work_size limits ≤ length work.old) }
-    ensures { Left limits (word_under limits tbox.now case.now book.now)
-        work.old (after_definitions limits tbox.now case.now book.now) result
+) -> Result<u32, Refusal>
+    requires { (AllRead limits tbox.now case.now book.now cards) × (work_size limits ≤ length work.old) }
+    ensures { Left limits (word_under limits tbox.now.bytes.now case.now book.now)
+        work.old (after_definitions limits tbox.now.bytes.now case.now book.now) result
         work.new }
 {
     let half = half_size(limits);
     let size = half + half;
-    match ask_merged(tbox, case, book, books, limits) {
-        Asked::Yes => Selected::Cards(specific_cards(
-            tbox,
-            case,
-            book,
-            books,
-            limits,
-            &mut work[..size],
-        )),
-        Asked::No(refusal) => Selected::Refused(refusal),
-    }
+    ask_merged(tbox, case, book, cards, limits)?;
+    Ok(specific_cards(tbox, case, book, cards, limits, &mut work[..size]))
 }
 
 // What is asked of the definitions book, and of the case and the cards under it, and what comes after that.
@@ -122,29 +85,34 @@ fn ask_definitions(
     cards: Fields,
     limits: Limits,
     work: &mut [u8],
-) -> Selected
+) -> Result<u32, Refusal>
     requires { CardsRoom limits case.now book.now cards work.old }
     ensures { Left limits (word_under limits tbox.now case.now book.now)
         work.old (after_cards limits tbox.now case.now book.now) result
         work.new }
 {
-    let opening = open_definitions(tbox, case, book, Rest::Cards, cards, limits);
-    let starts = opening.starts;
-    let defined = opening.defined;
-    let books = Books {
-        cards,
-        starts,
-        defined,
-    };
-    let asked = opening.asked;
-    match asked {
-        Asked::Yes => select(tbox, case, book, books, limits, work),
-        Asked::No(refusal) => Selected::Refused(refusal),
+    let found = open_definitions(tbox, case, &Lot::Cards(book, cards), limits);
+    match &found {
+        Ok(index) => {
+            let opened = Tbox {
+                bytes: tbox,
+                starts: &index.starts,
+                defined: index.defined,
+            };
+            select(&opened, case, book, cards, limits, work)
+        }
+        Err(refusal) => Err(*refusal),
     }
 }
 
 // 24, the cards, and what comes after them.
-fn ask_book(tbox: &[u8], case: &[u8], book: &[u8], limits: Limits, work: &mut [u8]) -> Selected
+fn ask_book(
+    tbox: &[u8],
+    case: &[u8],
+    book: &[u8],
+    limits: Limits,
+    work: &mut [u8],
+) -> Result<u32, Refusal>
     requires { BookRoom limits case.now work.old }
     ensures { Left limits (word_under limits tbox.now case.now book.now)
         work.old (after_case limits tbox.now case.now book.now) result
@@ -152,12 +120,10 @@ fn ask_book(tbox: &[u8], case: &[u8], book: &[u8], limits: Limits, work: &mut [u
 {
     let cards = find_cards(book);
     if !has_book_form(book, cards) {
-        return Selected::Refused(refuse(24, Input::Book));
+        return Err(refuse(24, Input::Book));
     }
-    match read_cards(book, cards, limits) {
-        Asked::Yes => ask_definitions(tbox, case, book, cards, limits, work),
-        Asked::No(refusal) => Selected::Refused(refusal),
-    }
+    read_cards(book, cards, limits)?;
+    ask_definitions(tbox, case, book, cards, limits, work)
 }
 
 // The call: 1; the case; the book. Nothing is written before 14 is answered yes for all.
@@ -167,7 +133,7 @@ pub fn most_specific(
     book: &[u8],
     limits: Limits,
     work: &mut [u8],
-) -> Selected
+) -> Result<u32, Refusal>
     requires { Bounded limits }
     ensures { (result ≡ most_specific_under limits tbox.now case.now book.now
         (length work.old))
@@ -176,10 +142,8 @@ pub fn most_specific(
 {
     let half = half_size(limits);
     if work.len() < half + half {
-        return Selected::Refused(short_buffer());
+        return Err(short_buffer());
     }
-    match read(case, limits, Input::First) {
-        Answer::Rows(_) => ask_book(tbox, case, book, limits, work),
-        Answer::Refused(refusal) => Selected::Refused(refusal),
-    }
+    read(case, limits, Input::First)?;
+    ask_book(tbox, case, book, limits, work)
 }

@@ -17,23 +17,20 @@ use mathlib.Core.Bool.{false}
 use mathlib.Core.List.{List}
 use mathlib.Core.Logic.{◌⊎◌}
 use mathlib.Core.Path.{◌∙◌, ◌≡◌, ap}
-use native.Mathlib.Omega.{arith}
+use Rattle.std.proofs.Common.{Err, Ok}
 use Rattle.table.specs.Bounds.{picture_size}
 use Rattle.table.specs.Put.{put}
 use Rattle.table.specs.declared.layout.Limits.{Limits}
 use Rattle.picture.proofs.Orders.{Decides, EveryRefusal, Unreadable, and_decides, and_refuses, asked_refuses, given, read_decides, read_refuses, said_so, test_decides}
-use Rattle.picture.specs.Asked.{and_then, kept, on_asked, read_asked, room_asked}
+use Rattle.picture.specs.Asked.{and_then, kept, on_asked, read_asked, room_asked, Asked}
 use Rattle.picture.specs.Readable.{FailsAt, Readable}
 use Rattle.picture.specs.Refusal.{refusal_at, short_buffer, too_many}
-use Rattle.picture.specs.declared.answer.Asked.{Asked}
-use Rattle.picture.specs.declared.answer.Asked.TheVariants.{No}
 use Rattle.picture.specs.declared.answer.Input.{Input}
 use Rattle.picture.specs.declared.answer.Input.TheVariants.{First}
 use Rattle.picture.specs.declared.answer.Refusal.{Refusal}
 use Rattle.meaning.proofs.Normals.{normal_size}
 use Rattle.meaning.specs.NormalTable.{merged_count, normal_file}
 use Rattle.normal.specs.Call.{merged_asked, normalize_answer, normalize_result, one_asked}
-use Rattle.normal.specs.declared.normalize.Normalized.TheVariants.{Length, Refused}
 
 module _ (limits : Limits) (input : Input) (s : List ℕ) where
   abbrev pub TooMany : Refusal → Type 0
@@ -44,7 +41,7 @@ module _ (limits : Limits) (input : Input) (s : List ℕ) where
   merged_decides = test_decides (merged_count limits s) limits.rows (too_many input)
 
   -- by the test that is made
-  pub merged_many : leb (merged_count limits s) limits.rows ≡ false → merged_asked limits input s ≡ No (too_many input)
+  pub merged_many : leb (merged_count limits s) limits.rows ≡ false → merged_asked limits input s ≡ Err (too_many input)
   unfolding merged_asked
   merged_many e = rw e
 
@@ -104,18 +101,17 @@ module _ (limits : Limits) (s : List ℕ) (room : ℕ) where
       ≡ and_then a (merged_asked limits First s)
   one_read long a e = one_long long ∙ ap (λ q. and_then q (merged_asked limits First s)) e
 
-  pub length_accepted : (n : ℕ) → normalize_answer limits s room ≡ Length n → Accepted × (n ≡ length (normal_file limits s))
+  pub length_accepted : (n : ℕ) → normalize_answer limits s room ≡ Ok n → Accepted × (n ≡ length (normal_file limits s))
   unfolding normalize_answer
   length_accepted n h =
-      let (all, is) = given Refused (Length (length (normal_file limits s))) (Length n)
-      (λ r e. let z : ◌≡◌ {A = ℕ} 0 1 = cc in omega arith) (one_asked limits s room) h in
+      let (all, is) = given (Ok (length (normal_file limits s))) n (one_asked limits s room) h in
       (one_decides.yes.0 all, cc)
 
-  pub answer_size : (n : ℕ) → normalize_answer limits s room ≡ Length n → n ≤ picture_size limits
+  pub answer_size : (n : ℕ) → normalize_answer limits s room ≡ Ok n → n ≤ picture_size limits
   answer_size n h = let (a, is) = length_accepted n h in rw is (normal_size limits s a.few)
 
 pub normal_by : (limits : Limits) (s out : List ℕ) (a : Asked) → one_asked limits s (length out) ≡ a →
-    (on_asked Refused a (Length (length (normal_file limits s))) ≡ normalize_answer limits s (length out))
+    (on_asked a (Ok (length (normal_file limits s))) ≡ normalize_answer limits s (length out))
     × (kept a (put out 0 (normal_file limits s)) out ≡ normalize_result limits s out)
 unfolding normalize_answer normalize_result
 normal_by limits s out a e = (rw e, rw e)

@@ -1,174 +1,161 @@
-// Merged rows, made depth first: each is counted, written into the lent part, and left once what hangs from it is there.
-ghost use Rattle.std.specs.Prelude.{◌≡◌, Bool, false, not, ℕ, ◌+◌, ◌≤◌, ◌<◌, length};
+// Merged rows, made depth first: each is counted, written into the lent part, and left once what hangs from it is
+// there.
+ghost use Rattle.std.specs.Prelude.{◌≡◌, Bool, false, ℕ, ◌≤◌, ◌<◌, length};
 ghost use Rattle.table.specs.Bounds.{Bounded};
 ghost use Rattle.table.specs.Layout.{«place», roles};
 ghost use Rattle.ale.specs.Tree.{cons, nil};
 ghost use Rattle.meaning.specs.File.{code_at};
 ghost use Rattle.meaning.specs.Meaning.{kind_at};
-ghost use Rattle.row_sets.specs.Rows.{Checked, Known, Surveyed, holds, of_role};
-ghost use Rattle.row_sets.specs.Labels.{Valued};
+ghost use Rattle.row_sets.specs.Rows.{Checked, Known, holds, of_role};
+ghost use Rattle.row_sets.specs.Labels.{OfSome, Valued};
 ghost use Rattle.row_sets.specs.Parts.{exists_part_at, merged_at, parts_at, successors_at, value_part_at};
 ghost use Rattle.normal_writer.specs.Built.{Built};
 ghost use Rattle.normal_writer.specs.Grown.{Grown, Room};
 
 use crate::node::{Branch, Edge, enter, graft_leaf, leave};
-use row_sets::rows::{
-    LINKS, MASKS, ROLE_BITS, RowSet, Successors, fill_links, fill_masks, next_bit,
-};
+use row_sets::linked::Table;
+use row_sets::rows::{LINKS, MASKS, RowSet, Successors};
+use row_sets::survey::Survey;
 use row_sets::values::{Values, gather};
 use table::layout::{KIND_EXISTS, KIND_FOR_ALL, KIND_ROOT, Limits};
 use table_rows::builder::Builder;
 
 // One successor more: the merged row of a set, with what hangs from it down to a depth.
-#[cycle(graft_graft_exists_graft_role_graft_roles_graft_row_graft_value)]
-fn graft(
-    s: &[u8],
-    rows: usize,
+#[cycle(graft)]
+fn graft<'a>(
+    survey: &'a Survey<'a>,
     limit: usize,
-    links: &[u8; LINKS],
-    masks: &[u64; MASKS],
     values: Values,
     depth: usize,
     out: &mut [u8],
     branch: Branch,
     edge: Edge,
 ) -> Branch
-    requires { (Surveyed s.now rows links.now masks.now) × ((Known s.now rows values.successors) × ((Room limit branch out.old) × (code_at branch.table.rows (kind_at edge.kind) ≡ edge.kind))) }
-    ensures { (q : ℕ → Bool) → Valued s.now rows q values → Grown limit edge.parent branch out.old (cons (kind_at edge.kind) edge.role (merged_at s.now rows depth q) nil) result out.new }
+    requires valued { OfSome survey.now.table.bytes.now survey.now.table.rows values }
+    requires room { Room limit branch out.old }
+    requires coded { code_at branch.table.rows (kind_at edge.kind) ≡ edge.kind }
+    ensures { (q : ℕ → Bool) → Valued survey.now.table.bytes.now survey.now.table.rows q values →
+        Grown limit edge.parent branch out.old
+        (cons (kind_at edge.kind) edge.role (merged_at survey.now.table.bytes.now survey.now.table.rows depth q) nil)
+        result out.new }
 {
-    let start = branch.table;
     if limit <= branch.merged {
         return Branch {
-            table: start,
             merged: limit + 1,
-            bottom: branch.bottom,
+            ..branch
         };
     }
-    let label = values.label;
-    let entered = enter(out, branch, edge, label);
+    let entered = enter(out, branch, edge, values.label);
+    let parent = branch.table.rows;
     let below = graft_roles(
-        s,
-        rows,
+        survey,
         limit,
-        links,
-        masks,
         values.successors,
         depth,
         out,
         entered,
-        start.rows,
+        parent,
     );
-    leave(out, branch, edge, label, below)
+    leave(out, branch, edge, values.label, below)
 }
 
 // The same, without a walk along the roles where nothing hangs.
-#[cycle(graft_graft_exists_graft_role_graft_roles_graft_row_graft_value)]
-fn graft_row(
-    s: &[u8],
-    rows: usize,
+#[cycle(graft)]
+fn graft_row<'a>(
+    survey: &'a Survey<'a>,
     limit: usize,
-    links: &[u8; LINKS],
-    masks: &[u64; MASKS],
     values: Values,
     depth: usize,
     out: &mut [u8],
     branch: Branch,
     edge: Edge,
 ) -> Branch
-    requires { (Surveyed s.now rows links.now masks.now) × ((Known s.now rows values.successors) × ((Room limit branch out.old) × (code_at branch.table.rows (kind_at edge.kind) ≡ edge.kind))) }
-    ensures { (q : ℕ → Bool) → Valued s.now rows q values → Grown limit edge.parent branch out.old (cons (kind_at edge.kind) edge.role (merged_at s.now rows depth q) nil) result out.new }
+    requires valued { OfSome survey.now.table.bytes.now survey.now.table.rows values }
+    requires room { Room limit branch out.old }
+    requires coded { code_at branch.table.rows (kind_at edge.kind) ≡ edge.kind }
+    ensures { (q : ℕ → Bool) → Valued survey.now.table.bytes.now survey.now.table.rows q values →
+        Grown limit edge.parent branch out.old
+        (cons (kind_at edge.kind) edge.role (merged_at survey.now.table.bytes.now survey.now.table.rows depth q) nil)
+        result out.new }
 {
     if values.successors.roles == 0 {
         graft_leaf(limit, out, branch, edge, values.label)
     } else {
-        graft(
-            s, rows, limit, links, masks, values, depth, out, branch, edge,
-        )
+        graft(survey, limit, values, depth, out, branch, edge)
     }
 }
 
 // The successors of the merged row of a set, role by role.
-#[cycle(graft_graft_exists_graft_role_graft_roles_graft_row_graft_value)]
-fn graft_roles(
-    s: &[u8],
-    rows: usize,
+#[cycle(graft)]
+fn graft_roles<'a>(
+    survey: &'a Survey<'a>,
     limit: usize,
-    links: &[u8; LINKS],
-    masks: &[u64; MASKS],
     successors: Successors,
     depth: usize,
     out: &mut [u8],
     branch: Branch,
     parent: usize,
 ) -> Branch
-    requires { (Surveyed s.now rows links.now masks.now) × ((Known s.now rows successors) × ((Room limit branch out.old) × (0 < branch.table.rows))) }
-    ensures { Grown limit parent branch out.old (successors_at s.now rows depth (holds successors.set)) result out.new }
+    requires known { Known survey.now.table.bytes.now survey.now.table.rows successors }
+    requires room { Room limit branch out.old }
+    requires some { 0 < branch.table.rows }
+    ensures { Grown limit parent branch out.old
+        (successors_at survey.now.table.bytes.now survey.now.table.rows depth (holds successors.set)) result out.new }
 {
     if depth == 0 {
         return branch;
     }
     let mut grown = branch;
-    let mut role = next_bit(successors.roles, 0);
-    while role < ROLE_BITS {
-        let set = successors.set;
+    for role in successors.distinct_roles() {
         grown = graft_role(
-            s,
-            rows,
+            survey,
             limit,
-            links,
-            masks,
-            set,
+            successors.set,
             depth - 1,
             out,
             grown,
             parent,
-            role as u8,
+            role,
         );
         if limit < grown.merged {
             return grown;
         }
-        role = next_bit(successors.roles, role + 1);
     }
     grown
 }
 
 // Those of one role: one for A, if A is not empty, and then one for each some-successor with A.
-#[cycle(graft_graft_exists_graft_role_graft_roles_graft_row_graft_value)]
-fn graft_role(
-    s: &[u8],
-    rows: usize,
+#[cycle(graft)]
+fn graft_role<'a>(
+    survey: &'a Survey<'a>,
     limit: usize,
-    links: &[u8; LINKS],
-    masks: &[u64; MASKS],
-    successors: RowSet,
+    set: RowSet,
     depth: usize,
     out: &mut [u8],
     branch: Branch,
     parent: usize,
     role: u8,
 ) -> Branch
-    requires { (Surveyed s.now rows links.now masks.now) × (((role < roles) × (holds successors 0 ≡ false)) × ((Room limit branch out.old) × (0 < branch.table.rows))) }
-    ensures { Grown limit parent branch out.old (parts_at s.now rows depth role (of_role s.now role (holds successors))) result out.new }
+    requires role_below { role < roles }
+    requires rootless { holds set 0 ≡ false }
+    requires room { Room limit branch out.old }
+    requires some { 0 < branch.table.rows }
+    ensures { Grown limit parent branch out.old
+        (parts_at survey.now.table.bytes.now survey.now.table.rows depth role
+        (of_role survey.now.table.bytes.now role (holds set))) result out.new }
 {
-    let all = successors.of_edge(masks, KIND_FOR_ALL, role);
-    let some = successors.of_edge(masks, KIND_EXISTS, role);
-    let values = gather(s, rows, links, all);
-    let grown = graft_value(
-        s, rows, limit, links, masks, all, values, depth, out, branch, parent, role,
-    );
-    graft_exists(
-        s, rows, limit, links, masks, all, some, values, depth, out, grown, parent, role,
-    )
+    let all = set.of_edge(survey.masks, KIND_FOR_ALL, role);
+    let some = set.of_edge(survey.masks, KIND_EXISTS, role);
+    let values = gather(&survey.table, all);
+    let grown = graft_value(survey, limit, values, depth, out, branch, parent, role);
+    graft_exists(survey, limit, some, values, depth, out, grown, parent, role)
 }
 
-#[cycle(graft_graft_exists_graft_role_graft_roles_graft_row_graft_value)]
-fn graft_value(
-    s: &[u8],
-    rows: usize,
+// The one for A, of which the values are.
+#[cycle(graft)]
+fn graft_value<'a>(
+    survey: &'a Survey<'a>,
     limit: usize,
-    links: &[u8; LINKS],
-    masks: &[u64; MASKS],
-    all: RowSet,
     values: Values,
     depth: usize,
     out: &mut [u8],
@@ -176,10 +163,14 @@ fn graft_value(
     parent: usize,
     role: u8,
 ) -> Branch
-    requires { (Surveyed s.now rows links.now masks.now) × ((Valued s.now rows (holds all) values) × ((Room limit branch out.old) × (0 < branch.table.rows))) }
-    ensures { Grown limit parent branch out.old (value_part_at s.now rows depth role (holds all) values.first) result out.new }
+    requires valued { OfSome survey.now.table.bytes.now survey.now.table.rows values }
+    requires room { Room limit branch out.old }
+    requires some { 0 < branch.table.rows }
+    ensures { (q : ℕ → Bool) → Valued survey.now.table.bytes.now survey.now.table.rows q values →
+        Grown limit parent branch out.old
+        (value_part_at survey.now.table.bytes.now survey.now.table.rows depth role q values.first) result out.new }
 {
-    if rows <= values.first {
+    if survey.table.rows <= values.first {
         return branch;
     }
     let edge = Edge {
@@ -187,19 +178,14 @@ fn graft_value(
         kind: KIND_FOR_ALL,
         role,
     };
-    graft_row(
-        s, rows, limit, links, masks, values, depth, out, branch, edge,
-    )
+    graft_row(survey, limit, values, depth, out, branch, edge)
 }
 
-#[cycle(graft_graft_exists_graft_role_graft_roles_graft_row_graft_value)]
-fn graft_exists(
-    s: &[u8],
-    rows: usize,
+// The one for each some-successor.
+#[cycle(graft)]
+fn graft_exists<'a>(
+    survey: &'a Survey<'a>,
     limit: usize,
-    links: &[u8; LINKS],
-    masks: &[u64; MASKS],
-    all: RowSet,
     some: RowSet,
     values: Values,
     depth: usize,
@@ -208,8 +194,13 @@ fn graft_exists(
     parent: usize,
     role: u8,
 ) -> Branch
-    requires { (Surveyed s.now rows links.now masks.now) × ((Valued s.now rows (holds all) values) × ((Room limit branch out.old) × (0 < branch.table.rows))) }
-    ensures { Grown limit parent branch out.old (exists_part_at s.now rows depth role (holds some) (holds all) rows) result out.new }
+    requires valued { OfSome survey.now.table.bytes.now survey.now.table.rows values }
+    requires room { Room limit branch out.old }
+    requires some { 0 < branch.table.rows }
+    ensures { (q : ℕ → Bool) → Valued survey.now.table.bytes.now survey.now.table.rows q values →
+        Grown limit parent branch out.old
+        (exists_part_at survey.now.table.bytes.now survey.now.table.rows depth role (holds some) q
+        survey.now.table.rows) result out.new }
 {
     let edge = Edge {
         parent,
@@ -217,14 +208,12 @@ fn graft_exists(
         role,
     };
     let mut grown = branch;
-    let mut j = some.next(0, rows);
-    while j < rows {
-        let whole = values.add(s, rows, links, j);
-        grown = graft_row(s, rows, limit, links, masks, whole, depth, out, grown, edge);
+    for j in some.members(survey.table.rows) {
+        let whole = values.add(&survey.table, j);
+        grown = graft_row(survey, limit, whole, depth, out, grown, edge);
         if limit < grown.merged {
             return grown;
         }
-        j = some.next(j + 1, rows);
     }
     grown
 }
@@ -235,9 +224,8 @@ pub fn build(s: &[u8], rows: usize, limits: Limits, out: &mut [u8]) -> Branch
     ensures { Built limits s.now out.old result out.new }
 {
     let mut links = [0u8; LINKS];
-    fill_links(s, rows, &mut links);
     let mut masks = [0u64; MASKS];
-    fill_masks(s, rows, &mut masks);
+    let survey = Survey::new(Table::new(s, rows, &mut links), &mut masks);
     let branch = Branch {
         table: Builder::new(),
         merged: 0,
@@ -248,18 +236,6 @@ pub fn build(s: &[u8], rows: usize, limits: Limits, out: &mut [u8]) -> Branch
         kind: KIND_ROOT,
         role: 0,
     };
-    let none = Values::none(rows);
-    let root = none.add(s, rows, &links, 0);
-    graft(
-        s,
-        rows,
-        limits.rows,
-        &links,
-        &masks,
-        root,
-        limits.depth,
-        out,
-        branch,
-        edge,
-    )
+    let root = Values::none(rows).add(&survey.table, 0);
+    graft(&survey, limits.rows, root, limits.depth, out, branch, edge)
 }

@@ -1,5 +1,5 @@
-// A merged row as it is written and left. A table under construction is a value, so a row that is inconsistent or dropped is given up by
-// going on from the earlier value.
+// A merged row as it is written and left. A table under construction is a value, so a row that is inconsistent or
+// dropped is given up by going on from the earlier value.
 ghost use Rattle.std.specs.Prelude.{◌≡◌, ◌||◌, false, not, ◌+◌, ◌≤◌, ◌<◌, eqb, length};
 ghost use Rattle.table.specs.Bounds.{max_rows};
 ghost use Rattle.table.specs.Layout.{kind_for_all, «place», row_size};
@@ -35,22 +35,21 @@ pub struct Edge {
 
 // Writes a row after those that are there; its mark is set only when it is left.
 pub fn enter(out: &mut [u8], branch: Branch, edge: Edge, label: Label) -> Branch
-    requires { (branch.table.rows < max_rows) × («place» branch.table.rows row_size ≤ length out.old) × (branch.merged < max_rows) }
+    requires few { branch.table.rows < max_rows }
+    requires space { «place» branch.table.rows row_size ≤ length out.old }
+    requires counted { branch.merged < max_rows }
     ensures { Entered branch out.old edge label result out.new }
 {
-    let table = branch.table;
-    let wanted = label.wanted;
-    let excluded = label.excluded;
     let row = Row {
         parent: edge.parent,
         kind: edge.kind,
         role: edge.role,
         impossible: 0,
-        wanted,
-        excluded,
+        wanted: label.wanted,
+        excluded: label.excluded,
     };
     Branch {
-        table: table.push(out, row),
+        table: branch.table.push(out, row),
         merged: branch.merged + 1,
         bottom: false,
     }
@@ -59,41 +58,29 @@ pub fn enter(out: &mut [u8], branch: Branch, edge: Edge, label: Label) -> Branch
 fn is_inconsistent(label: Label, below: Branch) -> bool
     ensures { result ≡ is_inconsistent label below }
 {
-    if label.clashes() {
-        return true;
-    }
-    below.bottom
+    label.clashes() || below.bottom
 }
 
 fn is_dropped(branch: Branch, edge: Edge, label: Label, below: Branch) -> bool
     requires { branch.table.rows < max_rows }
     ensures { result ≡ is_dropped branch edge label below }
 {
-    if edge.kind != KIND_FOR_ALL {
-        return false;
-    }
-    if !label.is_bare() {
-        return false;
-    }
-    below.table.rows == branch.table.rows + 1
+    edge.kind == KIND_FOR_ALL && label.is_bare() && below.table.rows == branch.table.rows + 1
 }
 
 // Whether a some-successor is ⊥ once this row is inconsistent.
 fn spoils(branch: Branch, edge: Edge) -> bool
     ensures { result ≡ (branch.bottom || not (eqb edge.kind kind_for_all)) }
 {
-    if branch.bottom {
-        return true;
-    }
-    edge.kind != KIND_FOR_ALL
+    branch.bottom || edge.kind != KIND_FOR_ALL
 }
 
 // The row as it is left: inconsistent, dropped, or with what hangs from it.
 pub fn leave(out: &mut [u8], branch: Branch, edge: Edge, label: Label, below: Branch) -> Branch
-    requires { (branch.table.rows < max_rows) × («place» branch.table.rows row_size ≤ length out.old) }
+    requires few { branch.table.rows < max_rows }
+    requires space { «place» branch.table.rows row_size ≤ length out.old }
     ensures { Left branch edge label below out.old result out.new }
 {
-    let table = branch.table;
     if is_inconsistent(label, below) {
         let row = Row {
             parent: edge.parent,
@@ -104,37 +91,34 @@ pub fn leave(out: &mut [u8], branch: Branch, edge: Edge, label: Label, below: Br
             excluded: Names::none(),
         };
         return Branch {
-            table: table.push(out, row),
+            table: branch.table.push(out, row),
             merged: below.merged,
             bottom: spoils(branch, edge),
         };
     }
     if is_dropped(branch, edge, label, below) {
         return Branch {
-            table,
             merged: below.merged,
-            bottom: branch.bottom,
+            ..branch
         };
     }
-    let whole = below.table;
     Branch {
-        table: whole,
-        merged: below.merged,
         bottom: branch.bottom,
+        ..below
     }
 }
 
 // One successor more, from which nothing hangs.
 pub fn graft_leaf(limit: usize, out: &mut [u8], branch: Branch, edge: Edge, label: Label) -> Branch
-    requires { (Room limit branch out.old) × (code_at branch.table.rows (kind_at edge.kind) ≡ edge.kind) }
-    ensures { (l : tree.Label picture_signature) → LabelIs label l → Grown limit edge.parent branch out.old (cons (kind_at edge.kind) edge.role (node l nil) nil) result out.new }
+    requires room { Room limit branch out.old }
+    requires coded { code_at branch.table.rows (kind_at edge.kind) ≡ edge.kind }
+    ensures { (l : tree.Label picture_signature) → LabelIs label l →
+        Grown limit edge.parent branch out.old (cons (kind_at edge.kind) edge.role (node l nil) nil) result out.new }
 {
-    let start = branch.table;
     if limit <= branch.merged {
         return Branch {
-            table: start,
             merged: limit + 1,
-            bottom: branch.bottom,
+            ..branch
         };
     }
     let entered = enter(out, branch, edge, label);

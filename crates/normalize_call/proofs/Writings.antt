@@ -17,6 +17,7 @@ use mathlib.Core.Bool.{Bool, true}
 use mathlib.Core.List.{List}
 use mathlib.Core.Path.{◌∙◌, ◌≡◌, ap, refl, sym}
 use native.Mathlib.Omega.{arith}
+use Rattle.std.proofs.Common.{Err, Ok, Result}
 use Rattle.table.proofs.Bools.{by_test}
 use Rattle.table.specs.Bounds.{Bounded, max_rows, picture_size}
 use Rattle.table.specs.Fields.{ends_at}
@@ -26,18 +27,14 @@ use Rattle.table.specs.Put.{put}
 use Rattle.table.specs.declared.layout.Limits.{Limits}
 use Rattle.picture.proofs.Keeping.{kept_no, kept_yes}
 use Rattle.picture.proofs.Orders.{on_no, on_yes}
-use Rattle.picture.specs.Asked.{and_then, kept, on_asked, read_asked}
+use Rattle.picture.specs.Asked.{and_then, kept, on_asked, read_asked, Asked, yes}
 use Rattle.picture.specs.Readable.{Readable}
 use Rattle.picture.specs.Refusal.{short_buffer, too_many}
-use Rattle.picture.specs.declared.answer.Asked.{Asked}
-use Rattle.picture.specs.declared.answer.Asked.TheVariants.{No, Yes}
 use Rattle.picture.specs.declared.answer.Input.TheVariants.{First}
 use Rattle.picture.specs.declared.answer.Refusal.{Refusal}
 use Rattle.meaning.specs.NormalTable.{normal_file}
 use Rattle.normal.proofs.Answers.{merged_decides, merged_many}
 use Rattle.normal.specs.Call.{merged_asked}
-use Rattle.normal.specs.declared.normalize.Normalized.{Normalized}
-use Rattle.normal.specs.declared.normalize.Normalized.TheVariants.{Length, Refused}
 use Rattle.normal_writer.proofs.Tablings.{none_many, some_few, tabled_fits, tabled_there}
 use Rattle.normal_writer.specs.Tables.{Tabled}
 use Rattle.definitions.proofs.Empty.{empty_asked, empty_unfolded}
@@ -66,16 +63,16 @@ module _ (limits : Limits) (bounded : Bounded limits) (s out : List ℕ) (r : �
       let there = tabled_there limits s out r end bounded tabled few room in
       (there.0, there.1, tabled_fits limits s out r end bounded tabled few))
 
-  pub table_written_is : (table result : List ℕ) (a : Normalized) (l : List ℕ) → table ≡ take (place r end_size) end →
-      a ≡ pick (eqb r 0) (Refused (too_many First)) (Length (length table)) →
+  pub table_written_is : (table result : List ℕ) (a : Result ℕ Refusal) (l : List ℕ) → table ≡ take (place r end_size) end →
+      a ≡ pick (eqb r 0) (Err (too_many First)) (Ok (length table)) →
       l ≡ pick (eqb r 0) result (put result 0 table) → Written limits (merged_asked limits First s) s result a l
   table_written_is table result a l is answer bytes =
       by_test (eqb r 0)
       (λ e.
       let many = merged_many limits First s (none_many limits s out r end bounded tabled (eqb-true r 0 e)) in
       record {
-        answer = answer ∙ ap (λ (b : Bool). pick b (Refused (too_many First)) (Length (length table))) e
-            ∙ sym (on_no Refused _ _ _ many);
+        answer = answer ∙ ap (λ (b : Bool). pick b (Err (too_many First)) (Ok (length table))) e
+            ∙ sym (on_no _ _ _ many);
         bytes = bytes ∙ ap (λ (b : Bool). pick b result (put result 0 table)) e ∙ sym (kept_no _ _ _ _ many);
       })
       (λ e.
@@ -83,8 +80,8 @@ module _ (limits : Limits) (bounded : Bounded limits) (s out : List ℕ) (r : �
       let all = (merged_decides limits First s).yes.1 few in
       let file = is ∙ tabled.file few in
       record {
-        answer = answer ∙ ap (λ (b : Bool). pick b (Refused (too_many First)) (Length (length table))) e
-            ∙ ap (λ (t : List ℕ). Length (length t)) file ∙ sym (on_yes Refused _ _ all);
+        answer = answer ∙ ap (λ (b : Bool). pick b (Err (too_many First)) (Ok (length table))) e
+            ∙ ap (λ (t : List ℕ). Ok (length t)) file ∙ sym (on_yes _ _ all);
         bytes = bytes ∙ ap (λ (b : Bool). pick b result (put result 0 table)) e
             ∙ ap (put result 0) file ∙ sym (kept_yes _ _ _ all);
       })
@@ -101,11 +98,11 @@ module _ (limits : Limits) (tbox picture result : List ℕ) where
   abbrev all : Asked
   all = and_then before (merged_asked limits First unfolded)
 
-  pub written_as : (a : Normalized) (l : List ℕ) → before ≡ Yes →
+  pub written_as : (a : Result ℕ Refusal) (l : List ℕ) → before ≡ yes →
       Written limits (merged_asked limits First unfolded) unfolded result a l → Written limits all unfolded result a l
   written_as a l e w = rw e w
 
-  pub written_empty : (a : Normalized) (l : List ℕ) → Readable limits picture → ends_at tbox 0 ≡ true →
+  pub written_empty : (a : Result ℕ Refusal) (l : List ℕ) → Readable limits picture → ends_at tbox 0 ≡ true →
       Written limits (merged_asked limits First picture) picture result a l → Written limits all unfolded result a l
   written_empty a l readable ends w =
       let empty = ends_count tbox ends in
@@ -115,23 +112,23 @@ module _ (limits : Limits) (tbox picture result : List ℕ) where
       )
       w
 
-  pub written_no : (r : Refusal) → before ≡ No r → Written limits all unfolded result (Refused r) result
+  pub written_no : (r : Refusal) → before ≡ Err r → Written limits all unfolded result (Err r) result
   written_no r e = rw e (record { answer = refl; bytes = refl })
 
 -- ---- with 1 and the reading
 
 module _ (limits : Limits) (tbox picture : List ℕ) (room : ℕ) where
-  pub one_short : room < picture_size limits → one_asked_under limits tbox picture room ≡ No short_buffer
+  pub one_short : room < picture_size limits → one_asked_under limits tbox picture room ≡ Err short_buffer
   unfolding lent_under
   one_short short = rw (lt-leb (picture_size limits) room short)
 
   module _ (long : picture_size limits ≤ room) where
-    pub one_unread : (r : Refusal) → read_asked limits First picture ≡ No r →
-        one_asked_under limits tbox picture room ≡ No r
+    pub one_unread : (r : Refusal) → read_asked limits First picture ≡ Err r →
+        one_asked_under limits tbox picture room ≡ Err r
     unfolding lent_under under_asked asked_of
     one_unread r e = rw (le-leb (picture_size limits) room long, e)
 
-    pub one_read : read_asked limits First picture ≡ Yes →
+    pub one_read : read_asked limits First picture ≡ yes →
         one_asked_under limits tbox picture room
         ≡ and_then (definitions_asked limits tbox (one picture))
         (merged_asked limits First (unfolded_file limits tbox picture))
@@ -141,19 +138,19 @@ module _ (limits : Limits) (tbox picture : List ℕ) (room : ℕ) where
 -- ---- the call
 
 module _ (limits : Limits) (bounded : Bounded limits) (tbox picture result : List ℕ) where
-  pub under_by : (asked : Asked) (a : Normalized) (l : List ℕ) →
+  pub under_by : (asked : Asked) (a : Result ℕ Refusal) (l : List ℕ) →
       one_asked_under limits tbox picture (length result) ≡ asked →
       Written limits asked (unfolded_file limits tbox picture) result a l →
       (a ≡ normalize_under limits tbox picture (length result)) × (l ≡ normalize_result_under limits tbox picture result)
   under_by asked a l e w =
       let file = normal_file limits (unfolded_file limits tbox picture) in (
-        w.answer ∙ ap (λ (x : Asked). on_asked Refused x (Length (length file))) (sym e)
+        w.answer ∙ ap (λ (x : Asked). on_asked x (Ok (length file))) (sym e)
             ∙ sym (normalize_asked limits bounded tbox picture (length result)),
         w.bytes ∙ ap (λ (x : Asked). kept x (put result 0 file) result) (sym e)
             ∙ sym (normalize_result_asked limits bounded tbox picture result),
       )
 
-  pub under_no : (r : Refusal) → one_asked_under limits tbox picture (length result) ≡ No r →
-      (Refused r ≡ normalize_under limits tbox picture (length result))
+  pub under_no : (r : Refusal) → one_asked_under limits tbox picture (length result) ≡ Err r →
+      (Err r ≡ normalize_under limits tbox picture (length result))
       × (result ≡ normalize_result_under limits tbox picture result)
-  under_no r e = under_by (No r) (Refused r) result e (record { answer = refl; bytes = refl })
+  under_no r e = under_by (Err r) (Err r) result e (record { answer = refl; bytes = refl })

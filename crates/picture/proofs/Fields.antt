@@ -13,6 +13,7 @@ use Prim.Native.Nat.{ℕ, ◌≤◌, ◌<◌}
 use native.Mathlib.Omega.{arith}
 use borrow.Author.Tests.{ltb-true, leb-true, eqb-true, lt-ltb, le-leb, eq-eqb}
 use lib.Dec.{eqb, leb, ltb}
+use Rattle.std.proofs.Common.{Err, Ok, Result}
 use Rattle.table.specs.Pick.{pick}
 use lib.ListN.{length}
 use Rattle.table.specs.Layout.{«place», head_size, row_tag, end_tag, row_length, end_length, row_size, end_size}
@@ -21,7 +22,7 @@ use Rattle.table.specs.declared.layout.Limits.{Limits}
 use Rattle.picture.specs.Depth.{depth}
 use Rattle.picture.specs.Questions.{ask, tag_ok, length_for, kind_ok, role_ok, parent_ok, depth_ok, impossible_ok, value_field, row_field, end_field, field_at}
 use Rattle.picture.specs.declared.field.Field.{Field}
-use Rattle.picture.specs.declared.field.Field.TheVariants.{Row, End, Bad}
+use Rattle.picture.specs.declared.field.Field.TheVariants.{End, Row}
 
 pub record RowOk (limits : Limits) (s : List ℕ) (n : ℕ) : Type 0 where
   pub tag : tag_of s n ≡ row_tag
@@ -41,21 +42,21 @@ pub record EndOk (s : List ℕ) (n : ℕ) : Type 0 where
   pub stops : length s ≡ place n end_size
 
 -- a field that is no refusal
-good : Field → Bool
-good (Row d) = true
-good End = true
-good (Bad q) = false
+good : Result Field ℕ → Bool
+good (Ok (Row d)) = true
+good (Ok End) = true
+good (Err q) = false
 
 -- a question on the way to such a field was answered yes
-passed : (q : ℕ) (b : Bool) (next f : Field) → good f ≡ true → ask q b next ≡ f → (b ≡ true) × (next ≡ f)
+passed : (q : ℕ) (b : Bool) (next f : Result Field ℕ) → good f ≡ true → ask q b next ≡ f → (b ≡ true) × (next ≡ f)
 unfolding good
 passed q true next f g h = (refl, h)
-passed q false next (Row d) g h = absurd (let z : ◌≡◌ {A = ℕ} 0 1 = cc in omega arith)
-passed q false next End g h = absurd (let z : ◌≡◌ {A = ℕ} 0 1 = cc in omega arith)
-passed q false next (Bad p) g h = absurd (let z : ◌≡◌ {A = ℕ} 0 1 = cc in omega arith)
+passed q false next (Ok (Row d)) g h = absurd (let z : ◌≡◌ {A = ℕ} 0 1 = cc in omega arith)
+passed q false next (Ok End) g h = absurd (let z : ◌≡◌ {A = ℕ} 0 1 = cc in omega arith)
+passed q false next (Err p) g h = absurd (let z : ◌≡◌ {A = ℕ} 0 1 = cc in omega arith)
 
-module _ (limits : Limits) (s : List ℕ) (n : ℕ) (f : Field) (g : good f ≡ true) where
-  row_part : tag_of s n ≡ row_tag → length_of s n ≡ row_length → row_field limits s n ≡ f → RowOk limits s n × (Row (depth (parent_of s) n) ≡ f)
+module _ (limits : Limits) (s : List ℕ) (n : ℕ) (f : Result Field ℕ) (g : good f ≡ true) where
+  row_part : tag_of s n ≡ row_tag → length_of s n ≡ row_length → row_field limits s n ≡ f → RowOk limits s n × (Ok (Row (depth (parent_of s) n)) ≡ f)
   unfolding row_field value_field
   row_part t l h =
       let r = passed 5 _ _ f g h in
@@ -79,7 +80,7 @@ module _ (limits : Limits) (s : List ℕ) (n : ℕ) (f : Field) (g : good f ≡ 
         i.1,
       )
 
-  end_part : tag_of s n ≡ end_tag → length_of s n ≡ end_length → end_field s n ≡ f → EndOk s n × (End ≡ f)
+  end_part : tag_of s n ≡ end_tag → length_of s n ≡ end_length → end_field s n ≡ f → EndOk s n × ((Ok End) ≡ f)
   unfolding end_field
   end_part t l h =
       let r = passed 7 _ _ f g h in
@@ -99,7 +100,7 @@ unfolding tag_ok length_for
 by_tag tag len true e t l = inl (eqb-true tag row_tag e, l ∙ simp e, refl)
 by_tag tag len false e t l = inr (eqb-true tag end_tag (simp e at t), l ∙ simp e, refl)
 
-head : (limits : Limits) (s : List ℕ) (n : ℕ) (f : Field) → good f ≡ true → field_at limits s n ≡ f → (RowOk limits s n × (Row (depth (parent_of s) n) ≡ f)) ⊎ (EndOk s n × (End ≡ f))
+head : (limits : Limits) (s : List ℕ) (n : ℕ) (f : Result Field ℕ) → good f ≡ true → field_at limits s n ≡ f → (RowOk limits s n × (Ok (Row (depth (parent_of s) n)) ≡ f)) ⊎ (EndOk s n × ((Ok End) ≡ f))
 unfolding field_at
 head limits s n f g h =
     let b = passed 2 (leb (place n head_size) (length s)) _ f g h in
@@ -108,22 +109,22 @@ head limits s n f g h =
     ⊎_map (λ w. row_part limits s n f g w.0 w.1 (rw w.2 at l.1)) (λ w. end_part limits s n f g w.0 w.1 (rw w.2 at l.1))
     (by_tag (tag_of s n) (length_of s n) (eqb (tag_of s n) row_tag) refl t.0 (eqb-true (length_of s n) (length_for (tag_of s n)) l.0))
 
-pub row_ok : (limits : Limits) (s : List ℕ) (n d : ℕ) → field_at limits s n ≡ Row d → RowOk limits s n × (d ≡ depth (parent_of s) n)
+pub row_ok : (limits : Limits) (s : List ℕ) (n d : ℕ) → field_at limits s n ≡ Ok (Row d) → RowOk limits s n × (d ≡ depth (parent_of s) n)
 unfolding good
 row_ok limits s n d h =
-    ⊎_elim (λ w. (w.0, (let e : Row (depth (parent_of s) n) ≡ Row d = w.1 in cc))) (λ w. absurd (let e : End ≡ Row d = w.1 in let z : ◌≡◌ {A = ℕ} 0 1 = cc in omega arith)) (head limits s n (Row d) refl h)
+    ⊎_elim (λ w. (w.0, (let e : Ok (Row (depth (parent_of s) n)) ≡ Ok (Row d) = w.1 in cc))) (λ w. absurd (let e : (Ok End) ≡ Ok (Row d) = w.1 in let z : ◌≡◌ {A = ℕ} 0 1 = cc in omega arith)) (head limits s n (Ok (Row d)) refl h)
 
-pub end_ok : (limits : Limits) (s : List ℕ) (n : ℕ) → field_at limits s n ≡ End → EndOk s n
+pub end_ok : (limits : Limits) (s : List ℕ) (n : ℕ) → field_at limits s n ≡ Ok End → EndOk s n
 unfolding good
 end_ok limits s n h =
-    ⊎_elim (λ w. absurd (let e : Row (depth (parent_of s) n) ≡ End = w.1 in let z : ◌≡◌ {A = ℕ} 0 1 = cc in omega arith)) (λ w. w.0) (head limits s n End refl h)
+    ⊎_elim (λ w. absurd (let e : Ok (Row (depth (parent_of s) n)) ≡ (Ok End) = w.1 in let z : ◌≡◌ {A = ℕ} 0 1 = cc in omega arith)) (λ w. w.0) (head limits s n (Ok End) refl h)
 
-pub ok_row : (limits : Limits) (s : List ℕ) (n : ℕ) → RowOk limits s n → field_at limits s n ≡ Row (depth (parent_of s) n)
+pub ok_row : (limits : Limits) (s : List ℕ) (n : ℕ) → RowOk limits s n → field_at limits s n ≡ Ok (Row (depth (parent_of s) n))
 unfolding field_at tag_ok length_for row_field value_field
 ok_row limits s n r =
     simp (le-leb (place n head_size) (length s) (omega (arith, r.whole)), r.tag, r.row_length_is, lt-ltb _ _ r.few, le-leb _ _ r.whole, r.kind, r.role, r.parent, r.shallow, r.impossible)
 
-pub ok_end : (limits : Limits) (s : List ℕ) (n : ℕ) → EndOk s n → field_at limits s n ≡ End
+pub ok_end : (limits : Limits) (s : List ℕ) (n : ℕ) → EndOk s n → field_at limits s n ≡ Ok End
 unfolding field_at tag_ok length_for end_field
 ok_end limits s n r =
     simp (le-leb (place n head_size) (length s) (omega (arith, r.stops)), r.tag, r.end_length_is, lt-ltb 0 n r.rows, eq-eqb _ _ r.stops)
@@ -136,16 +137,16 @@ pub record Asked (q : ℕ) : Type 0 where
 asked : {q : ℕ} → 2 ≤ q → q ≤ 13 → Asked q
 asked least most = record { least = least; most = most }
 
-asks : (p q : ℕ) (b : Bool) (next : Field) → Asked p → (next ≡ Bad q → Asked q) → ask p b next ≡ Bad q → Asked q
+asks : (p q : ℕ) (b : Bool) (next : Result Field ℕ) → Asked p → (next ≡ Err q → Asked q) → ask p b next ≡ Err q → Asked q
 asks p q true next here rest h = rest h
 asks p q false next here rest h = let e : p ≡ q = cc in subst Asked e here
 
-picks : (q : ℕ) (b : Bool) (x y : Field) → (x ≡ Bad q → Asked q) → (y ≡ Bad q → Asked q) → pick b x y ≡ Bad q → Asked q
+picks : (q : ℕ) (b : Bool) (x y : Result Field ℕ) → (x ≡ Err q → Asked q) → (y ≡ Err q → Asked q) → pick b x y ≡ Err q → Asked q
 picks q true x y f g h = f h
 picks q false x y f g h = g h
 
 module _ (limits : Limits) (s : List ℕ) (n q : ℕ) where
-  row_number : row_field limits s n ≡ Bad q → Asked q
+  row_number : row_field limits s n ≡ Err q → Asked q
   unfolding row_field value_field
   row_number =
       asks 5 q (ltb n limits.rows) _ (asked (omega arith) (omega arith))
@@ -157,14 +158,14 @@ module _ (limits : Limits) (s : List ℕ) (n q : ℕ) where
       (asks 13 q (impossible_ok (impossible_of s n)) _ (asked (omega arith) (omega arith))
       (λ h. absurd (let z : ◌≡◌ {A = ℕ} 0 1 = cc in omega arith))))))))
 
-  end_number : end_field s n ≡ Bad q → Asked q
+  end_number : end_field s n ≡ Err q → Asked q
   unfolding end_field
   end_number =
       asks 7 q (ltb 0 n) _ (asked (omega arith) (omega arith))
       (asks 8 q (eqb (length s) (place n end_size)) _ (asked (omega arith) (omega arith))
       (λ h. absurd (let z : ◌≡◌ {A = ℕ} 0 1 = cc in omega arith)))
 
-  pub field_number : field_at limits s n ≡ Bad q → Asked q
+  pub field_number : field_at limits s n ≡ Err q → Asked q
   unfolding field_at
   field_number =
       asks 2 q (leb (place n head_size) (length s)) _ (asked (omega arith) (omega arith))

@@ -4,6 +4,7 @@ pub mod Questions
 pub mod Fields
 pub mod Scans
 pub mod Readables
+pub mod Exits
 pub mod Orders
 pub mod ReadInTurn
 pub mod Keeping

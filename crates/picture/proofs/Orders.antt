@@ -27,30 +27,26 @@ use mathlib.Core.Logic.{◌↔◌, ◌⊎◌, inl, inr, ⊎_elim}
 use mathlib.Core.Path.{◌≡◌, ap, refl, subst, sym}
 use native.Mathlib.Nat.{eq-or-lt_of_le}
 use native.Mathlib.Omega.{arith}
+use Rattle.std.proofs.Common.{Err, Ok, Result}
 use Rattle.table.specs.declared.layout.Limits.{Limits}
-use Rattle.picture.specs.Asked.{and_then, asked, asked_from, on_asked, read_asked, reading_asked}
+use Rattle.picture.specs.Asked.{and_then, asked, asked_from, on_asked, read_asked, reading_asked, Asked, yes}
 use Rattle.picture.specs.Read.{answer_of, answered, reading_of}
 use Rattle.picture.specs.Readable.{FailsAt, Readable}
 use Rattle.picture.specs.Refusal.{refusal_at}
-use Rattle.picture.specs.declared.answer.Answer.{Answer}
-use Rattle.picture.specs.declared.answer.Answer.TheVariants as answer
-use Rattle.picture.specs.declared.answer.Asked.{Asked}
-use Rattle.picture.specs.declared.answer.Asked.TheVariants.{No, Yes}
 use Rattle.picture.specs.declared.answer.Input.{Input}
 use Rattle.picture.specs.declared.answer.Refusal.{Refusal}
-use Rattle.picture.specs.declared.read.Reading.{Reading}
-use Rattle.picture.specs.declared.read.Reading.TheVariants as reading
+use Rattle.picture.specs.declared.read.Failure.{Failure}
 use Rattle.picture.proofs.Readables.{failed_field, failed_once}
 
 -- a no is no yes
-clash : (r : Refusal) → ◌≡◌ {A = Asked} (No r) Yes → ⊥
+clash : (r : Refusal) → ◌≡◌ {A = Asked} (Err r) yes → ⊥
 clash r e = let z : ◌≡◌ {A = ℕ} 0 1 = cc in omega arith
 
 -- ---- when all are answered yes, and when one is answered no
 
 pub record Decides (a : Asked) (Y : Type 0) (N : Refusal → Type 0) : Type 0 where
-  pub yes : (a ≡ Yes) ↔ Y
-  pub no : (r : Refusal) → (a ≡ No r) ↔ N r
+  pub yes : (a ≡ yes) ↔ Y
+  pub no : (r : Refusal) → (a ≡ Err r) ↔ N r
 
 pub said_so : {Y Z : Type 0} {N M : Refusal → Type 0} (a : Asked) → Decides a Y N → Y ↔ Z →
     ((r : Refusal) → N r ↔ M r) → Decides a Z M
@@ -59,7 +55,7 @@ said_so a d y n = record {
   no = λ r. (λ e. (n r).0 ((d.no r).0 e), λ m. (d.no r).1 ((n r).1 m));
 }
 
-pub yes_so : {Y Z : Type 0} {N : Refusal → Type 0} (a : Asked) → Decides a Y N → Y ↔ Z → (a ≡ Yes) ↔ Z
+pub yes_so : {Y Z : Type 0} {N : Refusal → Type 0} (a : Asked) → Decides a Y N → Y ↔ Z → (a ≡ yes) ↔ Z
 yes_so a d y = (λ e. y.0 (d.yes.0 e), λ z. d.yes.1 (y.1 z))
 
 abbrev Refused : Bool → Refusal → Refusal → Type 0
@@ -72,7 +68,7 @@ asked_decides true q = record {
 }
 asked_decides false q = record {
   yes = (λ e. absurd (clash q e), λ e. absurd (let z : ◌≡◌ {A = ℕ} 0 1 = cc in omega arith));
-  no = λ r. (λ e. (refl, cc), λ (e, is). ap No (sym is));
+  no = λ r. (λ e. (refl, cc), λ (e, is). ap Err (sym is));
 }
 
 pub test_decides : (n most : ℕ) (q : Refusal) → Decides (asked (leb n most) q) (n ≤ most) (λ r. (most < n) × (r ≡ q))
@@ -83,7 +79,7 @@ test_decides n most q =
 module _ {Y Z : Type 0} {N M : Refusal → Type 0} where
   pub and_decides : (a b : Asked) → Decides a Y N → (Y → Decides b Z M) →
       Decides (and_then a b) (Y × Z) (λ r. N r ⊎ (Y × M r))
-  and_decides Yes b d after =
+  and_decides (Ok _) b d after =
       let y = d.yes.0 refl in
       let e = after y in
       record {
@@ -93,15 +89,15 @@ module _ {Y Z : Type 0} {N M : Refusal → Type 0} where
           ⊎_elim (λ n. absurd (clash r (sym ((d.no r).1 n)))) (λ (here, m). (e.no r).1 m),
         );
       }
-  and_decides (No q) b d after = record {
+  and_decides (Err q) b d after = record {
     yes = (λ h. absurd (clash q h), λ (here, rest). absurd (clash q (d.yes.1 here)));
     no = λ r. (λ h. inl ((d.no r).0 h), ⊎_elim (λ n. (d.no r).1 n) (λ (here, m). absurd (clash q (d.yes.1 here))));
   }
 
 -- its first half
-pub and_yes : (a b : Asked) → (and_then a b ≡ Yes) ↔ ((a ≡ Yes) × (b ≡ Yes))
-and_yes Yes b = (λ e. (refl, e), λ (h, e). e)
-and_yes (No r) b = (λ e. absurd (clash r e), λ (h, e). absurd (clash r h))
+pub and_yes : (a b : Asked) → (and_then a b ≡ yes) ↔ ((a ≡ yes) × (b ≡ yes))
+and_yes (Ok _) b = (λ e. (refl, e), λ (h, e). e)
+and_yes (Err r) b = (λ e. absurd (clash r e), λ (h, e). absurd (clash r h))
 
 -- each of `more` things from k on; the first of them that is refused by r
 abbrev pub AllFrom : (ℕ → Type 0) → ℕ → ℕ → Type 0
@@ -154,37 +150,37 @@ module _ (ask : ℕ → Asked) (Y : ℕ → Type 0) (N : ℕ → Refusal → Typ
       ))
 
 -- its first half
-pub from_yes : (ask : ℕ → Asked) (Y : ℕ → Type 0) → ((j : ℕ) → (ask j ≡ Yes) ↔ Y j) →
-    (more k : ℕ) → (asked_from ask more k ≡ Yes) ↔ AllFrom Y more k
+pub from_yes : (ask : ℕ → Asked) (Y : ℕ → Type 0) → ((j : ℕ) → (ask j ≡ yes) ↔ Y j) →
+    (more k : ℕ) → (asked_from ask more k ≡ yes) ↔ AllFrom Y more k
 from_yes ask Y d more k =
-    (from_decides ask Y (λ j r. ask j ≡ No r) more k (λ j a b. record { yes = d j; no = λ r. (λ e. e, λ e. e) })).yes
+    (from_decides ask Y (λ j r. ask j ≡ Err r) more k (λ j a b. record { yes = d j; no = λ r. (λ e. e, λ e. e) })).yes
 
 -- as a loop asks: it is answered yes of the things before number i, and so of one more; then of all, or i's is the
 -- first no
 module _ (ask : ℕ → Asked) where
   abbrev pub YesTo : ℕ → Type 0
-  YesTo i = (k : ℕ) → k < i → ask k ≡ Yes
+  YesTo i = (k : ℕ) → k < i → ask k ≡ yes
 
-  pub yes_on : (i : ℕ) → ask i ≡ Yes → YesTo i → YesTo (i + 1)
+  pub yes_on : (i : ℕ) → ask i ≡ yes → YesTo i → YesTo (i + 1)
   yes_on i here before k l =
       ⊎_elim (λ (x : k ≡ i). rw x here) (λ (x : k < i). before k x) (eq-or-lt_of_le (omega arith))
 
   module _ (m : ℕ) where
     abbrev Said : ℕ → Type 0
-    Said j = ask j ≡ Yes
+    Said j = ask j ≡ yes
 
-    decided : Decides (asked_from ask m 0) (AllFrom Said m 0) (FirstFrom Said (λ j r. ask j ≡ No r) m 0)
+    decided : Decides (asked_from ask m 0) (AllFrom Said m 0) (FirstFrom Said (λ j r. ask j ≡ Err r) m 0)
     decided =
-        from_decides ask Said (λ j r. ask j ≡ No r) m 0
+        from_decides ask Said (λ j r. ask j ≡ Err r) m 0
         (λ j a b. record { yes = (λ e. e, λ e. e); no = λ r. (λ e. e, λ e. e) })
 
-    pub to_yes : (i : ℕ) → m ≤ i → YesTo i → asked_from ask m 0 ≡ Yes
+    pub to_yes : (i : ℕ) → m ≤ i → YesTo i → asked_from ask m 0 ≡ yes
     to_yes i l before = decided.yes.1 (λ k a b. before k (omega arith))
 
-    pub yes_to : asked_from ask m 0 ≡ Yes → YesTo m
+    pub yes_to : asked_from ask m 0 ≡ yes → YesTo m
     yes_to all k l = decided.yes.0 all k (omega arith) (omega arith)
 
-    pub to_no : (i : ℕ) (r : Refusal) → i < m → ask i ≡ No r → YesTo i → asked_from ask m 0 ≡ No r
+    pub to_no : (i : ℕ) (r : Refusal) → i < m → ask i ≡ Err r → YesTo i → asked_from ask m 0 ≡ Err r
     to_no i r l here before = (decided.no r).1 (i, omega arith, omega arith, here, λ k a b. before k b)
 
 -- ---- 2 to 13 of a picture
@@ -193,8 +189,8 @@ module _ (limits : Limits) (input : Input) (s : List ℕ) where
   abbrev pub Unreadable : Refusal → Type 0
   Unreadable r = (q : ℕ) × (n : ℕ) × FailsAt limits s q n × (r ≡ refusal_at q input n)
 
-  by_reading : (t : Reading) → reading_of limits s ≡ t → Decides (reading_asked input t) (Readable limits s) Unreadable
-  by_reading (reading.Rows n) e = record {
+  by_reading : (t : Result ℕ Failure) → reading_of limits s ≡ t → Decides (reading_asked input t) (Readable limits s) Unreadable
+  by_reading (Ok n) e = record {
     yes = (λ h. record { rows = n; reads = e }, λ h. refl);
     no = λ r. (
       λ h. absurd (clash r (sym h)),
@@ -202,7 +198,9 @@ module _ (limits : Limits) (input : Input) (s : List ℕ) where
           (let z : ◌≡◌ {A = ℕ} 0 1 = cc in omega arith),
     );
   }
-  by_reading (reading.Failed q n) e =
+  by_reading (Err at) e =
+      let q = at.number in
+      let n = at.rows in
       let here : FailsAt limits s q n = (failed_field limits s q n).0 e in
       record {
         yes = (
@@ -213,68 +211,67 @@ module _ (limits : Limits) (input : Input) (s : List ℕ) where
         no = λ r. (
           λ h. (q, n, here, cc),
           λ (p, m, f, is). let (same, there) = failed_once limits s q n p m here f in
-              ap No (sym (rw (same, there) at is)),
+              ap Err (sym (rw (same, there) at is)),
         );
       }
 
-  abbrev answer_asked : Answer → Asked
-  answer_asked (answer.Rows n) = Yes
-  answer_asked (answer.Refused r) = No r
+  abbrev answer_asked : Result ℕ Refusal → Asked
+  answer_asked (Ok n) = yes
+  answer_asked (Err r) = Err r
 
-  by_answer : (t : Reading) (a : Answer) → answered input t ≡ a → reading_asked input t ≡ answer_asked a
-  by_answer (reading.Rows n) a e = rw (← e)
-  by_answer (reading.Failed q n) a e = rw (← e)
+  by_answer : (t : Result ℕ Failure) (a : Result ℕ Refusal) → answered input t ≡ a → reading_asked input t ≡ answer_asked a
+  by_answer (Ok n) a e = rw (← e)
+  by_answer (Err at) a e = rw (← e)
 
   pub read_decides : Decides (read_asked limits input s) (Readable limits s) Unreadable
   unfolding read_asked
   read_decides = by_reading (reading_of limits s) refl
 
   -- the same by the answer of a reading
-  pub rows_yes : (n : ℕ) → answer_of limits input s ≡ answer.Rows n → read_asked limits input s ≡ Yes
+  pub rows_yes : (n : ℕ) → answer_of limits input s ≡ Ok n → read_asked limits input s ≡ yes
   unfolding read_asked answer_of
-  rows_yes n e = by_answer (reading_of limits s) (answer.Rows n) e
+  rows_yes n e = by_answer (reading_of limits s) (Ok n) e
 
-  pub refused_no : (r : Refusal) → answer_of limits input s ≡ answer.Refused r → read_asked limits input s ≡ No r
+  pub refused_no : (r : Refusal) → answer_of limits input s ≡ Err r → read_asked limits input s ≡ Err r
   unfolding read_asked answer_of
-  refused_no r e = by_answer (reading_of limits s) (answer.Refused r) e
+  refused_no r e = by_answer (reading_of limits s) (Err r) e
 
 -- ---- what is answered
 
-module _ {A : Type 0} (no : Refusal → A) (value : A) where
-  pub on_yes : (a : Asked) → a ≡ Yes → on_asked no a value ≡ value
+module _ {A : Type 0} (answer : Result A Refusal) where
+  pub on_yes : (a : Asked) → a ≡ yes → on_asked a answer ≡ answer
   on_yes a e = rw e
 
-  pub on_no : (a : Asked) (r : Refusal) → a ≡ No r → on_asked no a value ≡ no r
+  pub on_no : (a : Asked) (r : Refusal) → a ≡ Err r → on_asked a answer ≡ Err r
   on_no a r e = rw e
 
-  pub on_by : (P : A → Type 0) (a : Asked) → (a ≡ Yes → P value) → ((r : Refusal) → a ≡ No r → P (no r)) →
-      P (on_asked no a value)
-  on_by P Yes y n = y refl
-  on_by P (No r) y n = n r refl
+  pub on_by : (P : Result A Refusal → Type 0) (a : Asked) → (a ≡ yes → P answer) →
+      ((r : Refusal) → a ≡ Err r → P (Err r)) → P (on_asked a answer)
+  on_by P (Ok _) y n = y refl
+  on_by P (Err r) y n = n r refl
 
-  pub given : (v : A) → ((r : Refusal) → no r ≡ v → ⊥) → (a : Asked) → on_asked no a value ≡ v → (a ≡ Yes) × (value ≡ v)
-  given v none Yes e = (refl, e)
-  given v none (No r) e = absurd (none r e)
+  pub given : (v : A) (a : Asked) → on_asked a answer ≡ Ok v → (a ≡ yes) × (answer ≡ Ok v)
+  given v (Ok _) e = (refl, e)
+  given v (Err r) e = absurd (let z : ◌≡◌ {A = ℕ} 0 1 = cc in omega arith)
 
-  pub refused_by : ((q r : Refusal) → no q ≡ no r → q ≡ r) → (r : Refusal) → (value ≡ no r → ⊥) →
-      (a : Asked) → on_asked no a value ≡ no r → a ≡ No r
-  refused_by one r none Yes e = absurd (none e)
-  refused_by one r none (No q) e = ap No (one q r e)
+  pub refused_by : (r : Refusal) → (answer ≡ Err r → ⊥) → (a : Asked) → on_asked a answer ≡ Err r → a ≡ Err r
+  refused_by r none (Ok _) e = absurd (none e)
+  refused_by r none (Err q) e = ap Err (let same : q ≡ r = cc in same)
 
 -- ---- what every refusal has
 
 module _ (P : Refusal → Type 0) where
   abbrev pub EveryRefusal : Asked → Type 0
-  EveryRefusal Yes = Unit
-  EveryRefusal (No r) = P r
+  EveryRefusal (Ok _) = Unit
+  EveryRefusal (Err r) = P r
 
   pub asked_refuses : (b : Bool) (r : Refusal) → P r → EveryRefusal (asked b r)
   asked_refuses true r h = tt
   asked_refuses false r h = h
 
   pub and_refuses : (a b : Asked) → EveryRefusal a → EveryRefusal b → EveryRefusal (and_then a b)
-  and_refuses Yes b h k = k
-  and_refuses (No r) b h k = h
+  and_refuses (Ok _) b h k = k
+  and_refuses (Err r) b h k = h
 
   pub from_refuses : (ask : ℕ → Asked) (more k : ℕ) → ((j : ℕ) → k ≤ j → j < k + more → EveryRefusal (ask j)) →
       EveryRefusal (asked_from ask more k)
@@ -289,27 +286,27 @@ module _ (P : Refusal → Type 0) where
   unfolding read_asked
   read_refuses limits input s h = by (reading_of limits s) refl
     where
-      by : (t : Reading) → reading_of limits s ≡ t → EveryRefusal (reading_asked input t)
-      by (reading.Rows n) e = tt
-      by (reading.Failed q n) e = h q n ((failed_field limits s q n).0 e)
+      by : (t : Result ℕ Failure) → reading_of limits s ≡ t → EveryRefusal (reading_asked input t)
+      by (Ok n) e = tt
+      by (Err at) e = h at.number at.rows ((failed_field limits s at.number at.rows).0 e)
 
-  pub refuses_no : (a : Asked) → EveryRefusal a → (r : Refusal) → a ≡ No r → P r
+  pub refuses_no : (a : Asked) → EveryRefusal a → (r : Refusal) → a ≡ Err r → P r
   refuses_no a h r e = subst EveryRefusal e h
 
 -- ---- two lots of questions
 
-pub on_then : {A : Type 0} (no : Refusal → A) (a b : Asked) (value : A) →
-    on_asked no a (on_asked no b value) ≡ on_asked no (and_then a b) value
-on_then none Yes b value = refl
-on_then none (No r) b value = refl
+pub on_then : {A : Type 0} (a b : Asked) (answer : Result A Refusal) →
+    on_asked a (on_asked b answer) ≡ on_asked (and_then a b) answer
+on_then (Ok _) b answer = refl
+on_then (Err r) b answer = refl
 
 pub then_assoc : (a b c : Asked) → and_then a (and_then b c) ≡ and_then (and_then a b) c
-then_assoc Yes b c = refl
-then_assoc (No r) b c = refl
+then_assoc (Ok _) b c = refl
+then_assoc (Err r) b c = refl
 
-pub then_same : (a b c : Asked) → (a ≡ Yes → b ≡ c) → and_then a b ≡ and_then a c
-then_same Yes b c h = h refl
-then_same (No r) b c h = refl
+pub then_same : (a b c : Asked) → (a ≡ yes → b ≡ c) → and_then a b ≡ and_then a c
+then_same (Ok _) b c h = h refl
+then_same (Err r) b c h = refl
 
 pub from_same : (ask other : ℕ → Asked) (more k : ℕ) → ((j : ℕ) → k ≤ j → j < k + more → ask j ≡ other j) →
     asked_from ask more k ≡ asked_from other more k

@@ -23,31 +23,30 @@ use Prim.Native.Nat.{ℕ, zero, suc, ◌+◌, ◌≤◌, ◌<◌}
 use native.Mathlib.Nat.{eq-or-lt_of_le}
 use native.Mathlib.Omega.{arith}
 use lib.ListN.{length}
+use Rattle.std.proofs.Common.{Err, Ok, Result}
 use Rattle.table.specs.Layout.{«place», end_size, row_size, kind_root, kind_exists, kind_for_all, roles}
 use Rattle.table.specs.Bounds.{Bounded, max_rows, picture_size}
 use Rattle.table.specs.Fields.{parent_of, kind_of, role_of, impossible_of}
 use Rattle.table.specs.declared.layout.Limits.{Limits}
 use Rattle.picture.specs.declared.answer.Input.{Input}
-use Rattle.picture.specs.declared.answer.Answer.TheVariants as answer
-use Rattle.picture.specs.declared.field.Field.{Field}
-use Rattle.picture.specs.declared.field.Field.TheVariants.{Row, End, Bad}
-use Rattle.picture.specs.declared.read.Reading.{Reading}
-use Rattle.picture.specs.declared.read.Reading.TheVariants as reading
+use Rattle.picture.specs.declared.field.Field.TheVariants.{End, Row}
 use Rattle.picture.specs.Depth.{depth}
 use Rattle.picture.specs.Questions.{field_at}
-use Rattle.picture.specs.Read.{on_field, scan_from, reading_of, answered, answer_of}
+use Rattle.picture.specs.Read.{on_field, scan_from, reading_of, answered, answer_of, failure}
 use Rattle.picture.specs.Readable.{FailsAt, Readable, row_count}
 use Rattle.picture.proofs.Depths.{depth_under}
 use Rattle.picture.proofs.Scans.{rest_same}
 use Rattle.picture.proofs.Questions.{kind_root_is, kind_later, role_root, role_below, parent_root, parent_below, depth_most, impossible_most}
+use Rattle.picture.specs.declared.field.Field.{Field}
+use Rattle.picture.specs.declared.read.Failure.{Failure}
 use Rattle.picture.proofs.Fields.{RowOk, EndOk, Asked, row_ok, end_ok, ok_row, ok_end, field_number}
 
 -- from row n on: rows to row m, and there a field that is no row, which makes the reading r
-record StopsFrom (limits : Limits) (s : List ℕ) (n m : ℕ) (f : Field) (r : Reading) : Type 0 where
+record StopsFrom (limits : Limits) (s : List ℕ) (n m : ℕ) (f : Result Field ℕ) (r : Result ℕ Failure) : Type 0 where
   below : n ≤ m
   rows : (k : ℕ) → n ≤ k → k < m → RowOk limits s k
   field : field_at limits s m ≡ f
-  stops : (rest : Reading) → on_field f m rest ≡ r
+  stops : (rest : Result ℕ Failure) → on_field f m rest ≡ r
 
 pub record WellFormed (limits : Limits) (s : List ℕ) (m : ℕ) : Type 0 where
   pub rows : (k : ℕ) → k < m → RowOk limits s k
@@ -56,20 +55,20 @@ pub record WellFormed (limits : Limits) (s : List ℕ) (m : ℕ) : Type 0 where
 -- ---- a reading stops at a field that is no row, and is what that field makes of it
 
 module _ (limits : Limits) (s : List ℕ) where
-  Stops : ℕ → Reading → Type 0
-  Stops n r = (m : ℕ) × (f : Field) × StopsFrom limits s n m f r
+  Stops : ℕ → Result ℕ Failure → Type 0
+  Stops n r = (m : ℕ) × (f : Result Field ℕ) × StopsFrom limits s n m f r
 
-  stops_here : (f : Field) (n : ℕ) (rest : Reading) → field_at limits s n ≡ f →
-      ((any : Reading) → on_field f n any ≡ on_field f n rest) → Stops n (on_field f n rest)
+  stops_here : (f : Result Field ℕ) (n : ℕ) (rest : Result ℕ Failure) → field_at limits s n ≡ f →
+      ((any : Result ℕ Failure) → on_field f n any ≡ on_field f n rest) → Stops n (on_field f n rest)
   unfolding Stops
   stops_here f n rest e same =
       (n, f, record { below = omega arith; rows = λ k i j. absurd (omega arith); field = e; stops = same })
 
   -- by the field after n rows: there are more rows to come, or it stops here
-  one_field : (f : Field) (n : ℕ) (rest : Reading) → field_at limits s n ≡ f → (RowOk limits s n → Stops (n + 1) rest) →
+  one_field : (f : Result Field ℕ) (n : ℕ) (rest : Result ℕ Failure) → field_at limits s n ≡ f → (RowOk limits s n → Stops (n + 1) rest) →
       Stops n (on_field f n rest)
   unfolding Stops
-  one_field (Row d) n rest e more =
+  one_field (Ok (Row d)) n rest e more =
       let here = (row_ok limits s n d e).0 in
       let (m, f, after) = more here in (
         m,
@@ -82,8 +81,8 @@ module _ (limits : Limits) (s : List ℕ) where
           stops = after.stops;
         },
       )
-  one_field End n rest e more = stops_here End n rest e (λ any. refl)
-  one_field (Bad q) n rest e more = stops_here (Bad q) n rest e (λ any. refl)
+  one_field (Ok End) n rest e more = stops_here (Ok End) n rest e (λ any. refl)
+  one_field (Err q) n rest e more = stops_here (Err q) n rest e (λ any. refl)
 
   scan_stops : (left n : ℕ) → n ≤ limits.rows → limits.rows < n + left → Stops n (scan_from left limits s n)
   unfolding scan_from
@@ -92,7 +91,7 @@ module _ (limits : Limits) (s : List ℕ) where
       one_field (field_at limits s n) n (scan_from left limits s (n + 1)) refl
       (λ row. scan_stops left (n + 1) (omega (arith, row.few)) (omega arith))
 
-  stops_scan : (left n m : ℕ) (f : Field) (r : Reading) → StopsFrom limits s n m f r → m < n + left →
+  stops_scan : (left n m : ℕ) (f : Result Field ℕ) (r : Result ℕ Failure) → StopsFrom limits s n m f r → m < n + left →
       scan_from left limits s n ≡ r
   unfolding scan_from
   stops_scan zero n m f r stop h = absurd (omega (arith, stop.below))
@@ -109,7 +108,7 @@ module _ (limits : Limits) (s : List ℕ) where
       (omega arith)))
       (eq-or-lt_of_le {n = n} {m = m} stop.below)
 
-  reading_stops : (r : Reading) → reading_of limits s ≡ r → Stops 0 r
+  reading_stops : (r : Result ℕ Failure) → reading_of limits s ≡ r → Stops 0 r
   unfolding reading_of
   reading_stops r e = subst (Stops 0) e (scan_stops (suc limits.rows) 0 (omega arith) (omega arith))
 
@@ -117,8 +116,8 @@ module _ (limits : Limits) (s : List ℕ) where
   rows_most zero rows = omega arith
   rows_most (suc m) rows = omega (arith, (rows m (omega arith)).few)
 
-  stops_reading : (m : ℕ) (f : Field) (r : Reading) → ((k : ℕ) → k < m → RowOk limits s k) → field_at limits s m ≡ f →
-      ((rest : Reading) → on_field f m rest ≡ r) → reading_of limits s ≡ r
+  stops_reading : (m : ℕ) (f : Result Field ℕ) (r : Result ℕ Failure) → ((k : ℕ) → k < m → RowOk limits s k) → field_at limits s m ≡ f →
+      ((rest : Result ℕ Failure) → on_field f m rest ≡ r) → reading_of limits s ≡ r
   unfolding reading_of
   stops_reading m f r rows field stops =
       stops_scan (suc limits.rows) 0 m f r
@@ -127,15 +126,15 @@ module _ (limits : Limits) (s : List ℕ) where
 
   -- ---- a file reads as m rows exactly when it is so formed
 
-  by_rows : (f : Field) (m n : ℕ) → ((rest : Reading) → on_field f m rest ≡ reading.Rows n) → (f ≡ End) × (m ≡ n)
-  by_rows (Row d) m n stops = absurd (let e = stops (reading.Failed 0 0) in let z : ◌≡◌ {A = ℕ} 0 1 = cc in omega arith)
-  by_rows End m n stops = (refl, (let e = stops (reading.Rows 0) in cc))
-  by_rows (Bad q) m n stops = absurd (let e = stops (reading.Rows 0) in let z : ◌≡◌ {A = ℕ} 0 1 = cc in omega arith)
+  by_rows : (f : Result Field ℕ) (m n : ℕ) → ((rest : Result ℕ Failure) → on_field f m rest ≡ Ok n) → (f ≡ Ok End) × (m ≡ n)
+  by_rows (Ok (Row d)) m n stops = absurd (let e = stops (Err (failure 0 0)) in let z : ◌≡◌ {A = ℕ} 0 1 = cc in omega arith)
+  by_rows (Ok End) m n stops = (refl, (let e = stops (Ok 0) in cc))
+  by_rows (Err q) m n stops = absurd (let e = stops (Ok 0) in let z : ◌≡◌ {A = ℕ} 0 1 = cc in omega arith)
 
-  pub reading_formed : (m : ℕ) → reading_of limits s ≡ reading.Rows m → WellFormed limits s m
+  pub reading_formed : (m : ℕ) → reading_of limits s ≡ Ok m → WellFormed limits s m
   unfolding Stops
   reading_formed m h =
-      let (k, f, stop) = reading_stops (reading.Rows m) h in
+      let (k, f, stop) = reading_stops (Ok m) h in
       let (end, same) = by_rows f k m stop.stops in
       subst (WellFormed limits s) same
       (record { rows = λ j l. stop.rows j (omega arith) l; end = end_ok limits s k (stop.field ∙ end) })
@@ -143,39 +142,45 @@ module _ (limits : Limits) (s : List ℕ) where
   formed_most : (m : ℕ) → WellFormed limits s m → m ≤ limits.rows
   formed_most m f = rows_most m f.rows
 
-  pub formed_reading : (m : ℕ) → WellFormed limits s m → reading_of limits s ≡ reading.Rows m
-  formed_reading m f = stops_reading m End (reading.Rows m) f.rows (ok_end limits s m f.end) (λ rest. refl)
+  pub formed_reading : (m : ℕ) → WellFormed limits s m → reading_of limits s ≡ Ok m
+  formed_reading m f = stops_reading m (Ok End) (Ok m) f.rows (ok_end limits s m f.end) (λ rest. refl)
 
   -- ---- and fails at the field after n rows exactly if these pass and that is refused
 
-  by_failed : (f : Field) (m q n : ℕ) → ((rest : Reading) → on_field f m rest ≡ reading.Failed q n) →
-      (f ≡ Bad q) × (m ≡ n)
-  by_failed (Row d) m q n stops = absurd (let e = stops (reading.Rows 0) in let z : ◌≡◌ {A = ℕ} 0 1 = cc in omega arith)
-  by_failed End m q n stops = absurd (let e = stops (reading.Rows 0) in let z : ◌≡◌ {A = ℕ} 0 1 = cc in omega arith)
-  by_failed (Bad p) m q n stops = let e = stops (reading.Rows 0) in (ap Bad (let same : p ≡ q = cc in same), cc)
+  by_failed : (f : Result Field ℕ) (m q n : ℕ) → ((rest : Result ℕ Failure) → on_field f m rest ≡ Err (failure q n)) →
+      (f ≡ Err q) × (m ≡ n)
+  by_failed (Ok (Row d)) m q n stops = absurd (let e = stops (Ok 0) in let z : ◌≡◌ {A = ℕ} 0 1 = cc in omega arith)
+  by_failed (Ok End) m q n stops = absurd (let e = stops (Ok 0) in let z : ◌≡◌ {A = ℕ} 0 1 = cc in omega arith)
+  by_failed (Err p) m q n stops =
+      let e = stops (Ok 0) in
+      let same : failure p m ≡ failure q n = cc in (
+        ap Err (ap (λ (f : Failure). f.number) same),
+        ap (λ (f : Failure). f.rows) same,
+      )
 
   failed_rows : (q n : ℕ) → FailsAt limits s q n → (k : ℕ) → k < n → RowOk limits s k
   failed_rows q n f k l = let (d, e) = f.completed k l in (row_ok limits s k d e).0
 
-  pub failed_field : (q n : ℕ) → (reading_of limits s ≡ reading.Failed q n) ↔ FailsAt limits s q n
+  pub failed_field : (q n : ℕ) → (reading_of limits s ≡ Err (failure q n)) ↔ FailsAt limits s q n
   unfolding Stops
   failed_field q n = (
     λ h.
-        let (m, f, stop) = reading_stops (reading.Failed q n) h in
+        let (m, f, stop) = reading_stops (Err (failure q n)) h in
         let (bad, same) = by_failed f m q n stop.stops in
         subst (FailsAt limits s q) same
         (record {
           completed = λ k l. (_, ok_row limits s k (stop.rows k (omega arith) l));
           meets = stop.field ∙ bad;
         }),
-    λ f. stops_reading n (Bad q) (reading.Failed q n) (failed_rows q n f) f.meets (λ rest. refl),
+    λ f. stops_reading n (Err q) (Err (failure q n)) (failed_rows q n f) f.meets (λ rest. refl),
   )
 
   -- there is one such field, and one question
   pub failed_once : (q n p m : ℕ) → FailsAt limits s q n → FailsAt limits s p m → (p ≡ q) × (m ≡ n)
   failed_once q n p m f g =
-      let same : reading.Failed p m ≡ reading.Failed q n = sym ((failed_field p m).1 g) ∙ (failed_field q n).1 f in
-      (cc, cc)
+      let same : Err (failure p m) ≡ Err (failure q n) = sym ((failed_field p m).1 g) ∙ (failed_field q n).1 f in
+      let both : failure p m ≡ failure q n = cc in
+      (ap (λ (f : Failure). f.number) both, ap (λ (f : Failure). f.rows) both)
 
   pub failed_number : (q n : ℕ) → FailsAt limits s q n → Asked q
   failed_number q n f = field_number limits s n q f.meets
@@ -199,19 +204,19 @@ module _ (limits : Limits) (s : List ℕ) where
 
   -- ---- the input named
 
-  rows_answered : (input : Input) (r : Reading) (n : ℕ) → answered input r ≡ answer.Rows n → r ≡ reading.Rows n
-  rows_answered input (reading.Rows m) n h = let e : m ≡ n = cc in ap reading.Rows e
-  rows_answered input (reading.Failed q m) n h = absurd (let z : ◌≡◌ {A = ℕ} 0 1 = cc in omega arith)
+  rows_answered : (input : Input) (r : Result ℕ Failure) (n : ℕ) → answered input r ≡ Ok n → r ≡ Ok n
+  rows_answered input (Ok m) n h = let e : m ≡ n = cc in ap Ok e
+  rows_answered input (Err f) n h = absurd (let z : ◌≡◌ {A = ℕ} 0 1 = cc in omega arith)
 
-  pub answer_reading : (input : Input) (n : ℕ) → answer_of limits input s ≡ answer.Rows n → reading_of limits s ≡ reading.Rows n
+  pub answer_reading : (input : Input) (n : ℕ) → answer_of limits input s ≡ Ok n → reading_of limits s ≡ Ok n
   unfolding answer_of
   answer_reading input n h = rows_answered input (reading_of limits s) n h
 
-  pub reading_answer : (input : Input) (n : ℕ) → reading_of limits s ≡ reading.Rows n → answer_of limits input s ≡ answer.Rows n
+  pub reading_answer : (input : Input) (n : ℕ) → reading_of limits s ≡ Ok n → answer_of limits input s ≡ Ok n
   unfolding answer_of
   reading_answer input n h = rw h
 
-  pub answer_most : (input : Input) (n : ℕ) → answer_of limits input s ≡ answer.Rows n → n ≤ limits.rows
+  pub answer_most : (input : Input) (n : ℕ) → answer_of limits input s ≡ Ok n → n ≤ limits.rows
   answer_most input n h = formed_most n (reading_formed n (answer_reading input n h))
 
 -- ---- a readable picture by row number

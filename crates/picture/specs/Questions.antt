@@ -6,18 +6,18 @@
 --   row_field                 5, 6 and then those
 --   end_field                 7 and 8
 --   field_at                  2, 3, 4 and then those of a row or of the end field
-use Rattle.std.specs.Prelude.{Bool, true, false, ◌||◌, List, ℕ, eqb, leb, ltb, length}
+use Rattle.std.specs.Prelude.{Bool, true, false, ◌||◌, List, ℕ, eqb, leb, ltb, length, Err, Ok, Result}
 use Rattle.table.specs.Pick.{pick}
 use Rattle.table.specs.Layout.{«place», head_size, row_tag, end_tag, row_length, end_length, row_size, end_size, kind_root, kind_exists, kind_for_all, roles}
 use Rattle.table.specs.Fields.{tag_of, length_of, parent_of, kind_of, role_of, impossible_of}
 use Rattle.table.specs.declared.layout.Limits.{Limits}
 use Rattle.picture.specs.Depth.{depth}
 use Rattle.picture.specs.declared.field.Field.{Field}
-use Rattle.picture.specs.declared.field.Field.TheVariants.{Row, End, Bad}
+use Rattle.picture.specs.declared.field.Field.TheVariants.{End, Row}
 
-abbrev pub ask : ℕ → Bool → Field → Field
+abbrev pub ask : ℕ → Bool → Result Field ℕ → Result Field ℕ
 ask q true next = next
-ask q false next = Bad q
+ask q false next = Err q
 
 -- 3. Is the tag 10 or 2F?
 unfoldable pub tag_ok : ℕ → Bool
@@ -47,31 +47,31 @@ depth_ok limits depth = leb depth limits.depth
 abbrev pub impossible_ok : ℕ → Bool
 impossible_ok impossible = leb impossible 1
 
-unfoldable pub value_field : Limits → List ℕ → ℕ → Field
+unfoldable pub value_field : Limits → List ℕ → ℕ → Result Field ℕ
 value_field limits s n =
     ask 9 (kind_ok n (kind_of s n))
     (ask 10 (role_ok n (role_of s n))
     (ask 11 (parent_ok n (parent_of s n))
     (ask 12 (depth_ok limits (depth (parent_of s) n))
     (ask 13 (impossible_ok (impossible_of s n))
-    (Row (depth (parent_of s) n))))))
+    (Ok (Row (depth (parent_of s) n)))))))
 
 -- 5. For a row: have fewer than 256 been read? 6. Is the whole value there?
-unfoldable pub row_field : Limits → List ℕ → ℕ → Field
+unfoldable pub row_field : Limits → List ℕ → ℕ → Result Field ℕ
 row_field limits s n =
     ask 5 (ltb n limits.rows)
     (ask 6 (leb (place n row_size) (length s))
     (value_field limits s n))
 
 -- 7. At the end field: was there a row? 8. Does the file stop there?
-unfoldable pub end_field : List ℕ → ℕ → Field
+unfoldable pub end_field : List ℕ → ℕ → Result Field ℕ
 end_field s n =
     ask 7 (ltb 0 n)
     (ask 8 (eqb (length s) (place n end_size))
-    End)
+    (Ok End))
 
 -- 2. Are three head bytes there? 3. Is the tag 10 or 2F? 4. Is the length 21 or 0 to match?
-unfoldable pub field_at : Limits → List ℕ → ℕ → Field
+unfoldable pub field_at : Limits → List ℕ → ℕ → Result Field ℕ
 field_at limits s n =
     ask 2 (leb (place n head_size) (length s))
     (ask 3 (tag_ok (tag_of s n))

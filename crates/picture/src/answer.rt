@@ -1,4 +1,4 @@
-// What reading a picture answers, and the refusal of every call, which is made here.
+// The refusal of every call, which is made here: what a call answers is a `Result` with it.
 ghost use Rattle.std.specs.Prelude.{◌≡◌, ◌≤◌};
 ghost use Rattle.table.specs.Bounds.{max_rows};
 ghost use Rattle.picture.specs.Refusal.{refusal, refusal_at, short_buffer, too_many};
@@ -7,7 +7,7 @@ use table::layout::place;
 
 // Which input a refusal concerns. The cards of a card book are numbered from 0, and so are the definitions of a
 // definitions book.
-#[derive(Clone, Copy)]
+#[derive(Clone, Copy, PartialEq, Eq, Debug)]
 pub enum Input {
     Buffer,
     First,
@@ -21,26 +21,12 @@ pub enum Input {
 
 // The number of the question that was answered no, and the input it concerns; where a field of a picture is refused (2
 // to 13), the rows before it and the byte where it begins, from the picture's first, else 0 and 0.
-#[derive(Clone, Copy)]
+#[derive(Clone, Copy, PartialEq, Eq, Debug)]
 pub struct Refusal {
     pub number: u8,
     pub input: Input,
     pub row: u16,
     pub byte: u16,
-}
-
-// Questions in their order: all answered yes, or the first that is answered no.
-#[derive(Clone, Copy)]
-pub enum Asked {
-    Yes,
-    No(Refusal),
-}
-
-// A picture's row count, or the refusal.
-#[derive(Clone, Copy)]
-pub enum Answer {
-    Rows(usize),
-    Refused(Refusal),
 }
 
 // Of no field: 1, and 14 to 30.

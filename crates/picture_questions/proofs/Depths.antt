@@ -3,7 +3,8 @@
 --   known_none    before the first row
 --   known_next    and after one row more
 --   known_root    after row 0, in a table that begins with 0
-use Prim.Native.Nat.{◌+◌, ◌<◌, ◌≤◌, ℕ}
+use Prim.Native.Nat.{◌+◌, ◌<◌, ℕ}
+use borrow.Author.Count.{below_more}
 use lib.ListN.{get_or, length, set}
 use lib.Seq.{get_or-set_other, get_or-set_same}
 use mathlib.Core.Bool.{true}
@@ -29,12 +30,6 @@ pub depth_known : (s depths : List ℕ) (n : ℕ) → Known s n depths → paren
 depth_known s depths n known below =
     depth_under (parent_of s) n (omega arith) (ordered_next s depths n known below) ∙ ap (λ (k : ℕ). k + 1) (sym (known.depths_hold (parent_of s n) below))
 
--- a fact of the numbers below n, and of n
-below_next : (P : ℕ → Type 0) (n : ℕ) → ((k : ℕ) → k < n → P k) → P n → (k : ℕ) → k < n + 1 → P k
-below_next P n low here k h =
-    let i : k ≤ n = omega arith in
-    ⊎_elim (λ e. subst P (sym e) here) (λ l. low k l) (eq-or-lt_of_le {n = k} {m = n} i)
-
 -- before the first row
 pub known_none : (s depths : List ℕ) → Known s 0 depths
 known_none s depths = record { ordered = λ k i j. absurd (omega arith); depths_hold = λ k j. absurd (omega arith) }
@@ -44,9 +39,9 @@ pub known_next : (s depths : List ℕ) (n d : ℕ) → n < length depths → Kno
     parent_ok n (parent_of s n) ≡ true → d ≡ depth (parent_of s) n → Known s (n + 1) (set depths n d)
 known_next s depths n d room known r e =
     record {
-      ordered = λ k i j. below_next (λ (m : ℕ). 0 < m → parent_of s m < m) n (λ m l p. known.ordered m p l)
+      ordered = λ k i j. below_more (λ (m : ℕ). 0 < m → parent_of s m < m) n (λ m l p. known.ordered m p l)
           (λ p. parent_below n (parent_of s n) (λ z. omega arith) r) k j i;
-      depths_hold = λ k j. below_next (λ (m : ℕ). get_or (set depths n d) m 0 ≡ depth (parent_of s) m) n (λ m l. get_or-set_other depths n m d 0 (λ z. omega arith) ∙ known.depths_hold m l) (get_or-set_same depths n d 0 room ∙ e) k j;
+      depths_hold = λ k j. below_more (λ (m : ℕ). get_or (set depths n d) m 0 ≡ depth (parent_of s) m) n (λ m l. get_or-set_other depths n m d 0 (λ z. omega arith) ∙ known.depths_hold m l) (get_or-set_same depths n d 0 room ∙ e) k j;
     }
 
 -- after row 0, in a table that begins with 0
@@ -54,5 +49,5 @@ pub known_root : (s depths : List ℕ) → get_or depths 0 0 ≡ 0 → Known s 1
 known_root s depths h =
     record {
       ordered = λ k i j. absurd (omega arith);
-      depths_hold = below_next (λ (m : ℕ). get_or depths m 0 ≡ depth (parent_of s) m) 0 (λ m l. absurd (omega arith)) (h ∙ sym (depth_root (parent_of s)));
+      depths_hold = below_more (λ (m : ℕ). get_or depths m 0 ≡ depth (parent_of s) m) 0 (λ m l. absurd (omega arith)) (h ∙ sym (depth_root (parent_of s)));
     }

@@ -9,10 +9,10 @@ ghost use Rattle.picture.specs.Questions.{tag_ok, length_for, kind_ok, role_ok, 
 use table::layout::{
     END_LENGTH, END_TAG, KIND_EXISTS, KIND_FOR_ALL, KIND_ROOT, MAX_ROWS, ROLES, ROW_LENGTH, ROW_TAG,
 };
-use table::number::wide;
 use table_rows::row::{impossible, kind, parent, role};
 
 // 3
+#[tactic(auto, unfolding(picture::specs::Questions::tag_ok))]
 pub fn tag_ok(tag: u8) -> bool
     ensures { result ≡ tag_ok tag }
 {
@@ -24,6 +24,7 @@ pub fn tag_ok(tag: u8) -> bool
 }
 
 // The length that 4 asks for; by then 3 has left two tags.
+#[tactic(auto, unfolding(picture::specs::Questions::length_for))]
 pub fn length_for(tag: u8) -> usize
     ensures { result ≡ length_for tag }
 {
@@ -34,6 +35,7 @@ pub fn length_for(tag: u8) -> usize
 }
 
 // 9
+#[tactic(auto, unfolding(picture::specs::Questions::kind_ok))]
 pub fn kind_ok(s: &[u8], n: usize) -> bool
     requires { HasRow s.now n }
     ensures { result ≡ kind_ok n (kind_of s.now n) }
@@ -54,6 +56,7 @@ pub fn kind_ok(s: &[u8], n: usize) -> bool
 }
 
 // 10
+#[tactic(auto, unfolding(picture::specs::Questions::role_ok))]
 pub fn role_ok(s: &[u8], n: usize) -> bool
     requires { HasRow s.now n }
     ensures { result ≡ role_ok n (role_of s.now n) }
@@ -63,6 +66,7 @@ pub fn role_ok(s: &[u8], n: usize) -> bool
 }
 
 // 11
+#[tactic(auto, unfolding(picture::specs::Questions::parent_ok))]
 pub fn parent_ok(s: &[u8], n: usize) -> bool
     requires { HasRow s.now n }
     ensures { result ≡ parent_ok n (parent_of s.now n) }
@@ -80,7 +84,7 @@ pub fn depth_at(s: &[u8], n: usize, depths: &[u8; MAX_ROWS]) -> usize
         return 0;
     }
     let parent = parent(s, n);
-    wide(depths[parent]) as usize + 1
+    usize::from(depths[parent]) + 1
 }
 
 // 13

@@ -13,72 +13,72 @@ use table::layout::{END_SIZE, HEAD_SIZE, Limits, MAX_ROWS, ROW_SIZE, ROW_TAG, pl
 use table_rows::row::{said_length, tag};
 
 // Questions 9 to 13.
-fn value_field(s: &[u8], n: usize, limits: Limits, depths: &[u8; MAX_ROWS]) -> Field
+fn value_field(s: &[u8], n: usize, limits: Limits, depths: &[u8; MAX_ROWS]) -> Result<Field, u8>
     requires { (Bounded limits) × ((HasRow s.now n) × (Known s.now n depths.now)) }
     ensures { result ≡ value_field limits s.now n }
 {
     if !kind_ok(s, n) {
-        return Field::Bad(9);
+        return Err(9);
     }
     if !role_ok(s, n) {
-        return Field::Bad(10);
+        return Err(10);
     }
     if !parent_ok(s, n) {
-        return Field::Bad(11);
+        return Err(11);
     }
     let depth = depth_at(s, n, depths);
     if limits.depth < depth {
-        return Field::Bad(12);
+        return Err(12);
     }
     if !impossible_ok(s, n) {
-        return Field::Bad(13);
+        return Err(13);
     }
-    Field::Row(depth as u8)
+    Ok(Field::Row(depth as u8))
 }
 
 // Questions 5 to 13, of a field whose head is that of a row.
-fn row_field(s: &[u8], n: usize, limits: Limits, depths: &[u8; MAX_ROWS]) -> Field
+fn row_field(s: &[u8], n: usize, limits: Limits, depths: &[u8; MAX_ROWS]) -> Result<Field, u8>
     requires { (Bounded limits) × (Known s.now n depths.now) }
     ensures { result ≡ row_field limits s.now n }
 {
     if limits.rows <= n {
-        return Field::Bad(5);
+        return Err(5);
     }
     if s.len() < place(n, ROW_SIZE) {
-        return Field::Bad(6);
+        return Err(6);
     }
     value_field(s, n, limits, depths)
 }
 
 // Questions 7 and 8, of a field whose head is that of an end field.
-fn end_field(s: &[u8], n: usize) -> Field
+fn end_field(s: &[u8], n: usize) -> Result<Field, u8>
     requires { n ≤ max_rows }
     ensures { result ≡ end_field s.now n }
 {
     if n == 0 {
-        return Field::Bad(7);
+        return Err(7);
     }
     if s.len() == place(n, END_SIZE) {
-        Field::End
+        Ok(Field::End)
     } else {
-        Field::Bad(8)
+        Err(8)
     }
 }
 
 // All questions of the field after n rows.
-pub fn field_at(s: &[u8], n: usize, limits: Limits, depths: &[u8; MAX_ROWS]) -> Field
+pub fn field_at(s: &[u8], n: usize, limits: Limits, depths: &[u8; MAX_ROWS]) -> Result<Field, u8>
     requires { (Bounded limits) × ((n ≤ max_rows) × (Known s.now n depths.now)) }
     ensures { result ≡ field_at limits s.now n }
 {
     if s.len() < place(n, HEAD_SIZE) {
-        return Field::Bad(2);
+        return Err(2);
     }
     let tag = tag(s, n);
     if !tag_ok(tag) {
-        return Field::Bad(3);
+        return Err(3);
     }
     if said_length(s, n) != length_for(tag) {
-        return Field::Bad(4);
+        return Err(4);
     }
     match tag {
         ROW_TAG => row_field(s, n, limits, depths),

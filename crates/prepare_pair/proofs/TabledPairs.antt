@@ -5,7 +5,7 @@
 --   both_read                           those after 1, by the answers of reading both
 --   empty_opened                        an empty book changes nothing
 --   opened_no, opened_yes               those after the readings, by the answer of the definitions book,
---   opened_room                         and what 14 needs where that is yes
+--   opened_unfolds                      and what unfolding needs where that is yes
 --   half_long                           a half is as long as the longest picture
 --   halves_built                        both normal files in the halves
 use Prim.Native.Nat.{◌+◌, ◌-◌, ◌≤◌, ℕ}
@@ -17,18 +17,16 @@ use mathlib.Core.Bool.{Bool, false, true}
 use mathlib.Core.List.{List, ◌++◌}
 use mathlib.Core.Path.{◌∙◌, ◌≡◌, ap, sym}
 use native.Mathlib.Omega.{arith}
+use Rattle.std.proofs.Common.{Err, Ok, Result}
 use Rattle.table.specs.Bounds.{picture_size}
 use Rattle.table.specs.Fields.{ends_at}
-use Rattle.table.specs.NameValues.{set_of}
 use Rattle.table.specs.Range.{each}
 use Rattle.table.specs.declared.layout.Limits.{Limits}
 use Rattle.picture.proofs.Orders.{refused_no, rows_yes}
-use Rattle.picture.specs.Asked.{kept, on_asked}
+use Rattle.picture.specs.Asked.{kept, on_asked, yes}
 use Rattle.picture.specs.Read.{answer_of}
 use Rattle.picture.specs.Readable.{Readable}
 use Rattle.picture.specs.Refusal.{short_buffer, too_many}
-use Rattle.picture.specs.declared.answer.Answer.TheVariants as answer
-use Rattle.picture.specs.declared.answer.Asked.TheVariants.{No, Yes}
 use Rattle.picture.specs.declared.answer.Input.TheVariants.{First, Second}
 use Rattle.picture.specs.declared.answer.Refusal.{Refusal}
 use Rattle.meaning.proofs.Normals.{normal_size}
@@ -42,30 +40,28 @@ use Rattle.fields.proofs.Forms.{field_first, form_count}
 use Rattle.fields.specs.Form.{fields_form}
 use Rattle.definitions.proofs.Empty.{empty_asked, empty_unfolded}
 use Rattle.definitions.proofs.Questions.{definitions_decides}
-use Rattle.definitions.specs.Asked.{Picture, asked_of}
+use Rattle.definitions.specs.Asked.{Picture, asked_of, definitions_asked}
+use Rattle.definitions.specs.Unfolded.{Unfolds}
 use Rattle.definitions.specs.Form.{definition_count, definition_tag, definitions_form}
-use Rattle.definitions_asked.specs.Given.{Opens}
-use Rattle.definitions_asked.specs.declared.ask.Opening.{Opening}
 use Rattle.under.specs.Asked.{pair_asked_under}
 use Rattle.under.specs.Given.{lent_under, pair, under_asked}
-use Rattle.prepare_pair.specs.declared.prepare.Prepared.{Prepared}
-use Rattle.prepare_pair.specs.declared.prepare.Prepared.TheVariants.{Refused, Tables}
-use Rattle.prepare_pair.specs.Tables.{PairRoom, UnfoldedPair, both_merged, halves_under, merged_under, opened_asked}
+use Rattle.prepare_pair.specs.Tables.{both_merged, halves_under, merged_under, opened_asked}
+use Rattle.prepare_pair.specs.declared.prepare.Pair.{Pair}
 use Rattle.prepare_pair.specs.Tables.{read_under, tables_of, tables_under}
 
 module _ (limits : Limits) (first second : List ℕ) where
   pub many_first : leb (merged_count limits first) limits.rows ≡ false → both_merged limits first second
-      ≡ No (too_many First)
+      ≡ Err (too_many First)
   unfolding merged_asked
   many_first e = rw e
 
   module _ (few : merged_count limits first ≤ limits.rows) where
     pub many_second : leb (merged_count limits second) limits.rows ≡ false → both_merged limits first second
-        ≡ No (too_many Second)
+        ≡ Err (too_many Second)
     unfolding merged_asked
     many_second e = rw (le-leb (merged_count limits first) limits.rows few, e)
 
-    pub both_few : merged_count limits second ≤ limits.rows → both_merged limits first second ≡ Yes
+    pub both_few : merged_count limits second ≤ limits.rows → both_merged limits first second ≡ yes
     unfolding merged_asked
     both_few few-second = rw (
       le-leb (merged_count limits first) limits.rows few,
@@ -80,7 +76,7 @@ module _ (limits : Limits) (tbox first second : List ℕ) where
   given = pair first second
 
   pub short_asked : (enough : Bool) → enough ≡ false →
-      pair_asked_under limits tbox enough first second ≡ No short_buffer
+      pair_asked_under limits tbox enough first second ≡ Err short_buffer
   unfolding lent_under
   short_asked enough e = rw e
 
@@ -90,19 +86,19 @@ module _ (limits : Limits) (tbox first second : List ℕ) where
   long_asked enough e = rw e
 
   -- after the readings
-  pub refused_first : (r : Refusal) → answer_of limits First first ≡ answer.Refused r →
-      read_under limits tbox first second ≡ No r
+  pub refused_first : (r : Refusal) → answer_of limits First first ≡ Err r →
+      read_under limits tbox first second ≡ Err r
   unfolding under_asked asked_of
   refused_first r read = rw (refused_no limits First first r read)
 
-  module _ (n : ℕ) (read : answer_of limits First first ≡ answer.Rows n) where
-    pub refused_second : (r : Refusal) → answer_of limits Second second ≡ answer.Refused r →
-        read_under limits tbox first second ≡ No r
+  module _ (n : ℕ) (read : answer_of limits First first ≡ Ok n) where
+    pub refused_second : (r : Refusal) → answer_of limits Second second ≡ Err r →
+        read_under limits tbox first second ≡ Err r
     unfolding under_asked asked_of
     refused_second r read-second =
         rw (rows_yes limits First first n read, refused_no limits Second second r read-second)
 
-    pub both_read : (m : ℕ) → answer_of limits Second second ≡ answer.Rows m →
+    pub both_read : (m : ℕ) → answer_of limits Second second ≡ Ok m →
         read_under limits tbox first second ≡ opened_asked limits tbox first second
     unfolding under_asked asked_of
     both_read m read-second = rw (rows_yes limits First first n read, rows_yes limits Second second m read-second)
@@ -118,10 +114,10 @@ module _ (limits : Limits) (tbox first second : List ℕ) where
     unfolding definitions_form each
     empty_form = rw (no_fields.0, no_fields.1)
 
-    pub empty_opened : Readable limits first → Readable limits second → (r : Prepared) (old new : List ℕ) →
-        (r ≡ on_asked Refused (both_merged limits first second) (Tables (tables_of limits first second)))
+    pub empty_opened : Readable limits first → Readable limits second → (r : Result Pair Refusal) (old new : List ℕ) →
+        (r ≡ on_asked (both_merged limits first second) (Ok (tables_of limits first second)))
         × (new ≡ kept (both_merged limits first second) (halves_put limits first second old) old) →
-        (r ≡ on_asked Refused (opened_asked limits tbox first second) (Tables (tables_under limits tbox first second)))
+        (r ≡ on_asked (opened_asked limits tbox first second) (Ok (tables_under limits tbox first second)))
         × (new ≡ kept (opened_asked limits tbox first second) (halves_under limits tbox first second old) old)
     empty_opened readable readable-second r old new done =
         let (_, empty) = no_fields in
@@ -133,25 +129,18 @@ module _ (limits : Limits) (tbox first second : List ℕ) where
         done
 
   -- after the questions of the book
-  module _ (opening : Opening) (opens : Opens limits tbox given opening) where
-    pub opened_no : (r : Refusal) → opening.asked ≡ No r → opened_asked limits tbox first second ≡ No r
-    opened_no r e = rw (sym opens.asked_is ∙ e)
+  pub opened_no : (r : Refusal) → definitions_asked limits tbox given ≡ Err r →
+      opened_asked limits tbox first second ≡ Err r
+  opened_no r e = rw e
 
-    module _ (all : opening.asked ≡ Yes) where
-      pub opened_yes : opened_asked limits tbox first second ≡ merged_under limits tbox first second
-      opened_yes = rw (sym opens.asked_is ∙ all)
+  module _ (all : definitions_asked limits tbox given ≡ yes) where
+    pub opened_yes : opened_asked limits tbox first second ≡ merged_under limits tbox first second
+    opened_yes = rw all
 
-      pub opened_room : (work : List ℕ) → PairRoom limits first second work →
-          UnfoldedPair limits tbox opening.starts (set_of opening.defined) first second work
-      opened_room work room =
-          let ready = opens.found all in
-          let (_, (unfolds, (unfolds-second, _))) =
-          (definitions_decides limits tbox given).yes.0 (sym opens.asked_is ∙ all) in
-          record {
-            first_ready = record { ready = ready; readable = room.first_readable; unfolds = unfolds };
-            second_ready = record { ready = ready; readable = room.second_readable; unfolds = unfolds-second };
-            space = room.space;
-          }
+    pub opened_unfolds : Unfolds limits tbox first × Unfolds limits tbox second
+    opened_unfolds =
+        let (_, (unfolds, (unfolds-second, _))) = (definitions_decides limits tbox given).yes.0 all in
+        (unfolds, unfolds-second)
 
 -- what the writer leaves in a half is as long as the half
 pub half_long : (limits : Limits) (s l : List ℕ) → merged_count limits s ≤ limits.rows →

@@ -12,6 +12,7 @@ use lib.ListN.{drop, length, take}
 use mathlib.Core.Bool.{Bool, true}
 use mathlib.Core.List.{List}
 use mathlib.Core.Path.{◌∙◌, ◌≡◌, ap, subst, sym}
+use Rattle.std.proofs.Common.{Err, Ok, Result}
 use Rattle.table.specs.Bounds.{Bounded, max_rows, picture_size}
 use Rattle.table.specs.Layout.{end_size, «place»}
 use Rattle.table.specs.declared.layout.Limits.{Limits}
@@ -21,15 +22,12 @@ use Rattle.row_sets.proofs.Checks.{readable_checked}
 use Rattle.row_sets.specs.Rows.{Checked}
 use Rattle.picture.proofs.Orders.{given, refused_by}
 use Rattle.picture.proofs.Keeping.{kept_yes}
-use Rattle.picture.specs.Asked.{on_asked}
-use Rattle.picture.specs.declared.answer.Asked.TheVariants.{No, Yes}
+use Rattle.picture.specs.Asked.{on_asked, yes}
 use Rattle.picture.specs.declared.answer.Refusal.{Refusal}
 use Rattle.workspace.specs.Prepare.{Acceptable, halves_put, work_size}
 use Rattle.normal_writer.specs.Tables.{table_rows}
 use Rattle.prepare_pair.specs.Tables.{NormalTables, TablesIn, first_in, second_in, tables_of, tables_under, work_under}
 use Rattle.prepare_pair.specs.declared.prepare.Pair.{Pair}
-use Rattle.prepare_pair.specs.declared.prepare.Prepared.{Prepared}
-use Rattle.prepare_pair.specs.declared.prepare.Prepared.TheVariants.{Refused, Tables}
 use Rattle.definitions.specs.Unfolded.{unfolded_file}
 use Rattle.under.proofs.Givens.{acceptable_unfolded}
 use Rattle.under.proofs.Orders.{pair_decides, pair_order}
@@ -74,26 +72,26 @@ module _ (limits : Limits) (first second work : List ℕ) (bounded : Bounded lim
       }
 
 -- what `prepare` was lent, gave and left; b is the answer to 1
-pub record Lending (limits : Limits) (b : Bool) (tbox first second old work : List ℕ) (answer : Prepared) : Type 0 where
+pub record Lending (limits : Limits) (b : Bool) (tbox first second old work : List ℕ) (answer : Result Pair Refusal) : Type 0 where
   pub bounded : Bounded limits
   pub long : b ≡ true → work_size limits ≤ length old
-  pub is : answer ≡ on_asked Refused (pair_asked_under limits tbox b first second)
-      (Tables (tables_under limits tbox first second))
+  pub is : answer ≡ on_asked (pair_asked_under limits tbox b first second)
+      (Ok (tables_under limits tbox first second))
   pub written : work ≡ work_under limits tbox first second b old
 
-module _ {limits : Limits} {b : Bool} {tbox first second old work : List ℕ} {answer : Prepared} {pair : Pair}
-    (l : Lending limits b tbox first second old work answer) (tables : answer ≡ Tables pair) where
+module _ {limits : Limits} {b : Bool} {tbox first second old work : List ℕ} {answer : Result Pair Refusal} {pair : Pair}
+    (l : Lending limits b tbox first second old work answer) (tables : answer ≡ Ok pair) where
   abbrev u : List ℕ
   u = unfolded_file limits tbox first
 
   abbrev v : List ℕ
   v = unfolded_file limits tbox second
 
-  pub prepared_yes : (pair_asked_under limits tbox b first second ≡ Yes) × (Tables (tables_of limits u v) ≡ Tables pair)
+  pub prepared_yes : (pair_asked_under limits tbox b first second ≡ yes) × (tables_of limits u v ≡ pair)
   prepared_yes =
-      given Refused (Tables (tables_of limits u v)) (Tables pair)
-      (λ r e. let z : ◌≡◌ {A = ℕ} 0 1 = cc in omega arith) (pair_asked_under limits tbox b first second)
-      (sym l.is ∙ tables)
+      let (all, same) = given (Ok (tables_of limits u v)) pair (pair_asked_under limits tbox b first second)
+      (sym l.is ∙ tables) in
+      (all, cc)
 
   both_accepted : (b ≡ true) × AcceptableUnder limits tbox first second
   both_accepted =
@@ -134,10 +132,10 @@ module _ {limits : Limits} {b : Bool} {tbox first second old work : List ℕ} {a
         second_checked = subst (λ x. Checked x pair.second) (sym f) prepared_in.second_checked;
       }
 
-pub prepared_no : {limits : Limits} {b : Bool} {tbox first second old work : List ℕ} {answer : Prepared} →
-    Lending limits b tbox first second old work answer → (r : Refusal) → answer ≡ Refused r →
-    pair_asked_under limits tbox b first second ≡ No r
+pub prepared_no : {limits : Limits} {b : Bool} {tbox first second old work : List ℕ} {answer : Result Pair Refusal} →
+    Lending limits b tbox first second old work answer → (r : Refusal) → answer ≡ Err r →
+    pair_asked_under limits tbox b first second ≡ Err r
 prepared_no {limits} {b} {tbox} {first} {second} l r refused =
-    refused_by Refused (Tables (tables_under limits tbox first second)) (λ q s e. cc) r
+    refused_by (Ok (tables_under limits tbox first second)) r
     (λ e. let z : ◌≡◌ {A = ℕ} 0 1 = cc in omega arith) (pair_asked_under limits tbox b first second)
     (sym l.is ∙ refused)

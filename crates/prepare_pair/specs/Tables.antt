@@ -14,16 +14,17 @@
 use Rattle.std.specs.Prelude.{ℕ, ◌≤◌, drop, length, take, Bool, List, ◌≡◌}
 use Rattle.table.specs.Bounds.{Bounded, picture_size}
 use Rattle.table.specs.Layout.{end_size, «place»}
+use Rattle.table.specs.NameValues.{set_of}
 use Rattle.table.specs.declared.layout.Limits.{Limits}
-use Rattle.picture.specs.Asked.{and_then, kept}
+use Rattle.picture.specs.Asked.{and_then, kept, Asked}
 use Rattle.picture.specs.Readable.{Readable}
-use Rattle.picture.specs.declared.answer.Asked.{Asked}
 use Rattle.picture.specs.declared.answer.Input.TheVariants.{First, Second}
 use Rattle.meaning.specs.NormalTable.{merged_count, normal_file}
 use Rattle.normal.specs.Call.{merged_asked}
 use Rattle.normal_writer.specs.Tables.{table_rows}
 use Rattle.row_sets.specs.Rows.{Checked}
 use Rattle.workspace.specs.Prepare.{Acceptable, halves_put, work_size}
+use Rattle.definition_parts.specs.declared.opened.Tbox.{Tbox}
 use Rattle.definitions.specs.Asked.{definitions_asked}
 use Rattle.definitions.specs.Unfolded.{unfolded_file}
 use Rattle.under.specs.Asked.{pair_asked_under}
@@ -42,19 +43,15 @@ pub record PairRoom (limits : Limits) (first second work : List ℕ) : Type 0 wh
   pub second_readable : Readable limits second
   pub space : work_size limits ≤ length work
 
-pub record UnfoldedHalves (limits : Limits) (tbox starts : List ℕ) (defined : ℕ) (first second work : List ℕ)
-    : Type 0 where
-  pub first_ready : Unfolding limits tbox starts defined first
-  pub second_ready : Unfolding limits tbox starts defined second
-  pub first_few : merged_count limits (unfolded_file limits tbox first) ≤ limits.rows
-  pub second_few : merged_count limits (unfolded_file limits tbox second) ≤ limits.rows
+pub record UnfoldedPair (limits : Limits) (tbox : Tbox) (first second work : List ℕ) : Type 0 where
+  pub first_ready : Unfolding limits tbox.bytes.now tbox.starts.now (set_of tbox.defined) first
+  pub second_ready : Unfolding limits tbox.bytes.now tbox.starts.now (set_of tbox.defined) second
   pub space : work_size limits ≤ length work
 
-pub record UnfoldedPair (limits : Limits) (tbox starts : List ℕ) (defined : ℕ) (first second work : List ℕ)
-    : Type 0 where
-  pub first_ready : Unfolding limits tbox starts defined first
-  pub second_ready : Unfolding limits tbox starts defined second
-  pub space : work_size limits ≤ length work
+pub record UnfoldedHalves (limits : Limits) (tbox : Tbox) (first second work : List ℕ) : Type 0 where
+  pub pair : UnfoldedPair limits tbox first second work
+  pub first_few : merged_count limits (unfolded_file limits tbox.bytes.now first) ≤ limits.rows
+  pub second_few : merged_count limits (unfolded_file limits tbox.bytes.now second) ≤ limits.rows
 
 abbrev pub tables_of : Limits → List ℕ → List ℕ → Pair
 tables_of limits first second = record { first = table_rows limits first; second = table_rows limits second }

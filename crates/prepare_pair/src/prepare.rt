@@ -1,6 +1,6 @@
 // Two pictures under a definitions book, in the order of every call on two: 1, 2 to 13 of the first, of the second, the
 // questions of the book, then 14 of each, unfolded. Nothing is written before all are answered yes.
-ghost use Rattle.std.specs.Prelude.{true, ◌≡◌, ◌≤◌, length};
+ghost use Rattle.std.specs.Prelude.{Ok, true, ◌≡◌, ◌≤◌, length};
 ghost use Rattle.table.specs.Bounds.{Bounded, picture_size};
 ghost use Rattle.workspace.specs.Lent.{roomy};
 ghost use Rattle.workspace.specs.Prepare.{halves_put, work_size};
@@ -10,28 +10,21 @@ ghost use Rattle.prepare_pair.specs.Tables.{HalvesRoom, PairRoom, both_merged, h
 ghost use Rattle.prepare_pair.specs.Tables.{read_under, tables_of, tables_under, work_under};
 
 use crate::unfolded::write_unfolded;
+use definition_parts::opened::Tbox;
 use definitions_asked::ask::open_definitions;
-use definitions_asked::given::Rest;
-use field_places::places::{Fields, PLACES};
+use definitions_asked::lots::Lot;
 use merged_count::within::is_within;
 use normal_writer::write::build_half;
-use picture::answer::{Answer, Asked, Input, Refusal, short_buffer, too_many};
+use picture::answer::{Input, Refusal, short_buffer, too_many};
 use picture_reader::read::read;
 use table::layout::{END_SIZE, Limits, place};
 use table_rows::row::ends_at;
 
 // The rows of the two normal tables.
-#[derive(Clone, Copy)]
+#[derive(Clone, Copy, PartialEq, Eq, Debug)]
 pub struct Pair {
     pub first: usize,
     pub second: usize,
-}
-
-// Both tables, or the first refusal.
-#[derive(Clone, Copy)]
-pub enum Prepared {
-    Tables(Pair),
-    Refused(Refusal),
 }
 
 // The second half begins where the longest picture ends.
@@ -69,30 +62,37 @@ fn build_halves(first: &[u8], second: &[u8], limits: Limits, work: &mut [u8]) ->
     }
 }
 
-// 14 of both, and then the tables.
-fn write_pair(first: &[u8], second: &[u8], limits: Limits, work: &mut [u8]) -> Prepared
+// 14 of both, and then the tables. `write_unfolded` would do the same, but its 6 KB for an unfolded picture would then be
+// on the stack of a call without definitions too.
+fn write_pair(first: &[u8], second: &[u8], limits: Limits, work: &mut [u8]) -> Result<Pair, Refusal>
     requires { PairRoom limits first.now second.now work.old }
-    ensures { (result ≡ on_asked Prepared.Refused (both_merged limits first.now second.now)
-        (Prepared.Tables (tables_of limits first.now second.now)))
+    ensures { (result ≡ on_asked (both_merged limits first.now second.now)
+        (Ok (tables_of limits first.now second.now)))
         × (work.new ≡ kept (both_merged limits first.now second.now)
         (halves_put limits first.now second.now work.old) work.old) }
 {
     if !is_within(first, limits) {
-        return Prepared::Refused(too_many(Input::First));
+        return Err(too_many(Input::First));
     }
     if !is_within(second, limits) {
-        return Prepared::Refused(too_many(Input::Second));
+        return Err(too_many(Input::Second));
     }
-    Prepared::Tables(build_halves(first, second, limits, work))
+    Ok(build_halves(first, second, limits, work))
 }
 
 // The questions of the definitions book, of pictures that have passed 2 to 13; then 14 of both, and the tables. A book
 // of the end field alone changes nothing, so no table of definitions is made for it.
-fn open_pair(tbox: &[u8], first: &[u8], second: &[u8], limits: Limits, work: &mut [u8]) -> Prepared
+fn open_pair(
+    tbox: &[u8],
+    first: &[u8],
+    second: &[u8],
+    limits: Limits,
+    work: &mut [u8],
+) -> Result<Pair, Refusal>
     requires { PairRoom limits first.now second.now work.old }
-    ensures { (result ≡ on_asked Prepared.Refused
+    ensures { (result ≡ on_asked
         (opened_asked limits tbox.now first.now second.now)
-        (Prepared.Tables (tables_under limits tbox.now first.now second.now)))
+        (Ok (tables_under limits tbox.now first.now second.now)))
         × (work.new ≡ kept (opened_asked limits tbox.now first.now second.now)
         (halves_under limits tbox.now first.now second.now work.old)
         work.old) }
@@ -100,43 +100,39 @@ fn open_pair(tbox: &[u8], first: &[u8], second: &[u8], limits: Limits, work: &mu
     if ends_at(tbox, 0) {
         return write_pair(first, second, limits, work);
     }
-    let none = Fields {
-        places: [0usize; PLACES],
-        count: 0,
-    };
-    let opening = open_definitions(tbox, first, second, Rest::Second, none, limits);
-    let asked = opening.asked;
-    match asked {
-        Asked::Yes => write_unfolded(
-            tbox,
-            first,
-            second,
-            &opening.starts,
-            opening.defined,
-            limits,
-            work,
-        ),
-        Asked::No(refusal) => Prepared::Refused(refusal),
+    let found = open_definitions(tbox, first, &Lot::Second(second), limits);
+    match &found {
+        Ok(index) => {
+            let opened = Tbox {
+                bytes: tbox,
+                starts: &index.starts,
+                defined: index.defined,
+            };
+            write_unfolded(&opened, first, second, limits, work)
+        }
+        Err(refusal) => Err(*refusal),
     }
 }
 
 // 2 to 13 of the first, then of the second, and then those.
-fn read_pair(tbox: &[u8], first: &[u8], second: &[u8], limits: Limits, work: &mut [u8]) -> Prepared
+fn read_pair(
+    tbox: &[u8],
+    first: &[u8],
+    second: &[u8],
+    limits: Limits,
+    work: &mut [u8],
+) -> Result<Pair, Refusal>
     requires { (Bounded limits) × (work_size limits ≤ length work.old) }
-    ensures { (result ≡ on_asked Prepared.Refused
+    ensures { (result ≡ on_asked
         (read_under limits tbox.now first.now second.now)
-        (Prepared.Tables (tables_under limits tbox.now first.now second.now)))
+        (Ok (tables_under limits tbox.now first.now second.now)))
         × (work.new ≡ kept (read_under limits tbox.now first.now second.now)
         (halves_under limits tbox.now first.now second.now work.old)
         work.old) }
 {
-    match read(first, limits, Input::First) {
-        Answer::Rows(_) => match read(second, limits, Input::Second) {
-            Answer::Rows(_) => open_pair(tbox, first, second, limits, work),
-            Answer::Refused(refusal) => Prepared::Refused(refusal),
-        },
-        Answer::Refused(refusal) => Prepared::Refused(refusal),
-    }
+    read(first, limits, Input::First)?;
+    read(second, limits, Input::Second)?;
+    open_pair(tbox, first, second, limits, work)
 }
 
 // 1, as the caller has asked it of its buffers, and then those.
@@ -147,16 +143,16 @@ pub fn prepare(
     limits: Limits,
     enough: bool,
     work: &mut [u8],
-) -> Prepared
+) -> Result<Pair, Refusal>
     requires { (Bounded limits) × (enough ≡ true → work_size limits ≤ length work.old) }
-    ensures { (result ≡ on_asked Prepared.Refused
+    ensures { (result ≡ on_asked
         (pair_asked_under limits tbox.now enough first.now second.now)
-        (Prepared.Tables (tables_under limits tbox.now first.now second.now)))
+        (Ok (tables_under limits tbox.now first.now second.now)))
         × (work.new ≡ work_under limits tbox.now first.now second.now
         enough work.old) }
 {
     if !enough {
-        return Prepared::Refused(short_buffer());
+        return Err(short_buffer());
     }
     read_pair(tbox, first, second, limits, work)
 }

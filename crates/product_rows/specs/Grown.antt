@@ -1,6 +1,7 @@
 -- What a function that adds rows to a table under construction has done. Nobody has to believe these.
 --   Room               what it needs: the table is within the limit, and the lent part has room up to it
---   Grown              the rows of a forest were counted up to the limit and one more, and within it they stand after those that were there
+--   Grown              the rows of a forest were counted up to the limit and one more, and within it they stand after
+--                      those that were there
 --   Built              the rows of a tree were counted so, and within the limit they stand at the start
 --   Pushed, Entered    one row more; the same if there is room for one
 --   stays, is_dropped   a row that is kept whatever hangs from it; one that was written and is dropped
@@ -27,14 +28,16 @@ pub record Room (limit : ℕ) (b : Builder) (out : List ℕ) : Type 0 where
   pub space : place limit 0 ≤ length out
   pub within : b.rows ≤ limit
 
-pub record Grown (limit parent : ℕ) (b : Builder) (out : List ℕ) (f : Forest picture_signature) (r : Builder) (end : List ℕ) : Type 0 where
+pub record Grown (limit parent : ℕ) (b : Builder) (out : List ℕ) (f : Forest picture_signature) (r : Builder)
+    (end : List ℕ) : Type 0 where
   pub count : r.rows ≡ capped limit (b.rows + sizes picture_signature f)
   pub same : length end ≡ length out
   pub written :
       b.rows + sizes picture_signature f ≤ limit →
       prefix r.rows end ≡ prefix b.rows out ++ rows_from b.rows (encode_forest picture_signature f parent b.rows)
 
-pub record Built (limits : Limits) (t : Tree picture_signature) (out : List ℕ) (r : Builder) (end : List ℕ) : Type 0 where
+pub record Built (limits : Limits) (t : Tree picture_signature) (out : List ℕ) (r : Builder)
+    (end : List ℕ) : Type 0 where
   pub count : r.rows ≡ capped limits.rows (size picture_signature t)
   pub same : length end ≡ length out
   pub bytes_are : size picture_signature t ≤ limits.rows → prefix r.rows end ≡ rows_from 0 (encode picture_signature t)
@@ -44,9 +47,11 @@ pub record Pushed (b : Builder) (out : List ℕ) (edge : Edge) (label : Label) (
   pub row_put :
       end
       ≡ put out (place b.rows 0)
-      (row_of edge.parent edge.kind edge.role (mark_code (eqb label.bottom 1)) (set_of label.wanted) (set_of label.excluded))
+      (row_of edge.parent edge.kind edge.role (mark_code (eqb label.bottom 1)) (set_of label.wanted)
+      (set_of label.excluded))
 
-pub record Entered (limit : ℕ) (b : Builder) (out : List ℕ) (edge : Edge) (label : Label) (r : Builder) (end : List ℕ) : Type 0 where
+pub record Entered (limit : ℕ) (b : Builder) (out : List ℕ) (edge : Edge) (label : Label) (r : Builder)
+    (end : List ℕ) : Type 0 where
   pub pushed : b.rows < limit → Pushed b out edge label r end
   pub full : limit ≤ b.rows → (r.rows ≡ b.rows) × (end ≡ out)
 

@@ -2,9 +2,11 @@
 --   siblings     row e and those after it that hang from the same row; none where e is 0
 --   forest_of     rows as successors, each with its tree down to a depth
 --   forest_from   these as successors
+--   edge_of       the edge of row e, as it hangs from a row of another table
 --   key_at        the place of row e's edge in the order of successors (ale, PairWalks: `edgeKey`)
 --   drop_lower    a list of rows from the first on whose edge does not stand before a place
---   Trim         what is asked of a normal table's tree: no all-successor is empty, successors are ordered, roles are known
+--   Trim         what is asked of a normal table's tree: no all-successor is empty, successors are ordered, roles are
+--                known
 --   TrimAll      the same of successors
 --   Kept         the same of a row's tree, which is not dropped
 use Rattle.std.specs.Prelude.{ℕ, leb, List, [], ◌∷◌, false, ◌≡◌}
@@ -17,6 +19,7 @@ use Rattle.ale.specs.PictureSignature.{picture_signature}
 use Rattle.ale.specs.Table.{successors}
 use Rattle.ale.specs.Tree.{Forest, Kind, RolesKnown, RolesKnownAll, Tree}
 use Rattle.meaning.specs.Meaning.{kind_at, picture_table}
+use Rattle.normal_writer.specs.declared.node.Edge.{Edge}
 use Rattle.homomorphism_search.specs.Search.{tree_at}
 use Rattle.ale.specs.Forest.{dropped}
 
@@ -28,6 +31,9 @@ forest_of t depth rows = successors picture_signature (picture_table t) (tree_at
 
 abbrev pub forest_from : List ℕ → ℕ → ℕ → ℕ → Forest picture_signature
 forest_from t rows depth e = forest_of t depth (siblings t rows e)
+
+abbrev pub edge_of : List ℕ → ℕ → ℕ → Edge
+edge_of t e parent = record { parent = parent; kind = kind_of t e; role = role_of t e }
 
 unfoldable pub key_at : List ℕ → ℕ → ℕ
 key_at t e = edge_key (kind_at (kind_of t e)) (role_of t e)

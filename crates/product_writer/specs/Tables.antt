@@ -1,4 +1,5 @@
--- What the code makes of two tables as bytes, s (the first) and t (the second), down to a depth. Nobody has to believe these.
+-- What the code makes of two tables as bytes, s (the first) and t (the second), down to a depth. Nobody has to believe
+-- these.
 --   Hung         row c hangs from a row
 --   product_at    the product of the trees of rows u and w
 --   pairs_below   its successors, if neither is marked
@@ -28,11 +29,13 @@ product_at s t depth u w = product picture_signature (tree_at s depth u) (tree_a
 
 unfoldable pub pairs_below : List ℕ → List ℕ → ℕ → ℕ → ℕ → Forest picture_signature
 pairs_below s t depth u w =
-    pair_forest picture_signature (successors_of picture_signature (tree_at s depth u)) (successors_of picture_signature (tree_at t depth w))
+    pair_forest picture_signature (successors_of picture_signature (tree_at s depth u))
+    (successors_of picture_signature (tree_at t depth w))
 
 unfoldable pub pairs_from : List ℕ → List ℕ → ℕ → ℕ → ℕ → ℕ → Forest picture_signature
 pairs_from s t rows depth c e =
-    pair_each picture_signature (kind_at (kind_of s c)) (role_of s c) (λ x. product picture_signature (tree_at s depth c) x) (forest_from t rows depth e)
+    pair_each picture_signature (kind_at (kind_of s c)) (role_of s c)
+    (λ x. product picture_signature (tree_at s depth c) x) (forest_from t rows depth e)
 
 pub record Paired (s t : List ℕ) (rows depth c e : ℕ) : Type 0 where
   pub first_kept : Kept (kind_at (kind_of s c)) (tree_at s depth c)

@@ -1,2 +1,3 @@
--- The laws of individuals.
+-- The laws of individuals, and of a walk along links.
 pub mod Individuals
+pub mod Walks

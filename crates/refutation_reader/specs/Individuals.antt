@@ -1,7 +1,7 @@
 -- What the code has of a refutation file. Nobody has to believe these.
---   HasIndividual   an individual's field stands whole in the file
---   Individuals     so many do, all that the file has
---   Refutation      they also pass 21, and `links` has those that each one reaches
+--   HasIndividual      an individual's field stands whole in the file
+--   Individuals        so many do, all that the file has
+--   LinkedRefutation   they also pass 21, and `links` has those that each one reaches
 use Rattle.std.specs.Prelude.{◌<◌, ◌≤◌, ℕ, length, true, List, ◌≡◌}
 use Rattle.countermodel.specs.Individual.{individual_ok, individual_parent}
 use Rattle.countermodel.specs.Layout.{individual_count, individual_place, individual_size, most_individuals}
@@ -17,7 +17,7 @@ pub record Individuals (e : List ℕ) (n : ℕ) : Type 0 where
   pub most : n ≤ most_individuals
   pub whole : individual_place n 0 ≤ length e
 
-pub record Refutation (e : List ℕ) (n : ℕ) (links : List ℕ) : Type 0 where
+pub record LinkedRefutation (e : List ℕ) (n : ℕ) (links : List ℕ) : Type 0 where
   pub all : Individuals e n
   pub passed : each (individual_ok e) n 0 ≡ true
   pub linked : Linked (individual_parent e) n most_individuals links

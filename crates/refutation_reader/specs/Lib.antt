@@ -1,2 +1,3 @@
--- What the code has of a refutation file.
+-- What the code has of a refutation file, and a walk along its links.
 pub mod Individuals
+pub mod Walks

@@ -17,12 +17,14 @@ use table::names::Names;
 use table::number::load16;
 use table_rows::row::ends_at;
 
+#[tactic(auto, unfolding(countermodel::specs::Layout::individual_count))]
 pub fn count(e: &[u8]) -> usize
     ensures { result ≡ individual_count e.now }
 {
     e.len() / INDIVIDUAL_SIZE
 }
 
+#[tactic(auto, unfolding(countermodel::specs::Individual::individual_head))]
 fn head_ok(e: &[u8], k: usize) -> bool
     requires { HasIndividual e.now k }
     ensures { result ≡ individual_head e.now k }
@@ -56,6 +58,7 @@ pub fn names(e: &[u8], k: usize) -> Names
 }
 
 // 16, of a refutation.
+#[tactic(auto, unfolding(countermodel::specs::Individual::refutation_form))]
 pub fn has_refutation_form(e: &[u8], limits: Limits) -> bool
     requires { Bounded limits }
     ensures { result ≡ refutation_form limits e.now }
@@ -77,17 +80,11 @@ fn heads_ok(e: &[u8], n: usize) -> bool
     requires { Individuals e.now n }
     ensures { result ≡ each (individual_head e.now) n 0 }
 {
-    let mut k = 0;
-    while k < n {
-        if !head_ok(e, k) {
-            return false;
-        }
-        k += 1;
-    }
-    true
+    (0..n).all(|k| head_ok(e, k))
 }
 
 // 21, of one individual.
+#[tactic(auto, unfolding(countermodel::specs::Individual::individual_ok))]
 fn individual_ok(e: &[u8], k: usize) -> bool
     requires { HasIndividual e.now k }
     ensures { result ≡ individual_ok e.now k }
@@ -106,12 +103,5 @@ pub fn individuals_ok(e: &[u8], n: usize) -> bool
     requires { Individuals e.now n }
     ensures { result ≡ each (individual_ok e.now) n 0 }
 {
-    let mut k = 0;
-    while k < n {
-        if !individual_ok(e, k) {
-            return false;
-        }
-        k += 1;
-    }
-    true
+    (0..n).all(|k| individual_ok(e, k))
 }

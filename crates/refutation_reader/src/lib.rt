@@ -4,3 +4,4 @@
 pub mod individual;
 pub mod layout;
 pub mod links;
+pub mod refutation;

@@ -17,9 +17,7 @@ pub fn fill_links(e: &[u8], n: usize, links: &mut [u16; INDIVIDUAL_LINKS])
     requires { (Individuals e.now n) × ((each (individual_ok e.now) n 0 ≡ true) × (Zeros (most_individuals + most_individuals) links.old)) }
     ensures { Linked (individual_parent e.now) n most_individuals links.new }
 {
-    let mut k = n;
-    while 1 < k {
-        k -= 1;
+    for k in (1..n).rev() {
         let above = parent(e, k);
         links[MAX_INDIVIDUALS + k] = links[above];
         links[above] = k as u16;

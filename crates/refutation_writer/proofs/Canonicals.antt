@@ -13,7 +13,6 @@
 use Prim.Native.Nat.{◌+◌, ◌-◌, ◌<◌, ◌≤◌, suc, zero, ℕ}
 use lib.ListN.{get_or, length}
 use mathlib.Core.List.{List, [], ◌∷◌, append-nil}
-use mathlib.Core.Logic.{⊎_elim}
 use mathlib.Core.Path.{◌∙◌, ◌≡◌, ap, refl, subst, sym}
 use native.Mathlib.Omega.{arith}
 use Rattle.ale.specs.Countermodel.{canonical, canonical_all, individual}
@@ -22,9 +21,10 @@ use Rattle.ale.specs.PictureSignature.{picture_signature}
 use Rattle.ale.specs.Table.{successor_rows, successors}
 use Rattle.ale.specs.Tree.{Forest, Kind, Tree, cons, exists, forAll, nil}
 use Rattle.homomorphism_search.proofs.Labels.{Read, low_same}
-use Rattle.homomorphism_search.specs.Search.{LinkedTable, tree_at}
+use Rattle.homomorphism_search.specs.Search.{tree_at}
 use Rattle.meaning.specs.Meaning.{picture_table, set_at}
 use Rattle.row_sets.specs.Rows.{Checked}
+use Rattle.row_sets.specs.declared.linked.Table.{Table}
 use Rattle.table.specs.Bounds.{max_rows}
 use Rattle.table.specs.Fields.{kind_of, role_of, wanted_of}
 use Rattle.table.specs.Layout.{kind_exists}
@@ -82,7 +82,7 @@ module _ (s : List ℕ) where
 
     pub canonical_all_is : (rows v : ℕ) → Checked s rows → (v ≡ 0 → ⊥) → v < rows → (kind_of s v ≡ kind_exists → ⊥) → canonical_rows s depth (v ∷ []) ≡ nil
     unfolding canonical_rows
-    canonical_all_is rows v checked z l other = ⊎_elim (λ e. absurd (other e)) (λ e. rw e) (checked.kinds v z l)
+    canonical_all_is rows v checked z l other = rw (checked.kinds v z l other)
 
 -- ---- one individual, and what hangs from it
 
@@ -118,43 +118,42 @@ pub canonical_none : (s : List ℕ) (depth u parent : ℕ) (out : List ℕ) (k :
 canonical_none s depth u parent out k z =
     written_same out k _ _ k out (ap (λ f. reached_all f parent k) (sym (canonical_leaf s depth u z))) (written_none out k)
 
-module _ (s links : List ℕ) (rows u parent : ℕ) (table : LinkedTable s rows links) (start : List ℕ) (k depth : ℕ) (deep : depth ≡ 0 → ⊥) where
-  below_is : reached_all (canonical_below s depth u) parent k
-      ≡ reached_all (canonical_rows s (depth - 1) (successor_rows picture_signature (picture_table s) u)) parent k
-  below_is = ap (λ f. reached_all f parent k) (canonical_level s depth u deep)
+module _ (t : Table) {depth : ℕ} (deep : depth ≡ 0 → ⊥) where
+  below_is : (u parent k : ℕ) → reached_all (canonical_below t.bytes.now depth u) parent k
+      ≡ reached_all (canonical_rows t.bytes.now (depth - 1) (successor_rows picture_signature (picture_table t.bytes.now) u)) parent k
+  below_is u parent k = ap (λ f. reached_all f parent k) (canonical_level t.bytes.now depth u deep)
 
-  pub canonical_start : (v : ℕ) → u < rows → v ≡ get_or links u 0 → Room start k (reached_all (canonical_below s depth u) parent k) →
-      WalkAt (canonical_rows s (depth - 1)) s rows u parent start k v k start
-  canonical_start v l e room =
-      walk_start (canonical_rows s (depth - 1)) (canonical_split s (depth - 1)) s links rows u parent table start k v l e
-      (room_same start k _ _ below_is room)
+  pub canonical_start : {u parent : ℕ} {start : List ℕ} {k v : ℕ} → u < t.rows → v ≡ get_or t.links.now u 0 → Room start k (reached_all (canonical_below t.bytes.now depth u) parent k) →
+      WalkAt (canonical_rows t.bytes.now (depth - 1)) t.bytes.now t.rows u parent start k k start v
+  canonical_start {u} {parent} {start} {k} l e room =
+      walk_start (canonical_split t.bytes.now (depth - 1)) t l e (room_same start k _ _ (below_is u parent k) room)
 
-  module _ (v next : ℕ) (out : List ℕ) (z : v ≡ 0 → ⊥) (at : WalkAt (canonical_rows s (depth - 1)) s rows u parent start k v next out)
-      (kind : ℕ) (kind_is : kind ≡ kind_of s v) where
-    pub canonical_turn : (role : ℕ) → role ≡ role_of s v → kind ≡ kind_exists →
-        Room out next (reached_tree (canonical_tree s (depth - 1) v) parent role next)
-    canonical_turn role e some =
+  module _ {u parent : ℕ} {start : List ℕ} {k v next : ℕ} {out : List ℕ} (z : v ≡ 0 → ⊥)
+      (at : WalkAt (canonical_rows t.bytes.now (depth - 1)) t.bytes.now t.rows u parent start k next out v)
+      {kind : ℕ} (kind_is : kind ≡ kind_of t.bytes.now v) where
+    pub canonical_turn : {role : ℕ} → role ≡ role_of t.bytes.now v → kind ≡ kind_exists →
+        Room out next (reached_tree (canonical_tree t.bytes.now (depth - 1) v) parent role next)
+    canonical_turn e some =
         rw e
-        (room_same out next _ _ (canonical_some s (depth - 1) v parent next (sym kind_is ∙ some))
-        (walk_room (canonical_rows s (depth - 1)) (canonical_split s (depth - 1)) s links rows u parent table start k v next out z at))
+        (room_same out next _ _ (canonical_some t.bytes.now (depth - 1) v parent next (sym kind_is ∙ some))
+        (walk_room (canonical_split t.bytes.now (depth - 1)) t z at))
 
-    pub canonical_next : (w role a : ℕ) (mid : List ℕ) → w ≡ get_or links (max_rows + v) 0 → role ≡ role_of s v → kind ≡ kind_exists →
-        Written out next (reached_tree (canonical_tree s (depth - 1) v) parent role next) a mid →
-        WalkAt (canonical_rows s (depth - 1)) s rows u parent start k w a mid
-    canonical_next w role a mid e by some one =
-        walk_next (canonical_rows s (depth - 1)) (canonical_split s (depth - 1)) s links rows u parent table start k v next out z at w a mid e
-        (written_same out next _ _ a mid (sym (canonical_some s (depth - 1) v parent next (sym kind_is ∙ some)))
-        (subst (λ r. Written out next (reached_tree (canonical_tree s (depth - 1) v) parent r next) a mid) by one))
+    pub canonical_next : {w role a : ℕ} {mid : List ℕ} → w ≡ get_or t.links.now (max_rows + v) 0 → role ≡ role_of t.bytes.now v → kind ≡ kind_exists →
+        Written out next (reached_tree (canonical_tree t.bytes.now (depth - 1) v) parent role next) a mid →
+        WalkAt (canonical_rows t.bytes.now (depth - 1)) t.bytes.now t.rows u parent start k a mid w
+    canonical_next {a = a} {mid = mid} e by some one =
+        walk_next (canonical_split t.bytes.now (depth - 1)) t z at e
+        (written_same out next _ _ a mid (sym (canonical_some t.bytes.now (depth - 1) v parent next (sym kind_is ∙ some)))
+        (subst (λ r. Written out next (reached_tree (canonical_tree t.bytes.now (depth - 1) v) parent r next) a mid) by one))
 
-    pub canonical_skip : (w : ℕ) → w ≡ get_or links (max_rows + v) 0 → (kind ≡ kind_exists → ⊥) →
-        WalkAt (canonical_rows s (depth - 1)) s rows u parent start k w next out
-    canonical_skip w e other =
-        let none = canonical_all_is s (depth - 1) rows v table.checked z (at.on z).0 (λ h. other (kind_is ∙ h)) in
-        walk_next (canonical_rows s (depth - 1)) (canonical_split s (depth - 1)) s links rows u parent table start k v next out z at w next out e
+    pub canonical_skip : {w : ℕ} → w ≡ get_or t.links.now (max_rows + v) 0 → (kind ≡ kind_exists → ⊥) →
+        WalkAt (canonical_rows t.bytes.now (depth - 1)) t.bytes.now t.rows u parent start k next out w
+    canonical_skip e other =
+        let none = canonical_all_is t.bytes.now (depth - 1) t.rows v t.linked.checked z (at.on z).0 (λ h. other (kind_is ∙ h)) in
+        walk_next (canonical_split t.bytes.now (depth - 1)) t z at e
         (written_same out next _ _ next out (ap (λ f. reached_all f parent next) (sym none)) (written_none out next))
 
-  pub canonical_end : (v next : ℕ) (out : List ℕ) → v ≡ 0 → WalkAt (canonical_rows s (depth - 1)) s rows u parent start k v next out →
-      Written start k (reached_all (canonical_below s depth u) parent k) next out
-  canonical_end v next out z at =
-      written_same start k _ _ next out (sym below_is)
-      (walk_end (canonical_rows s (depth - 1)) (canonical_split s (depth - 1)) s links rows u parent table start k v next out z at)
+  pub canonical_end : {u parent : ℕ} {start : List ℕ} {k v next : ℕ} {out : List ℕ} → v ≡ 0 → WalkAt (canonical_rows t.bytes.now (depth - 1)) t.bytes.now t.rows u parent start k next out v →
+      Written start k (reached_all (canonical_below t.bytes.now depth u) parent k) next out
+  canonical_end {u} {parent} {start} {k} {next = next} {out = out} z at =
+      written_same start k _ _ next out (sym (below_is u parent k)) (walk_end (canonical_split t.bytes.now (depth - 1)) t z at)

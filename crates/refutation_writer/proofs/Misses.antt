@@ -22,14 +22,18 @@ use Rattle.ale.proofs.Tests.{chosen}
 use Rattle.ale.specs.PictureSignature.{picture_signature}
 use Rattle.ale.specs.Rows.{member}
 use Rattle.ale.specs.Table.{successor_of, successor_rows}
-use Rattle.homomorphism_search.proofs.Searches.{edge_bytes}
-use Rattle.homomorphism_search.specs.Search.{Hangs, Missed, MissedBelow, edge_served, first_failing, label_carried, same_edge, unserved_row}
+use Rattle.homomorphism_search.proofs.Searches.{checked_edge, checked_has, edge_bytes}
+use Rattle.homomorphism_search.specs.Search.{EdgeRow, Hangs, Missed, MissedBelow, edge_served, first_failing, label_carried, same_edge, unserved_row}
 use Rattle.meaning.specs.Meaning.{picture_table}
 use Rattle.row_sets.specs.Rows.{Checked}
 use Rattle.table.proofs.Bools.{is_true}
 use Rattle.table.specs.Fields.{kind_of, parent_of, role_of}
 use Rattle.table.specs.Layout.{kind_exists, kind_for_all}
 use Rattle.table.specs.Pick.{pick}
+use Rattle.row_sets.proofs.Checks.{edge_kind}
+use Rattle.row_sets.specs.declared.linked.Table.{Table}
+use Rattle.refutation_writer.specs.declared.refute.FailedSearch.{FailedSearch}
+use Rattle.refutation_writer.specs.Searches.{first_of, second_of}
 use Rattle.refutation_writer.specs.Refuting.{canonical_below, falsified_below, first_value, value_row}
 use Rattle.refutation_writer.proofs.Refutings.{falsified_none, falsified_zero}
 
@@ -74,52 +78,72 @@ module _ (s : List ℕ) (role : ℕ) where
 -- ---- what was left
 
 -- what was left for row u is row c
-pub record MissedRow (s t missed : List ℕ) (m d w u c : ℕ) : Type 0 where
-  pub found : c ≡ unserved_row s t d w u
-  pub inside : c < m
-  pub below : MissedBelow s t missed d c u
+pub record MissedRow (x : FailedSearch) (d w u c : ℕ) : Type 0 where
+  pub found : c ≡ unserved_row (first_of x) (second_of x) d w u
+  pub inside : c < x.second.now.rows
+  pub below : MissedBelow (first_of x) (second_of x) x.missed.now d c u
 
-module _ (s t missed : List ℕ) (m depth : ℕ) where
-  pub missed_row : (d w u c : ℕ) → Checked t m → depth ≡ suc d → Missed s t missed depth w u → label_carried s t w u ≡ true → c ≡ get_or missed u 0 →
-      MissedRow s t missed m d w u c
-  missed_row d w u c checked deeper left carried is =
-      let (row, below) = subst (λ n. Missed s t missed n w u) deeper left carried in
+module _ (x : FailedSearch) (depth w u : ℕ) {c : ℕ} (left : Missed (first_of x) (second_of x) x.missed.now depth w u)
+    (carried : label_carried (first_of x) (second_of x) w u ≡ true) (is : c ≡ get_or x.missed.now u 0) where
+  pub missed_row : (depth ≡ 0 → ⊥) → MissedRow x (depth - 1) w u c
+  missed_row deep =
+      let deeper : depth ≡ suc (depth - 1) = omega arith in
+      let (row, below) = subst (λ n. Missed (first_of x) (second_of x) x.missed.now n w u) deeper left carried in
       let found = is ∙ row in
-      record { found = found; inside = rw found (unserved_inside s t m d w u checked); below = subst (λ j. MissedBelow s t missed d j u) (sym found) below }
+      record {
+        found = found;
+        inside = rw found (unserved_inside (first_of x) (second_of x) x.second.now.rows (depth - 1) w u x.second.now.linked.checked);
+        below = subst (λ j. MissedBelow (first_of x) (second_of x) x.missed.now (depth - 1) j u) (sym found) below;
+      }
 
   -- at depth 0, and where there is none, what hangs from row u is as in the canonical model
-  pub falsified_canonical : (w u c : ℕ) → Checked t m → Missed s t missed depth w u → label_carried s t w u ≡ true → c ≡ get_or missed u 0 →
-      (depth ≡ 0) ⊎ ((depth ≡ 0 → ⊥) × (c ≡ 0)) → falsified_below s t depth w u ≡ canonical_below s depth u
-  falsified_canonical w u c checked left carried is (inl z) = falsified_zero s t depth w u z
-  falsified_canonical w u c checked left carried is (inr (deep, none)) =
-      let row = missed_row (depth - 1) w u c checked (omega arith) left carried is in
-      falsified_none s t (depth - 1) u depth w c (omega arith) row.found none
+  pub falsified_canonical : (depth ≡ 0) ⊎ ((depth ≡ 0 → ⊥) × (c ≡ 0)) →
+      falsified_below (first_of x) (second_of x) depth w u ≡ canonical_below (first_of x) depth u
+  falsified_canonical (inl z) = falsified_zero (first_of x) (second_of x) depth w u z
+  falsified_canonical (inr (deep, none)) =
+      falsified_none (first_of x) (second_of x) u w deep (missed_row deep).found none
 
 -- a row that does not hang by an all-edge hangs by a some-edge
-pub some_kind : (t : List ℕ) (m c kind : ℕ) → Checked t m → (c ≡ 0 → ⊥) → c < m → kind ≡ kind_of t c → (kind ≡ kind_for_all → ⊥) → kind_of t c ≡ kind_exists
-some_kind t m c kind checked z inside is other = ⊎_elim (λ e. e) (λ e. absurd (other (is ∙ e))) (checked.kinds c z inside)
+pub some_kind : (t : Table) {c kind : ℕ} → (c ≡ 0 → ⊥) → c < t.rows → kind ≡ kind_of t.bytes.now c → (kind ≡ kind_for_all → ⊥) →
+    kind_of t.bytes.now c ≡ kind_exists
+some_kind t {c = c} z inside is other = ⊎_elim (λ e. e) (λ e. absurd (other (is ∙ e))) (edge_kind t.linked.checked c z inside)
 
 -- rows of one kind and one role hang by the same edge
-edge_same : (s t : List ℕ) (c v kind : ℕ) → (kind ≡ kind_exists) ⊎ (kind ≡ kind_for_all) → kind_of s v ≡ kind → kind_of t c ≡ kind → role_of s v ≡ role_of t c →
-    same_edge s t c v ≡ true
-edge_same s t c v kind known first second by =
-    edge_bytes s t c v kind kind (rw first known) (rw second known) (sym first) (sym second)
-    ∙ rw (eq-eqb kind kind refl, eq-eqb (role_of s v) (role_of t c) by)
+edge_same : (s t : List ℕ) (c v : ℕ) → EdgeRow s v → EdgeRow t c → kind_of s v ≡ kind_of t c → role_of s v ≡ role_of t c → same_edge s t c v ≡ true
+edge_same s t c v row edge kinds roles =
+    edge_bytes s t c v (kind_of s v) (kind_of t c) row edge refl refl
+    ∙ rw (eq-eqb (kind_of s v) (kind_of t c) kinds, eq-eqb (role_of s v) (role_of t c) roles)
 
-pub missed_value : (s t missed : List ℕ) (d c u role v : ℕ) → MissedBelow s t missed d c u → kind_of t c ≡ kind_for_all → role ≡ role_of t c →
-    v ≡ value_row s u role → (v ≡ 0 → ⊥) → Missed s t missed d c v
-unfolding value_row
-missed_value s t missed d c u role v below all role-is is z =
-    let rows = successor_rows picture_signature (picture_table s) u in
-    let (on, kind, by) = subst (ByValue s role rows) (sym is) (first_value_is s role rows) z in
-    below v (row_hangs s u v on) (edge_same s t c v kind_for_all (inr refl) kind all (by ∙ role-is))
+module _ (x : FailedSearch) (d c : ℕ) (inside : c < x.second.now.rows) where
+  pub missed_value : {u role v : ℕ} → MissedBelow (first_of x) (second_of x) x.missed.now d c u → kind_of (second_of x) c ≡ kind_for_all →
+      role ≡ role_of (second_of x) c → value_row (first_of x) u role ≡ v → (v ≡ 0 → ⊥) → Missed (first_of x) (second_of x) x.missed.now d c v
+  unfolding value_row
+  missed_value {u} {role} {v} below all role-is is z =
+      let s = first_of x in
+      let rows = successor_rows picture_signature (picture_table s) u in
+      let (on, kind, by) = subst (ByValue s role rows) is (first_value_is s role rows) z in
+      let hangs = row_hangs s u v on in
+      let counted = x.first.now.linked.checked.counted in
+      below v hangs
+      (edge_same s (second_of x) c v (checked_edge x.first.now.linked.checked z (rw counted hangs.1))
+      (record { whole = checked_has (second_of x) x.second.now.rows c x.second.now.linked.checked inside; edge = λ _. all })
+      (kind ∙ sym all) (by ∙ role-is))
 
-pub missed_chain : (s t missed : List ℕ) (n d c u v : ℕ) → Checked s n → MissedBelow s t missed d c u → OnChain (parent_of s) n u v → (v ≡ 0 → ⊥) →
-    same_edge s t c v ≡ true → Missed s t missed d c v
-missed_chain s t missed n d c u v checked below on z = let (inside, hangs) = on z in below v (z, omega (arith, checked.counted), hangs)
+  pub missed_reached : {v kind role by : ℕ} → (v ≡ 0 → ⊥) → v < x.first.now.rows → kind_of (second_of x) c ≡ kind_exists →
+      (same_edge (first_of x) (second_of x) c v ≡ true → Missed (first_of x) (second_of x) x.missed.now d c v) →
+      kind ≡ kind_of (first_of x) v → (kind ≡ kind_for_all → ⊥) → role ≡ role_of (first_of x) v → by ≡ role_of (second_of x) c → role ≡ by →
+      Missed (first_of x) (second_of x) x.missed.now d c v
+  missed_reached {v = v} z here some left kind_is other role-is by-is same =
+      left (edge_same (first_of x) (second_of x) c v (checked_edge x.first.now.linked.checked z here)
+      (record {
+        whole = checked_has (second_of x) x.second.now.rows c x.second.now.linked.checked inside;
+        edge = λ u. absurd (u some);
+      })
+      (some_kind x.first.now z here kind_is other ∙ sym some)
+      (sym role-is ∙ same ∙ by-is))
 
-pub missed_reached : (s t missed : List ℕ) (n d c v kind : ℕ) → Checked s n → (v ≡ 0 → ⊥) → v < n → kind_of t c ≡ kind_exists →
-    (same_edge s t c v ≡ true → Missed s t missed d c v) → kind ≡ kind_of s v → (kind ≡ kind_for_all → ⊥) →
-    (role by : ℕ) → role ≡ role_of s v → by ≡ role_of t c → role ≡ by → Missed s t missed d c v
-missed_reached s t missed n d c v kind checked z inside some left kind_is other role by role-is by-is same =
-    left (edge_same s t c v kind_exists (inl refl) (some_kind s n v kind checked z inside kind_is other) some (sym role-is ∙ same ∙ by-is))
+pub missed_chain : (x : FailedSearch) (d c : ℕ) {u v : ℕ} → MissedBelow (first_of x) (second_of x) x.missed.now d c u →
+    OnChain (parent_of (first_of x)) x.first.now.rows u v →
+    (v ≡ 0 → ⊥) → same_edge (first_of x) (second_of x) c v ≡ true → Missed (first_of x) (second_of x) x.missed.now d c v
+missed_chain x d c {v = v} below on z =
+    let counted = x.first.now.linked.checked.counted in let (inside, hangs) = on z in below v (z, omega arith, hangs)

@@ -7,44 +7,42 @@
 --   begun_lacks, begun_holds, begun_below                  the individual of row u, against row w
 --   begun_top_lacks, begun_top_holds, begun_top            that of ⊤
 --   edge_room, edges_room, edges_written, edge_written     a successor, and then the others; one successor alone
---   ValueAt                                                no all-successor of the role is before row v, so those from it on decide
---   value_start, value_next, value_less                    before the loop over them, and one turn more, which brings its end nearer
---   value_found, value_end                                 where it stops
+--   is_value, value_start                                  the search for the all-successor of a role, before its first turn
 --   realized_start, realized_end                           before and after the walk along the some-successors (Walks)
 --   refutation_room, refutation_end                        the whole file
-use Prim.Native.Nat.{◌+◌, ◌-◌, ◌<◌, ◌^◌, ◌≤◌, suc, ℕ}
-use borrow.Author.Tests.{eq-eqb, lt-ltb, ne_eqb}
+use Prim.Native.Nat.{◌+◌, ◌<◌, ◌^◌, ◌≤◌, suc, ℕ}
+use borrow.Author.Tests.{lt-ltb}
 use lib.Dec.{eqb}
 use lib.ListN.{get_or, length, length-append}
-use mathlib.Core.Bool.{Bool, false, true}
-use mathlib.Core.List.{List, ◌++◌, ◌∷◌}
-use mathlib.Core.Logic.{◌⊎◌, inl, inr}
+use mathlib.Core.Bool.{Bool, ◌&&◌, false, true}
+use mathlib.Core.List.{List, [], ◌++◌, ◌∷◌}
 use mathlib.Core.Path.{◌∙◌, ◌≡◌, ap, refl, subst, sym}
 use native.Mathlib.Omega.{arith}
 use Rattle.ale.proofs.Encodings.{encode_tree_length}
-use Rattle.row_sets.proofs.LinkLists.{OnChain, ahead, chain_next, chain_on_first, chain_on_next}
+use Rattle.row_sets.proofs.LinkLists.{child_of}
 use Rattle.ale.specs.Countermodel.{individual, widened}
 use Rattle.ale.specs.Encoding.{encode}
 use Rattle.ale.specs.PictureSignature.{NameSet, picture_signature}
 use Rattle.ale.specs.Tree.{Forest, Tree, cons, empty_label, exists, nil, node, size}
 use Rattle.homomorphism_search.proofs.Labels.{Read, low_same}
-use Rattle.homomorphism_search.specs.Search.{LinkedTable}
-use Rattle.meaning.specs.Meaning.{label_at, set_at}
+use Rattle.meaning.specs.Meaning.{label_at, picture_table, set_at}
 use Rattle.table.proofs.Bools.{by_test}
 use Rattle.table.proofs.NameSets.{has_below, has_complement, has_intersection, has_none, has_union, set_ext}
 use Rattle.table.proofs.Puts.{put_put}
-use Rattle.table.specs.Bounds.{max_rows}
 use Rattle.table.specs.Fields.{end_bytes, excluded_of, kind_of, parent_of, role_of, wanted_of}
 use Rattle.table.specs.Layout.{end_size, kind_for_all, name_count}
 use Rattle.table.specs.NameSet.{complement, has, intersection, none, subset, union}
 use Rattle.table.specs.Number.{be_bytes}
-use Rattle.table.specs.Pick.{pick}
 use Rattle.table.specs.Put.{put}
 use Rattle.countermodel.specs.Layout.{individual_place, individual_size, most_individuals}
 use Rattle.refutation_writer.specs.Refuting.{against_top, against_tree, canonical_below, falsified_below, first_value, reached_all, reached_tree, realized_below, realized_rows, value_row, wanted_within}
 use Rattle.countermodel.specs.Writing.{individual_bytes, individuals_of, refutation_file}
 use Rattle.refutation_writer.specs.Writing.{RefutationRoom, Room, Written}
-use Rattle.homomorphism_search.proofs.Walks.{chain_less, successors_ahead}
+use Rattle.homomorphism_search.proofs.Walks as search
+use Rattle.homomorphism_search.proofs.Walks.{first_of}
+use Rattle.row_sets.specs.declared.linked.Table.{Table}
+use Rattle.ale.specs.Rows.{filter_below}
+use Rattle.ale.specs.Table.{successor_rows}
 use Rattle.refutation_writer.proofs.Refutings.{against_below, against_holds, against_lacks, realized_split, top_below, top_holds, top_lacks, below_top}
 use Rattle.refutation_writer.proofs.Walks.{WalkAt, walk_end, walk_start}
 use Rattle.countermodel.proofs.Writings.{length_individuals}
@@ -62,27 +60,27 @@ widened_none a l =
 
 -- ---- the same individuals
 
-module _ (out : List ℕ) (k parent : ℕ) where
-  module _ (role by : ℕ) (same : role ≡ by) (x y : Tree picture_signature) (e : x ≡ y) where
-    pub tree_room : Room out k (reached_tree x parent role k) → Room out k (reached_tree y parent by k)
-    tree_room room = subst (λ t. Room out k (reached_tree t parent by k)) e (subst (λ r. Room out k (reached_tree x parent r k)) same room)
+module _ {x y : Tree picture_signature} (e : x ≡ y) {role by : ℕ} (same : role ≡ by) (parent : ℕ) {out : List ℕ} {k : ℕ} where
+  pub tree_room : Room out k (reached_tree x parent role k) → Room out k (reached_tree y parent by k)
+  tree_room room = subst (λ t. Room out k (reached_tree t parent by k)) e (subst (λ r. Room out k (reached_tree x parent r k)) same room)
 
-    pub tree_written : (a : ℕ) (end : List ℕ) → Written out k (reached_tree y parent by k) a end → Written out k (reached_tree x parent role k) a end
-    tree_written a end w =
-        subst (λ r. Written out k (reached_tree x parent r k) a end) (sym same) (subst (λ t. Written out k (reached_tree t parent by k) a end) (sym e) w)
+  pub tree_written : {a : ℕ} {end : List ℕ} → Written out k (reached_tree y parent by k) a end → Written out k (reached_tree x parent role k) a end
+  tree_written {a} {end} w =
+      subst (λ r. Written out k (reached_tree x parent r k) a end) (sym same) (subst (λ t. Written out k (reached_tree t parent by k) a end) (sym e) w)
 
-  module _ (f g : Forest picture_signature) (e : f ≡ g) where
-    pub forest_room : Room out k (reached_all f parent k) → Room out k (reached_all g parent k)
-    forest_room room = subst (λ h. Room out k (reached_all h parent k)) e room
+module _ {f g : Forest picture_signature} (e : f ≡ g) (parent : ℕ) {out : List ℕ} {k : ℕ} where
+  pub forest_room : Room out k (reached_all f parent k) → Room out k (reached_all g parent k)
+  forest_room room = subst (λ h. Room out k (reached_all h parent k)) e room
 
-    pub forest_written : (a : ℕ) (end : List ℕ) → Written out k (reached_all g parent k) a end → Written out k (reached_all f parent k) a end
-    forest_written a end w = subst (λ h. Written out k (reached_all h parent k) a end) (sym e) w
+  pub forest_written : {a : ℕ} {end : List ℕ} → Written out k (reached_all g parent k) a end → Written out k (reached_all f parent k) a end
+  forest_written {a} {end} w = subst (λ h. Written out k (reached_all h parent k) a end) (sym e) w
 
 -- ---- an individual, and then what hangs from it
 
-pub tree_here : (out : List ℕ) (k parent role : ℕ) (x : Tree picture_signature) → Room out k (reached_tree x parent role k) →
+pub tree_here : (x : Tree picture_signature) (parent role : ℕ) {out : List ℕ} {k : ℕ} → Room out k (reached_tree x parent role k) →
     (k < most_individuals) × (individual_place k individual_size ≤ length out)
-tree_here out k parent role (node l f) room = room_here out k (record { parent = parent; kind = exists; role = role; label = l }) (reached_all f k (suc k)) room
+tree_here (node l f) parent role {out} {k} room =
+    room_here out k (record { parent = parent; kind = exists; role = role; label = l }) (reached_all f k (suc k)) room
 
 -- individual k is written, and f is what hangs from it
 pub record Begun (out : List ℕ) (k parent role : ℕ) (x : Tree picture_signature) (mid : List ℕ) (f : Forest picture_signature) : Type 0 where
@@ -93,34 +91,32 @@ begun : (out : List ℕ) (k parent role : ℕ) (x : Tree picture_signature) (nam
     x ≡ individual picture_signature names f → Room out k (reached_tree x parent role k) → (set : ℕ) → names.set ≡ set →
     (mid : List ℕ) → mid ≡ put out (individual_place k 0) (individual_bytes parent role set) → Begun out k parent role x mid f
 begun out k parent role x names f is room set same mid here =
-    let whole = tree_room out k parent role role refl x (individual picture_signature names f) is room in
+    let whole = tree_room is refl parent room in
     let stands : mid ≡ put out (individual_place k 0) (individual_bytes parent role names.set) =
     here ∙ ap (λ n. put out (individual_place k 0) (individual_bytes parent role n)) (sym same) in
     record {
       room = room_node out k parent role names f whole mid stands;
-      written = λ b end rest. tree_written out k parent role role refl x (individual picture_signature names f) is b end
-          (written_node out k parent role names f whole mid stands b end rest);
+      written = λ b end rest. tree_written is refl parent (written_node out k parent role names f whole mid stands b end rest);
     }
 
-pub leaf_written : (out : List ℕ) (k parent role : ℕ) (x : Tree picture_signature) (mid : List ℕ) (f : Forest picture_signature) →
+pub leaf_written : {x : Tree picture_signature} {f : Forest picture_signature} {out : List ℕ} {k parent role : ℕ} {mid : List ℕ} →
     Begun out k parent role x mid f → f ≡ nil → Written out k (reached_tree x parent role k) (k + 1) mid
-leaf_written out k parent role x mid f first ends =
-    first.written (k + 1) mid (forest_written mid (k + 1) k f nil ends (k + 1) mid (written_none mid (k + 1)))
+leaf_written {k = k} {mid = mid} first ends = first.written (k + 1) mid (forest_written ends k (written_none mid (k + 1)))
 
-module _ (s t : List ℕ) (d w u : ℕ) (out : List ℕ) (k parent role : ℕ) (room : Room out k (reached_tree (against_tree s t d w u) parent role k)) (mid : List ℕ)
-    (has : ℕ) (has-is : Read has (wanted_of s u)) (r : Bool) (is : r ≡ wanted_within t w has) where
+module _ (s t : List ℕ) (d w u parent role : ℕ) {out : List ℕ} {k : ℕ} (room : Room out k (reached_tree (against_tree s t d w u) parent role k)) {mid : List ℕ}
+    {has : ℕ} (has-is : Read has (wanted_of s u)) {r : Bool} (is : r ≡ wanted_within t w has) where
   pub begun_lacks : r ≡ false → mid ≡ put out (individual_place k 0) (individual_bytes parent role has) →
       Begun out k parent role (against_tree s t d w u) mid (canonical_below s d u)
   begun_lacks h here =
       begun out k parent role (against_tree s t d w u) (set_at (wanted_of s u)) (canonical_below s d u)
       (against_lacks s t d w u has has-is r is h) room has (low_same has (wanted_of s u) has-is) mid here
 
-  module _ (h : r ≡ true) (lacks excludes : ℕ) (lacks-is : Read lacks (excluded_of s u)) (excludes-is : Read excludes (excluded_of t w)) (q : Bool)
+  module _ (h : r ≡ true) {lacks excludes : ℕ} (lacks-is : Read lacks (excluded_of s u)) (excludes-is : Read excludes (excluded_of t w)) {q : Bool}
       (at : q ≡ subset excludes lacks) where
-    pub begun_holds : q ≡ false → (set : ℕ) → set ≡ intersection (union has excludes) (complement lacks) →
+    pub begun_holds : q ≡ false → {set : ℕ} → set ≡ intersection (union has excludes) (complement lacks) →
         mid ≡ put out (individual_place k 0) (individual_bytes parent role set) →
         Begun out k parent role (against_tree s t d w u) mid (canonical_below s d u)
-    begun_holds g set set_is here =
+    begun_holds g {set} set_is here =
         begun out k parent role (against_tree s t d w u) (widened picture_signature (label_at t w) (label_at s u)) (canonical_below s d u)
         (against_holds s t d w u has has-is r is h lacks excludes lacks-is excludes-is q at g) room set
         (rw (low_same has (wanted_of s u) has-is, low_same excludes (excluded_of t w) excludes-is, low_same lacks (excluded_of s u) lacks-is) (sym set_is)) mid here
@@ -131,14 +127,14 @@ module _ (s t : List ℕ) (d w u : ℕ) (out : List ℕ) (k parent role : ℕ) (
         begun out k parent role (against_tree s t d w u) (set_at (wanted_of s u)) (falsified_below s t d w u)
         (against_below s t d w u has has-is r is h lacks excludes lacks-is excludes-is q at g) room has (low_same has (wanted_of s u) has-is) mid here
 
-module _ (t : List ℕ) (d w : ℕ) (out : List ℕ) (k parent role : ℕ) (room : Room out k (reached_tree (against_top t d w) parent role k)) (mid : List ℕ)
-    (empty : ℕ) (empty-is : empty ≡ none) (r : Bool) (is : r ≡ wanted_within t w empty) where
+module _ (t : List ℕ) (d w parent role : ℕ) {out : List ℕ} {k : ℕ} (room : Room out k (reached_tree (against_top t d w) parent role k)) {mid : List ℕ}
+    {empty : ℕ} (empty-is : empty ≡ none) {r : Bool} (is : r ≡ wanted_within t w empty) where
   pub begun_top_lacks : r ≡ false → mid ≡ put out (individual_place k 0) (individual_bytes parent role empty) →
       Begun out k parent role (against_top t d w) mid nil
   begun_top_lacks h here =
       begun out k parent role (against_top t d w) picture_signature.none nil (top_lacks t d w empty empty-is r is h) room empty (sym empty-is) mid here
 
-  module _ (h : r ≡ true) (excludes : ℕ) (excludes-is : Read excludes (excluded_of t w)) (q : Bool) (at : q ≡ eqb excludes none) where
+  module _ (h : r ≡ true) {excludes : ℕ} (excludes-is : Read excludes (excluded_of t w)) {q : Bool} (at : q ≡ eqb excludes none) where
     pub begun_top_holds : q ≡ false → mid ≡ put out (individual_place k 0) (individual_bytes parent role excludes) →
         Begun out k parent role (against_top t d w) mid nil
     begun_top_holds g here =
@@ -155,15 +151,15 @@ module _ (t : List ℕ) (d w : ℕ) (out : List ℕ) (k parent role : ℕ) (room
 
 -- ---- a successor, and then the others
 
-module _ (out : List ℕ) (k parent role : ℕ) (f : Forest picture_signature) (x : Tree picture_signature) (g : Forest picture_signature)
-    (is : f ≡ cons exists role x g) (room : Room out k (reached_all f parent k)) where
+module _ {f g : Forest picture_signature} {x : Tree picture_signature} {role : ℕ} (is : f ≡ cons exists role x g) (parent : ℕ) {out : List ℕ} {k : ℕ}
+    (room : Room out k (reached_all f parent k)) where
   both_room : Room out k (reached_tree x parent role k ++ reached_all g parent (k + size picture_signature x))
-  both_room = forest_room out k parent f (cons exists role x g) is room
+  both_room = forest_room is parent room
 
   pub edge_room : Room out k (reached_tree x parent role k)
   edge_room = room_left out k (reached_tree x parent role k) (reached_all g parent (k + size picture_signature x)) both_room
 
-  module _ (a : ℕ) (mid : List ℕ) (first : Written out k (reached_tree x parent role k) a mid) where
+  module _ {a : ℕ} {mid : List ℕ} (first : Written out k (reached_tree x parent role k) a mid) where
     next_at : k + size picture_signature x ≡ a
     next_at = omega (arith, first.next_is, encode_tree_length picture_signature x parent exists role k)
 
@@ -172,70 +168,48 @@ module _ (out : List ℕ) (k parent role : ℕ) (f : Forest picture_signature) (
         room_same mid a (reached_all g parent (k + size picture_signature x)) (reached_all g parent a) (ap (reached_all g parent) next_at)
         (room_right out k (reached_tree x parent role k) (reached_all g parent (k + size picture_signature x)) both_room a mid first)
 
-    pub edges_written : (b : ℕ) (end : List ℕ) → Written mid a (reached_all g parent a) b end → Written out k (reached_all f parent k) b end
-    edges_written b end rest =
-        forest_written out k parent f (cons exists role x g) is b end
+    pub edges_written : {b : ℕ} {end : List ℕ} → Written mid a (reached_all g parent a) b end → Written out k (reached_all f parent k) b end
+    edges_written {b} {end} rest =
+        forest_written is parent
         (written_append out k (reached_tree x parent role k) (reached_all g parent (k + size picture_signature x)) both_room a mid first b end
         (written_same mid a (reached_all g parent a) (reached_all g parent (k + size picture_signature x)) b end (ap (reached_all g parent) (sym next_at)) rest))
 
     pub edge_written : g ≡ nil → Written out k (reached_all f parent k) a mid
-    edge_written last = edges_written a mid (forest_written mid a parent g nil last a mid (written_none mid a))
+    edge_written last = edges_written (forest_written last parent (written_none mid a))
 
 -- ---- along the rows that hang from row u: the all-successor of a role
 
-pub record ValueAt (s : List ℕ) (n u role v : ℕ) : Type 0 where
-  pub on : OnChain (parent_of s) n u v
-  pub rest : value_row s u role ≡ first_value s role (ahead (parent_of s) n u v)
+abbrev pub is_value : List ℕ → ℕ → ℕ → Bool
+is_value s role v = eqb (kind_of s v) kind_for_all && eqb (role_of s v) role
 
-module _ (s links : List ℕ) (n u role : ℕ) (table : LinkedTable s n links) where
-  pub value_start : (v : ℕ) → u < n → v ≡ get_or links u 0 → ValueAt s n u role v
-  unfolding value_row
-  value_start v l first =
-      rw first
-      (record {
-        on = chain_on_first (parent_of s) n u max_rows links table.linked l;
-        rest = ap (first_value s role) (successors_ahead s links n u table l);
-      })
+first_value_is : (s : List ℕ) (role : ℕ) (rows : List ℕ) → first_value s role rows ≡ first_of (is_value s role) rows 0
+first_value_is s role [] = refl
+first_value_is s role (v ∷ rows) =
+    by_test (eqb (kind_of s v) kind_for_all)
+    (λ e. rw e (by_test (eqb (role_of s v) role) (λ same. rw same) (λ other. rw other (first_value_is s role rows))))
+    (λ e. rw e (first_value_is s role rows))
 
-  module _ (v : ℕ) (z : v ≡ 0 → ⊥) (at : ValueAt s n u role v) where
-    value_turn : value_row s u role ≡ first_value s role (v ∷ ahead (parent_of s) n u (get_or links (max_rows + v) 0))
-    value_turn = at.rest ∙ ap (first_value s role) (chain_next (parent_of s) n u max_rows links table.linked v z at.on)
-
-    pub value_found : (kind by : ℕ) → kind ≡ kind_of s v → by ≡ role_of s v → kind ≡ kind_for_all → by ≡ role → value_row s u role ≡ v
-    value_found kind by kind_is by-is all same =
-        value_turn ∙ rw (sym kind_is, eq-eqb kind kind_for_all all, sym by-is, eq-eqb by role same)
-
-    pub value_next : (k : ℕ) → k ≡ get_or links (max_rows + v) 0 → (kind_of s v ≡ kind_for_all → ⊥) ⊎ (role_of s v ≡ role → ⊥) → ValueAt s n u role k
-    value_next k next other =
-        rw next
-        (record {
-          on = chain_on_next (parent_of s) n u max_rows links table.linked v z at.on;
-          rest = value_turn ∙ passed (first_value s role (ahead (parent_of s) n u (get_or links (max_rows + v) 0))) other;
-        })
-      where
-        passed : (rest : ℕ) → (kind_of s v ≡ kind_for_all → ⊥) ⊎ (role_of s v ≡ role → ⊥) →
-            pick (eqb (kind_of s v) kind_for_all) (pick (eqb (role_of s v) role) v rest) rest ≡ rest
-        passed rest (inl some) = rw (ne_eqb (kind_of s v) kind_for_all some)
-        passed rest (inr by) = rw (ne_eqb (role_of s v) role by) (by_test (eqb (kind_of s v) kind_for_all) (λ e. rw e) (λ e. rw e))
-
-    pub value_less : (k : ℕ) → k ≡ get_or links (max_rows + v) 0 → pick (eqb k 0) 0 (n + 1 - k) < pick (eqb v 0) 0 (n + 1 - v)
-    value_less k next = chain_less (parent_of s) n u max_rows links table.linked v z at.on k next
-
-pub value_end : (s : List ℕ) (n u role v : ℕ) → ValueAt s n u role v → v ≡ 0 → value_row s u role ≡ 0
-value_end s n u role v at z = at.rest ∙ rw (eq-eqb v 0 z)
+pub value_start : (t : Table) (role : ℕ) {u v : ℕ} → u < t.rows → v ≡ get_or t.links.now u 0 →
+    search.WalkAt (parent_of t.bytes.now) t.rows u (is_value t.bytes.now role) 0 (value_row t.bytes.now u role) v
+unfolding value_row
+value_start t role {u} {v} l first =
+    search.walk_start t.linked.linked v l
+    (first_value_is t.bytes.now role (successor_rows picture_signature (picture_table t.bytes.now) u)
+    ∙ ap (λ n. first_of (is_value t.bytes.now role) (filter_below (child_of (parent_of t.bytes.now) u) n) 0) (sym t.linked.checked.counted))
+    first
 
 -- ---- along them: the some-successors
 
-module _ (s t links : List ℕ) (n d c u parent : ℕ) (table : LinkedTable s n links) (out : List ℕ) (k : ℕ) where
-  pub realized_start : (v : ℕ) → u < n → v ≡ get_or links u 0 → Room out k (reached_all (realized_below s t d c u) parent k) →
-      WalkAt (realized_rows s t d c) s n u parent out k v k out
+module _ (t : Table) (s : List ℕ) (d c : ℕ) {u parent : ℕ} {out : List ℕ} {k : ℕ} where
+  pub realized_start : {v : ℕ} → u < t.rows → v ≡ get_or t.links.now u 0 → Room out k (reached_all (realized_below t.bytes.now s d c u) parent k) →
+      WalkAt (realized_rows t.bytes.now s d c) t.bytes.now t.rows u parent out k k out v
   unfolding realized_below
-  realized_start v l first room = walk_start (realized_rows s t d c) (realized_split s t d c) s links n u parent table out k v l first room
+  realized_start l first room = walk_start (realized_split t.bytes.now s d c) t l first room
 
-  pub realized_end : (v next : ℕ) (mid : List ℕ) → v ≡ 0 → WalkAt (realized_rows s t d c) s n u parent out k v next mid →
-      Written out k (reached_all (realized_below s t d c u) parent k) next mid
+  pub realized_end : {v next : ℕ} {mid : List ℕ} → v ≡ 0 → WalkAt (realized_rows t.bytes.now s d c) t.bytes.now t.rows u parent out k next mid v →
+      Written out k (reached_all (realized_below t.bytes.now s d c u) parent k) next mid
   unfolding realized_below
-  realized_end v next mid z at = walk_end (realized_rows s t d c) (realized_split s t d c) s links n u parent table out k v next mid z at
+  realized_end z at = walk_end (realized_split t.bytes.now s d c) t z at
 
 -- ---- the whole file
 

@@ -15,13 +15,13 @@
 --   realized_split                   the some-successors of a list, one after the other
 --   realized_all, realized_same,
 --   realized_other                   of one row: nothing of an all-successor; against row c by its role; else as in the canonical model
-use Prim.Native.Nat.{◌%◌, ◌<◌, ◌^◌, suc, ℕ}
+use Prim.Native.Nat.{◌%◌, ◌-◌, ◌<◌, ◌^◌, suc, ℕ}
+use native.Mathlib.Omega.{arith}
 use borrow.Author.Tests.{eq-eqb, ne_eqb}
 use lib.Dec.{T, eqb}
 use lib.ListN.{get_or}
 use mathlib.Core.Bool.{Bool, and-false, and-true, false, not, true}
 use mathlib.Core.List.{List, [], ◌∷◌}
-use mathlib.Core.Logic.{⊎_elim}
 use mathlib.Core.Path.{◌∙◌, ◌≡◌, ap, ap₂, refl, sym}
 use Rattle.row_sets.proofs.LinkLists.{OnChain, ahead, chain_next, chain_on_first}
 use Rattle.ale.proofs.RowLists.{filter_below_out, member_head, member_tail}
@@ -33,7 +33,7 @@ use Rattle.ale.specs.Rows.{member}
 use Rattle.ale.specs.Table.{successor_of, successor_rows, successors}
 use Rattle.ale.specs.Tree.{Forest, Kind, Tree, cons, empty_label, exists, forAll, nil, successors_of, top}
 use Rattle.homomorphism_search.proofs.Labels.{Read, low_same}
-use Rattle.homomorphism_search.specs.Search.{LinkedTable, edge_served, first_failing, forest_at, label_carried, tree_at, unserved_row}
+use Rattle.homomorphism_search.specs.Search.{edge_served, first_failing, forest_at, label_carried, tree_at, unserved_row}
 use Rattle.meaning.specs.Meaning.{kind_at, label_at, picture_table, set_at}
 use Rattle.table.proofs.Bools.{both, by_test}
 use Rattle.table.proofs.NameSets.{subset_none}
@@ -44,6 +44,7 @@ use Rattle.table.specs.NameSet.{none, subset}
 use Rattle.table.specs.Pick.{pick}
 use Rattle.refutation_writer.specs.Refuting.{against_top, against_tree, against_value, canonical_below, canonical_tree, falsified_below, first_value, realized_below, realized_rows, value_row, wanted_within}
 use Rattle.homomorphism_search.proofs.Walks.{successors_ahead}
+use Rattle.row_sets.specs.declared.linked.Table.{Table}
 use Rattle.refutation_writer.proofs.Walks.{Split}
 
 -- ---- the rows that hang from a row
@@ -127,24 +128,31 @@ module _ (s t : List ℕ) (d u : ℕ) where
       (λ e. rw e (falsify_rows rows (λ j is. apart j (member_tail j c rows is))))
       (λ e. rw (e, ne_eqb c 0 (apart c (member_head c rows))))
 
-  module _ (depth w c : ℕ) (deeper : depth ≡ suc d) (is : c ≡ unserved_row s t d w u) where
-    falsified_rows : falsified_below s t depth w u
-        ≡ pick (eqb c 0) (canonical_below s depth u)
-        (falsify picture_signature (kind_at (kind_of t c)) (role_of t c) (λ x. countermodel picture_signature (tree_at t d c) x) (forest_at s d u))
-    unfolding falsified_below canonical_below unserved_row
-    falsified_rows = rw (deeper, is) (falsify_rows (successor_rows picture_signature (picture_table t) w) (rows_no_root t w))
+module _ (s t : List ℕ) (u w : ℕ) {depth c : ℕ} (deep : depth ≡ 0 → ⊥) (is : c ≡ unserved_row s t (depth - 1) w u) where
+  deeper : depth ≡ suc (depth - 1)
+  deeper = omega arith
 
-    pub falsified_none : c ≡ 0 → falsified_below s t depth w u ≡ canonical_below s depth u
-    falsified_none z = falsified_rows ∙ rw (eq-eqb c 0 z)
+  last : suc (depth - 1) - 1 ≡ depth - 1
+  last = omega arith
 
-    module _ (z : c ≡ 0 → ⊥) (kind : ℕ) (kind_is : kind ≡ kind_of t c) where
-      pub falsified_value : kind ≡ kind_for_all → falsified_below s t depth w u ≡ cons exists (role_of t c) (against_value s t d c u) (canonical_below s depth u)
-      unfolding against_value canonical_below
-      falsified_value all = falsified_rows ∙ rw (ne_eqb c 0 z, sym kind_is, eq-eqb kind kind_for_all all, deeper)
+  falsified_rows : falsified_below s t depth w u
+      ≡ pick (eqb c 0) (canonical_below s depth u)
+      (falsify picture_signature (kind_at (kind_of t c)) (role_of t c) (λ x. countermodel picture_signature (tree_at t (depth - 1) c) x) (forest_at s (depth - 1) u))
+  unfolding falsified_below canonical_below unserved_row
+  falsified_rows = rw (is, deeper, last) (falsify_rows s t (depth - 1) u (successor_rows picture_signature (picture_table t) w) (rows_no_root t w))
 
-      pub falsified_realized : (kind ≡ kind_for_all → ⊥) → falsified_below s t depth w u ≡ realized_below s t d c u
-      unfolding realized_below realized_rows
-      falsified_realized some = falsified_rows ∙ rw (ne_eqb c 0 z, sym kind_is, ne_eqb kind kind_for_all some)
+  pub falsified_none : c ≡ 0 → falsified_below s t depth w u ≡ canonical_below s depth u
+  falsified_none z = falsified_rows ∙ rw (eq-eqb c 0 z)
+
+  module _ (z : c ≡ 0 → ⊥) {kind : ℕ} (kind_is : kind ≡ kind_of t c) where
+    pub falsified_value : kind ≡ kind_for_all →
+        falsified_below s t depth w u ≡ cons exists (role_of t c) (against_value s t (depth - 1) c u) (canonical_below s depth u)
+    unfolding against_value canonical_below
+    falsified_value all = falsified_rows ∙ rw (ne_eqb c 0 z, sym kind_is, eq-eqb kind kind_for_all all, deeper, last)
+
+    pub falsified_realized : (kind ≡ kind_for_all → ⊥) → falsified_below s t depth w u ≡ realized_below s t (depth - 1) c u
+    unfolding realized_below realized_rows
+    falsified_realized some = falsified_rows ∙ rw (ne_eqb c 0 z, sym kind_is, ne_eqb kind kind_for_all some)
 
 pub falsified_zero : (s t : List ℕ) (depth w u : ℕ) → depth ≡ 0 → falsified_below s t depth w u ≡ canonical_below s depth u
 unfolding falsified_below canonical_below
@@ -164,18 +172,19 @@ value_rows_is s h role (v ∷ rows) apart =
     (λ other. rw (e, other) later))
     (λ e. rw e later)
 
-module _ (s t : List ℕ) (d c u role v : ℕ) (role-is : role ≡ role_of t c) (is : v ≡ value_row s u role) where
-  value_is : value_of picture_signature (role_of t c) (forest_at s d u) ≡ pick (eqb v 0) (top picture_signature) (tree_at s d v)
+module _ (s t : List ℕ) (d c u : ℕ) {role : ℕ} (role-is : role ≡ role_of t c) where
+  value_is : value_of picture_signature (role_of t c) (forest_at s d u)
+      ≡ pick (eqb (value_row s u role) 0) (top picture_signature) (tree_at s d (value_row s u role))
   unfolding value_row
-  value_is = rw (sym role-is, is) (value_rows_is s (tree_at s d) role (successor_rows picture_signature (picture_table s) u) (rows_no_root s u))
+  value_is = rw (sym role-is) (value_rows_is s (tree_at s d) role (successor_rows picture_signature (picture_table s) u) (rows_no_root s u))
 
-  pub value_top : v ≡ 0 → against_value s t d c u ≡ against_top t d c
+  pub value_top : value_row s u role ≡ 0 → against_value s t d c u ≡ against_top t d c
   unfolding against_value against_top
-  value_top z = ap (countermodel picture_signature (tree_at t d c)) (value_is ∙ rw (eq-eqb v 0 z))
+  value_top z = ap (countermodel picture_signature (tree_at t d c)) (value_is ∙ rw (eq-eqb (value_row s u role) 0 z))
 
-  pub value_row_is : (v ≡ 0 → ⊥) → against_value s t d c u ≡ against_tree s t d c v
+  pub value_row_is : {v : ℕ} → value_row s u role ≡ v → (v ≡ 0 → ⊥) → against_value s t d c u ≡ against_tree s t d c v
   unfolding against_value against_tree
-  value_row_is z = ap (countermodel picture_signature (tree_at t d c)) (value_is ∙ rw (ne_eqb v 0 z))
+  value_row_is {v} is z = ap (countermodel picture_signature (tree_at t d c)) (value_is ∙ rw (is, ne_eqb v 0 z))
 
 -- ---- where nothing is asked
 
@@ -211,40 +220,45 @@ pub top_zero : (t : List ℕ) (depth w : ℕ) → depth ≡ 0 → below_top t de
 unfolding below_top
 top_zero t depth w z = rw z
 
-module _ (t links : List ℕ) (m depth d w c : ℕ) (table : LinkedTable t m links) (l : w < m) (deeper : depth ≡ suc d) (first : c ≡ get_or links w 0) where
-  top_rows : below_top t depth w
-      ≡ falsify_all picture_signature (successors picture_signature (picture_table t) (tree_at t d) (ahead (parent_of t) m w c)) nil
+module _ (t : Table) {depth w c : ℕ} (l : w < t.rows) (deep : depth ≡ 0 → ⊥) (first : c ≡ get_or t.links.now w 0) where
+  top_rows : below_top t.bytes.now depth w
+      ≡ falsify_all picture_signature (successors picture_signature (picture_table t.bytes.now) (tree_at t.bytes.now (depth - 1)) (ahead (parent_of t.bytes.now) t.rows w c)) nil
   unfolding below_top
   top_rows =
-      rw (deeper, first)
-      (ap (λ rows. falsify_all picture_signature (successors picture_signature (picture_table t) (tree_at t d) rows) nil) (successors_ahead t links m w table l))
+      let deeper : depth ≡ suc (depth - 1) = omega arith in
+      let last : suc (depth - 1) - 1 ≡ depth - 1 = omega arith in
+      rw (deeper, last, first)
+      (ap (λ rows. falsify_all picture_signature (successors picture_signature (picture_table t.bytes.now) (tree_at t.bytes.now (depth - 1)) rows) nil)
+      (successors_ahead t.bytes.now t.links.now t.rows w t.linked l))
 
-  pub top_none : c ≡ 0 → below_top t depth w ≡ nil
+  pub top_none : c ≡ 0 → below_top t.bytes.now depth w ≡ nil
   top_none z = top_rows ∙ rw (eq-eqb c 0 z)
 
   module _ (z : c ≡ 0 → ⊥) where
-    on_first : OnChain (parent_of t) m w c
-    on_first = rw first (chain_on_first (parent_of t) m w max_rows links table.linked l)
+    on_first : OnChain (parent_of t.bytes.now) t.rows w c
+    on_first = rw first (chain_on_first (parent_of t.bytes.now) t.rows w max_rows t.links.now t.linked.linked l)
 
-    pub top_inside : c < m
+    pub top_inside : c < t.rows
     top_inside = (on_first z).0
 
-    module _ (kind : ℕ) (kind_is : kind ≡ kind_of t c) where
-      top_next : below_top t depth w ≡ falsify picture_signature (kind_at kind) (role_of t c) (λ x. countermodel picture_signature (tree_at t d c) x) nil
+    module _ {kind : ℕ} (kind_is : kind ≡ kind_of t.bytes.now c) where
+      top_next : below_top t.bytes.now depth w
+          ≡ falsify picture_signature (kind_at kind) (role_of t.bytes.now c) (λ x. countermodel picture_signature (tree_at t.bytes.now (depth - 1) c) x) nil
       top_next =
           top_rows
           ∙ rw kind_is
-          (ap (λ rows. falsify_all picture_signature (successors picture_signature (picture_table t) (tree_at t d) rows) nil)
-          (chain_next (parent_of t) m w max_rows links table.linked c z on_first))
+          (ap (λ rows. falsify_all picture_signature (successors picture_signature (picture_table t.bytes.now) (tree_at t.bytes.now (depth - 1)) rows) nil)
+          (chain_next (parent_of t.bytes.now) t.rows w max_rows t.links.now t.linked.linked c z on_first))
 
-      pub top_some : kind ≡ kind_exists → below_top t depth w ≡ nil
+      pub top_some : kind ≡ kind_exists → below_top t.bytes.now depth w ≡ nil
       top_some e = top_next ∙ rw e
 
-      pub top_all : (kind ≡ kind_exists → ⊥) → (role : ℕ) → role ≡ role_of t c → below_top t depth w ≡ cons exists role (against_top t d c) nil
+      pub top_all : (kind ≡ kind_exists → ⊥) → {role : ℕ} → role ≡ role_of t.bytes.now c →
+          below_top t.bytes.now depth w ≡ cons exists role (against_top t.bytes.now (depth - 1) c) nil
       unfolding against_top
-      top_all u role role-is =
+      top_all u role-is =
           top_next
-          ∙ rw (role-is, ⊎_elim (λ e. absurd (u (kind_is ∙ e))) (λ e. kind_is ∙ e) (table.checked.kinds c z top_inside))
+          ∙ rw (role-is, kind_is ∙ t.linked.checked.kinds c z top_inside (λ e. u (kind_is ∙ e)))
 
 -- ---- the some-successors
 

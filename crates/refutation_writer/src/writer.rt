@@ -2,17 +2,16 @@
 ghost use Rattle.std.specs.Prelude.{◌≡◌, ℕ, ◌<◌, ◌≤◌, length};
 ghost use Rattle.table.specs.NameValues.{set_of};
 ghost use Rattle.table.specs.Put.{put};
-ghost use Rattle.homomorphism_search.specs.Search.{LinkedTable};
 ghost use Rattle.countermodel.specs.Layout.{«individual_place», individual_size, most_individuals};
 ghost use Rattle.refutation_writer.specs.Refuting.{canonical_below, canonical_tree, reached_all, reached_tree};
 ghost use Rattle.countermodel.specs.Writing.{individual_bytes};
 ghost use Rattle.refutation_writer.specs.Writing.{Room, Written};
 
 use refutation_reader::layout::{INDIVIDUAL_LENGTH, INDIVIDUAL_TAG, NAMES_AT, individual_place};
-use row_sets::rows::LINKS;
-use table::layout::{KIND_EXISTS, MAX_ROWS};
+use row_sets::linked::Table;
+use table::layout::KIND_EXISTS;
 use table::names::Names;
-use table::number::{copy_in, wide};
+use table::number::copy_in;
 use table_rows::row::{kind, role as row_role, wanted};
 
 // Individual k.
@@ -33,11 +32,9 @@ pub fn write_individual(out: &mut [u8], k: usize, parent: usize, role: u8, names
 }
 
 // The canonical model of row u, as individual k and those below it; gives the number of the next.
-#[cycle(write_canonical_write_canonical_below)]
-pub fn write_canonical(
-    first: &[u8],
-    n: usize,
-    links: &[u8; LINKS],
+#[cycle(canonical)]
+pub fn write_canonical<'a>(
+    first: &'a Table<'a>,
     u: usize,
     depth: usize,
     parent: usize,
@@ -45,48 +42,37 @@ pub fn write_canonical(
     out: &mut [u8],
     k: usize,
 ) -> usize
-    requires { (LinkedTable first.now n links.now) × ((u < n) × (Room out.old k (reached_tree (canonical_tree first.now depth u) parent role k))) }
-    ensures { Written out.old k (reached_tree (canonical_tree first.now depth u) parent role k) result out.new }
+    requires inside { u < first.now.rows }
+    requires room { Room out.old k (reached_tree (canonical_tree first.now.bytes.now depth u) parent role k) }
+    ensures { Written out.old k (reached_tree (canonical_tree first.now.bytes.now depth u) parent role k) result out.new }
 {
-    write_individual(out, k, parent, role, wanted(first, u));
-    write_canonical_below(first, n, links, u, depth, k, out, k + 1)
+    write_individual(out, k, parent, role, wanted(first.bytes, u));
+    write_canonical_below(first, u, depth, k, out, k + 1)
 }
 
 // What hangs from row u in it, reached from individual `parent`.
-#[cycle(write_canonical_write_canonical_below)]
-pub fn write_canonical_below(
-    first: &[u8],
-    n: usize,
-    links: &[u8; LINKS],
+#[cycle(canonical)]
+pub fn write_canonical_below<'a>(
+    first: &'a Table<'a>,
     u: usize,
     depth: usize,
     parent: usize,
     out: &mut [u8],
     k: usize,
 ) -> usize
-    requires { (LinkedTable first.now n links.now) × ((u < n) × (Room out.old k (reached_all (canonical_below first.now depth u) parent k))) }
-    ensures { Written out.old k (reached_all (canonical_below first.now depth u) parent k) result out.new }
+    requires inside { u < first.now.rows }
+    requires room { Room out.old k (reached_all (canonical_below first.now.bytes.now depth u) parent k) }
+    ensures { Written out.old k (reached_all (canonical_below first.now.bytes.now depth u) parent k) result out.new }
 {
     if depth == 0 {
         return k;
     }
     let mut next = k;
-    let mut v = wide(links[u]) as usize;
-    while v != 0 {
-        if kind(first, v) == KIND_EXISTS {
-            next = write_canonical(
-                first,
-                n,
-                links,
-                v,
-                depth - 1,
-                parent,
-                row_role(first, v),
-                out,
-                next,
-            );
+    for v in first.below(u) {
+        if kind(first.bytes, v) == KIND_EXISTS {
+            let role = row_role(first.bytes, v);
+            next = write_canonical(first, v, depth - 1, parent, role, out, next);
         }
-        v = wide(links[MAX_ROWS + v]) as usize;
     }
     next
 }

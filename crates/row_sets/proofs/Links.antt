@@ -6,12 +6,13 @@ use borrow.Author.Tests.{eq-eqb, eqb-false, eqb-true, le-ltb, lt-ltb, ltb-false,
 use lib.Dec.{eqb, ltb}
 use mathlib.Core.Bool.{Bool, ◌&&◌, ◌||◌, false, not, true}
 use mathlib.Core.List.{List}
-use mathlib.Core.Path.{◌∙◌, ◌≡◌, ap, refl, sym}
+use lib.ListN.{get_or}
+use mathlib.Core.Path.{◌∙◌, ◌≡◌, ap, refl, subst, sym}
 use native.Mathlib.Omega.{arith}
 use Rattle.table.proofs.Bools.{both, by_test}
 use Rattle.table.specs.Bounds.{max_rows}
 use Rattle.table.specs.Fields.{parent_of, role_of}
-use Rattle.table_rows.specs.Links.{Nearest}
+use Rattle.table_rows.specs.Links.{Linked, Nearest}
 use Rattle.table.specs.NameSet.{has}
 use Rattle.row_sets.specs.declared.rows.Successors.{Successors}
 use Rattle.row_sets.specs.Rows.{Hung, hangs, holds}
@@ -48,11 +49,11 @@ module _ (s : List ℕ) (rows c : ℕ) (old : Successors) where
   abbrev follows : ℕ → Bool
   follows k = hangs s (λ i. eqb i c) k
 
-  pub walk_none : (j : ℕ) → Nearest (parent_of s) rows c 1 j → Walked s rows c j old old
-  walk_none j n =
+  pub walk_none : (links : List ℕ) (j : ℕ) → Linked (parent_of s) rows max_rows links → c < rows → j ≡ get_or links c 0 → Walked s rows c j old old
+  walk_none links j linked l first =
       record {
         low = 1;
-        next = n;
+        next = subst (λ n. Nearest (parent_of s) rows c 1 n) (sym first) (linked.lowest c l);
         set_is = λ k l. sym (ap (λ (b : Bool). b || holds old.set k) (none k));
         roles_kept = λ i h. h;
         roles_met = λ k l b h. absurd ((hangs_successor s c k h).0 (omega arith));
@@ -63,8 +64,8 @@ module _ (s : List ℕ) (rows c : ℕ) (old : Successors) where
           by_test (follows k) (λ h. let z = (hangs_successor s c k h).0 in rw h (le-ltb k 1 (omega (arith, z)))) (λ h. rw h)
 
   module _ (j : ℕ) (successors : Successors) (w : Walked s rows c j old successors) where
-    pub walk_next : (r : Successors) (n : ℕ) → (j ≡ 0 → ⊥) → Nearest (parent_of s) rows c (j + 1) n → rows ≤ max_rows → ((k : ℕ) → k < max_rows → holds r.set k ≡ (eqb k j || holds successors.set k)) → ((i : ℕ) → has r.roles i ≡ (eqb i (role_of s j) || has successors.roles i)) → Walked s rows c n old r
-    walk_next r n z on most sets roles =
+    pub walk_next : (links : List ℕ) (r : Successors) (n : ℕ) → (j ≡ 0 → ⊥) → Linked (parent_of s) rows max_rows links → n ≡ get_or links (max_rows + j) 0 → rows ≤ max_rows → ((k : ℕ) → k < max_rows → holds r.set k ≡ (eqb k j || holds successors.set k)) → ((i : ℕ) → has r.roles i ≡ (eqb i (role_of s j) || has successors.roles i)) → Walked s rows c n old r
+    walk_next links r n z linked next most sets roles =
         record {
           low = j + 1;
           next = on;
@@ -82,6 +83,11 @@ module _ (s : List ℕ) (rows c : ℕ) (old : Successors) where
       where
         hung : (w.low ≤ j) × (j < rows) × (parent_of s j ≡ c)
         hung = w.next.hung z
+
+        on : Nearest (parent_of s) rows c (j + 1) n
+        on =
+            subst (λ m. Nearest (parent_of s) rows c (j + 1) m) (sym next)
+            (subst (λ m. Nearest (parent_of s) rows m (j + 1) (get_or links (max_rows + j) 0)) hung.2 (linked.later j z hung.1))
 
         joins : (k : ℕ) → k < rows → (eqb k j || ((follows k && ltb k w.low) || holds old.set k)) ≡ ((follows k && ltb k (j + 1)) || holds old.set k)
         joins k l =

@@ -18,6 +18,7 @@ use Rattle.table.specs.Layout.{kind_exists, kind_for_all, roles}
 use Rattle.table_rows.specs.Links.{Zeros}
 use Rattle.table.specs.NameSet.{has}
 use Rattle.row_sets.specs.declared.rows.RowSet.{RowSet}
+use Rattle.row_sets.proofs.Checks.{edge_kind}
 use Rattle.row_sets.specs.Rows.{Checked, Masked, holds, of_kind, of_role}
 use Rattle.table_rows.proofs.Stores.{stored}
 use Rattle.table.proofs.Tests.{and_comm, and_none_two, and_swap}
@@ -116,5 +117,5 @@ edge_row s rows masks r successors kind role checked masked below is rootless me
     ∙ by_test (eqb j 0)
     (λ e. let root : holds successors j ≡ false = ap (holds successors) (eqb-true j 0 e) ∙ rootless in
     rw root (sym (and_none_two (eqb (kind_of s j) kind) (eqb (role_of s j) role))))
-    (λ e. ap (λ (b : Bool). holds successors j && (eqb (role_of s j) role && b)) (kind_is (kind_of s j) kind (checked.kinds j (eqb-false j 0 e) l) is)
+    (λ e. ap (λ (b : Bool). holds successors j && (eqb (role_of s j) role && b)) (kind_is (kind_of s j) kind (edge_kind checked j (eqb-false j 0 e) l) is)
     ∙ turned (holds successors j) (eqb (role_of s j) role) (eqb (kind_of s j) kind))

@@ -35,6 +35,7 @@ use Rattle.picture.specs.Readable.{row_count}
 use Rattle.meaning.specs.File.{code_at, kind_code}
 use Rattle.meaning.specs.Meaning.{kind_at, picture_table}
 use Rattle.row_sets.specs.Parts.{exists_part_at, merged_at, parts_at, roles_at, successors_at, value_part_at}
+use Rattle.row_sets.proofs.Checks.{edge_kind}
 use Rattle.row_sets.specs.Rows.{Checked, Found, Known, also, hangs, holds, of_kind, of_role}
 use Rattle.row_sets.specs.Labels.{Valued}
 use Rattle.row_sets.specs.declared.rows.Successors.{Successors}
@@ -112,7 +113,7 @@ module _ (s : List ℕ) (rows : ℕ) (checked : Checked s rows) (q : ℕ → Boo
   kind_hangs : (k : Kind) (r : Bool) (j : ℕ) → j < rows → (b : Bool) → hangs s q j ≡ b → (b && (same_kind k (kind_at (kind_of s j)) && r)) ≡ (eqb (kind_of s j) (kind_code k) && (r && b))
   unfolding hangs
   kind_hangs k r j l true e =
-      ap (λ (t : Bool). t && r) (kind_test (kind_of s j) k (checked.kinds j (later (eqb j 0) refl e) l)) ∙ turned true (eqb (kind_of s j) (kind_code k)) r
+      ap (λ (t : Bool). t && r) (kind_test (kind_of s j) k (edge_kind checked j (later (eqb j 0) refl e) l)) ∙ turned true (eqb (kind_of s j) (kind_code k)) r
     where
       later : (b : Bool) → eqb j 0 ≡ b → (not b && q (parent_of s j)) ≡ true → j ≡ 0 → ⊥
       later true z h = absurd (true_is false h)

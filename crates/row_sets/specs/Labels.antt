@@ -3,6 +3,7 @@
 --   Joined    a label with that of row j
 --   Added     the same of all that the code has of a set
 --   Valued    the label of a set, what hangs from it, and the roles of that
+--   OfSome    the same of some set
 use Rattle.std.specs.Prelude.{◌<◌, ◌^◌, ℕ, eqb, Bool, ◌||◌, List, ◌≡◌}
 use Rattle.table.specs.Fields.{excluded_of, impossible_of, wanted_of}
 use Rattle.table.specs.Layout.{name_count}
@@ -38,3 +39,6 @@ pub record Valued (s : List ℕ) (rows : ℕ) (q : ℕ → Bool) (values : Value
   pub label_is : LabelIs values.label (label_of_set picture_signature (picture_table s) (filter_below q rows))
   pub successors_are : (j : ℕ) → j < rows → holds values.successors.set j ≡ hangs s q j
   pub known : Known s rows values.successors
+
+abbrev pub OfSome : List ℕ → ℕ → Values → Type 0
+OfSome s rows values = (q : ℕ → Bool) × Valued s rows q values

@@ -2,3 +2,5 @@
 pub mod Rows
 pub mod Labels
 pub mod Parts
+pub mod Chains
+pub mod Walks

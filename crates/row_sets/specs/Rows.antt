@@ -10,7 +10,7 @@
 --   Hung                   what hangs from a set with row c, and its roles
 --   Known                  row 0 hangs from none, and the code has the roles of those that hang
 --   Found                  a row that passes a test, or the number of rows if there is none
-use Rattle.std.specs.Prelude.{◌*◌, ◌+◌, ◌/◌, ◌%◌, ◌<◌, ◌≤◌, ℕ, eqb, get_or, length, Bool, ◌&&◌, ◌||◌, false, not, true, List, ◌⊎◌, ◌≡◌}
+use Rattle.std.specs.Prelude.{◌*◌, ◌+◌, ◌/◌, ◌%◌, ◌<◌, ◌≤◌, ℕ, eqb, get_or, length, Bool, ◌&&◌, ◌||◌, false, not, true, List, ◌≡◌}
 use Rattle.table.specs.Bounds.{max_rows}
 use Rattle.table.specs.Fields.{kind_of, parent_of, role_of}
 use Rattle.table.specs.Layout.{kind_exists, kind_for_all, «place», roles}
@@ -27,8 +27,13 @@ pub record Checked (s : List ℕ) (rows : ℕ) : Type 0 where
   pub whole : place rows 0 ≤ length s
   pub counted : rows ≡ row_count s
   pub parents : (j : ℕ) → (j ≡ 0 → ⊥) → j < rows → parent_of s j < j
-  pub kinds : (j : ℕ) → (j ≡ 0 → ⊥) → j < rows → (kind_of s j ≡ kind_exists) ⊎ (kind_of s j ≡ kind_for_all)
+  pub kinds : (j : ℕ) → (j ≡ 0 → ⊥) → j < rows → (kind_of s j ≡ kind_exists → ⊥) → kind_of s j ≡ kind_for_all
   pub roles_below : (j : ℕ) → j < rows → role_of s j < roles
+
+-- what hangs from each row is linked
+pub record LinkedTable (t : List ℕ) (rows : ℕ) (links : List ℕ) : Type 0 where
+  pub checked : Checked t rows
+  pub linked : Linked (parent_of t) rows max_rows links
 
 abbrev pub also : ℕ → (ℕ → Bool) → ℕ → Bool
 also c q j = eqb j c || q j

@@ -1,5 +1,6 @@
-// The label of a set of rows: the unions of the names, and whether any is marked. The mark is a word, so that a label is words alone.
-ghost use Rattle.std.specs.Prelude.{◌≡◌, ◌&&◌, ◌||◌, false, ℕ, ◌<◌, eqb};
+// The label of a set of rows: the unions of the names, and whether any is marked. The mark is a word, so that a label
+// is words alone.
+ghost use Rattle.std.specs.Prelude.{◌≡◌, ◌&&◌, ◌||◌, false, ◌<◌, eqb};
 ghost use Rattle.table.specs.Fields.{impossible_of};
 ghost use Rattle.table.specs.NameSet.{none};
 ghost use Rattle.table.specs.NameValues.{overlap, set_of};
@@ -18,7 +19,8 @@ pub struct Label {
 
 impl Label {
     pub fn empty() -> Label
-        ensures { (set_of result.wanted ≡ none) × (set_of result.excluded ≡ none) × (eqb result.bottom 1 ≡ false) }
+        ensures { (set_of result.wanted ≡ none) × (set_of result.excluded ≡ none)
+            × (eqb result.bottom 1 ≡ false) }
     {
         Label {
             wanted: Names::none(),
@@ -31,23 +33,14 @@ impl Label {
     pub fn clashes(self) -> bool
         ensures { result ≡ (eqb self.bottom 1 || overlap (set_of self.wanted) (set_of self.excluded)) }
     {
-        if self.bottom == 1 {
-            return true;
-        }
-        let wanted = self.wanted;
-        wanted.overlaps(self.excluded)
+        self.bottom == 1 || self.wanted.overlaps(self.excluded)
     }
 
     // No names.
     pub fn is_bare(self) -> bool
         ensures { result ≡ (eqb (set_of self.wanted) none && eqb (set_of self.excluded) none) }
     {
-        let wanted = self.wanted;
-        if !wanted.is_none() {
-            return false;
-        }
-        let excluded = self.excluded;
-        excluded.is_none()
+        self.wanted.is_none() && self.excluded.is_none()
     }
 }
 
@@ -67,12 +60,9 @@ pub fn join(s: &[u8], rows: usize, label: Label, j: usize) -> Label
     requires { (Checked s.now rows) × (j < rows) }
     ensures { Joined s.now j label result }
 {
-    let bottom = bottom_with(s, rows, label.bottom, j);
-    let more_wanted = wanted(s, j);
-    let more_excluded = excluded(s, j);
     Label {
-        wanted: more_wanted.union(label.wanted),
-        excluded: more_excluded.union(label.excluded),
-        bottom,
+        wanted: wanted(s, j).union(label.wanted),
+        excluded: excluded(s, j).union(label.excluded),
+        bottom: bottom_with(s, rows, label.bottom, j),
     }
 }

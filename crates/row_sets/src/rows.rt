@@ -1,5 +1,5 @@
 // Sets of file rows, and the file rows that hang from a set.
-ghost use Rattle.std.specs.Prelude.{◌≡◌, Bool, ◌&&◌, ◌||◌, false, true, ℕ, ◌+◌, ◌*◌, ◌/◌, ◌%◌, ◌^◌, ◌≤◌, ◌<◌, eqb, get_or};
+ghost use Rattle.std.specs.Prelude.{◌≡◌, ◌&&◌, ◌||◌, false, true, ℕ, ◌+◌, ◌*◌, ◌/◌, ◌%◌, ◌^◌, ◌≤◌, ◌<◌, eqb, get_or};
 ghost use Rattle.table.specs.Bounds.{max_rows};
 ghost use Rattle.table.specs.Fields.{parent_of, role_of};
 ghost use Rattle.table.specs.Layout.{roles};
@@ -8,8 +8,8 @@ ghost use Rattle.table.specs.NameSet.{has};
 ghost use Rattle.table.specs.Pick.{pick};
 ghost use Rattle.row_sets.specs.Rows.{Checked, Hung, Masked, Next, holds, word_of};
 
+use crate::linked::Table;
 use table::layout::{MAX_ROWS, ROLES};
-use table::number::wide;
 use table_rows::row::{kind, parent, role};
 
 // A set of rows takes this many words.
@@ -60,7 +60,9 @@ fn only(i: usize, j: usize, word: u64) -> u64
 // The lowest bit of a word from one on; past the word's end if there is none.
 pub fn next_bit(word: u64, from: usize) -> usize
     requires { from < 64 }
-    ensures { (from ≤ result) × (result ≤ from + 64) × ((k : ℕ) → from ≤ k → k < result → has word k ≡ false) × (result < 64 → has word result ≡ true) }
+    ensures { (from ≤ result) × (result ≤ from + 64)
+        × ((k : ℕ) → from ≤ k → k < result → has word k ≡ false)
+        × (result < 64 → has word result ≡ true) }
 {
     from + u64::trailing_zeros(word >> from) as usize
 }
@@ -110,9 +112,10 @@ impl RowSet {
     // Those of one kind and role.
     pub fn of_edge(self, masks: &[u64; MASKS], kind: u8, role: u8) -> RowSet
         requires { role < roles }
-        ensures { (j : ℕ) → j < max_rows → holds result j ≡ (holds self j && has (get_or masks.now (4 * (2 * role + kind % 2) + j / 64) 0) (j % 64)) }
+        ensures { (j : ℕ) → j < max_rows →
+            holds result j ≡ (holds self j && has (get_or masks.now (4 * (2 * role + kind % 2) + j / 64) 0) (j % 64)) }
     {
-        let at = WORDS * (2 * (wide(role) as usize) + wide(kind) as usize % 2);
+        let at = WORDS * (2 * role as usize + kind as usize % 2);
         RowSet {
             a: self.a & masks[at],
             b: self.b & masks[at + 1],
@@ -150,41 +153,38 @@ impl Successors {
     }
 
     // With row j.
-    fn with(self, s: &[u8], rows: usize, j: usize) -> Successors
-        requires { (Checked s.now rows) × (j < rows) }
-        ensures { ((k : ℕ) → k < max_rows → holds result.set k ≡ (eqb k j || holds self.set k)) × ((i : ℕ) → has result.roles i ≡ (eqb i (role_of s.now j) || has self.roles i)) }
+    fn with(self, table: &Table, j: usize) -> Successors
+        requires { j < table.now.rows }
+        ensures set { (k : ℕ) → k < max_rows → holds result.set k ≡ (eqb k j || holds self.set k) }
+        ensures roles { (i : ℕ) →
+            has result.roles i ≡ (eqb i (role_of table.now.bytes.now j) || has self.roles i) }
     {
-        let set = self.set;
-        let new = bit(wide(role(s, j)) as usize);
         Successors {
-            set: set.with(j),
-            roles: self.roles | new,
+            set: self.set.with(j),
+            roles: self.roles | bit(role(table.bytes, j) as usize),
         }
     }
 
     // With those that hang from row c.
-    pub fn add(self, s: &[u8], rows: usize, links: &[u8; LINKS], c: usize) -> Successors
-        requires { (Checked s.now rows) × ((Linked (parent_of s.now) rows max_rows links.now) × (c < rows)) }
-        ensures { Hung s.now rows c self result }
+    pub fn add<'a>(self, table: &'a Table<'a>, c: usize) -> Successors
+        requires { c < table.now.rows }
+        ensures { Hung table.now.bytes.now table.now.rows c self result }
     {
         let mut successors = self;
-        let mut j = wide(links[c]) as usize;
-        while j != 0 {
-            successors = successors.with(s, rows, j);
-            j = wide(links[MAX_ROWS + j]) as usize;
+        for j in table.below(c) {
+            successors = successors.with(table, j);
         }
         successors
     }
 }
 
-// For each row the lowest row that hangs from it, and then for each row the next that hangs from the same one; 0 if there is none.
+// For each row the lowest row that hangs from it, and then for each row the next that hangs from the same one; 0 if
+// there is none.
 pub fn fill_links(s: &[u8], rows: usize, links: &mut [u8; LINKS])
     requires { (Checked s.now rows) × (Zeros (max_rows + max_rows) links.old) }
     ensures { Linked (parent_of s.now) rows max_rows links.new }
 {
-    let mut j = rows;
-    while 1 < j {
-        j -= 1;
+    for j in (1..rows).rev() {
         let above = parent(s, j);
         links[MAX_ROWS + j] = links[above];
         links[above] = j as u8;
@@ -193,15 +193,13 @@ pub fn fill_links(s: &[u8], rows: usize, links: &mut [u8; LINKS])
 
 // For each role the rows of each kind.
 pub fn fill_masks(s: &[u8], rows: usize, masks: &mut [u64; MASKS])
-    requires { (Checked s.now rows) × (Zeros 256 masks.old) }
+    requires checked { Checked s.now rows }
+    requires empty { Zeros 256 masks.old }
     ensures { Masked s.now rows masks.new }
 {
-    let mut j = 0;
-    while j < rows {
-        let of_kind = wide(kind(s, j)) as usize % 2;
-        let at = WORDS * (2 * (wide(role(s, j)) as usize) + of_kind) + j / WORD_ROWS;
-        let new = bit(j % WORD_ROWS);
-        masks[at] = masks[at] | new;
-        j += 1;
+    for j in 0..rows {
+        let of_kind = kind(s, j) as usize % 2;
+        let at = WORDS * (2 * role(s, j) as usize + of_kind) + j / WORD_ROWS;
+        masks[at] |= bit(j % WORD_ROWS);
     }
 }

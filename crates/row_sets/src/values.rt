@@ -1,15 +1,13 @@
 // What the merged row of a set needs of it: the label, and the file rows that hang from it.
 ghost use Rattle.std.specs.Prelude.{◌≡◌, false, ℕ, ◌<◌};
-ghost use Rattle.table.specs.Bounds.{max_rows};
-ghost use Rattle.table.specs.Fields.{parent_of};
-ghost use Rattle.table_rows.specs.Links.{Linked};
 ghost use Rattle.ale.specs.PictureSignature.{picture_signature};
 ghost use Rattle.ale.specs.Tree.{empty_label};
-ghost use Rattle.row_sets.specs.Rows.{Checked, Found, holds};
+ghost use Rattle.row_sets.specs.Rows.{Found, holds};
 ghost use Rattle.row_sets.specs.Labels.{Added, LabelIs, Valued};
 
 use crate::label::{Label, join};
-use crate::rows::{LINKS, RowSet, Successors};
+use crate::linked::Table;
+use crate::rows::{RowSet, Successors};
 
 // `first` is a row of the set; the number of rows if there is none.
 #[derive(Clone, Copy)]
@@ -22,7 +20,8 @@ pub struct Values {
 impl Values {
     // Of no rows.
     pub fn none(rows: usize) -> Values
-        ensures { (LabelIs result.label (empty_label picture_signature)) × ((result.first ≡ rows) × ((j : ℕ) → holds result.successors.set j ≡ false)) }
+        ensures { (LabelIs result.label (empty_label picture_signature))
+            × ((result.first ≡ rows) × ((j : ℕ) → holds result.successors.set j ≡ false)) }
     {
         Values {
             label: Label::empty(),
@@ -32,31 +31,27 @@ impl Values {
     }
 
     // With row j.
-    pub fn add(self, s: &[u8], rows: usize, links: &[u8; LINKS], j: usize) -> Values
-        requires { (Checked s.now rows) × ((Linked (parent_of s.now) rows max_rows links.now) × (j < rows)) }
-        ensures { Added s.now rows j self result }
+    pub fn add<'a>(self, table: &'a Table<'a>, j: usize) -> Values
+        requires { j < table.now.rows }
+        ensures { Added table.now.bytes.now table.now.rows j self result }
     {
-        let label = self.label;
-        let successors = self.successors;
-        let hung = successors.add(s, rows, links, j);
+        let successors = self.successors.add(table, j);
         Values {
-            label: join(s, rows, label, j),
-            successors: hung,
+            label: join(table.bytes, table.rows, self.label, j),
+            successors,
             first: j,
         }
     }
 }
 
 // Of the rows of a set.
-pub fn gather(s: &[u8], rows: usize, links: &[u8; LINKS], set: RowSet) -> Values
-    requires { (Checked s.now rows) × (Linked (parent_of s.now) rows max_rows links.now) }
-    ensures { (Found (holds set) rows result.first) × (Valued s.now rows (holds set) result) }
+pub fn gather<'a>(table: &'a Table<'a>, set: RowSet) -> Values
+    ensures first { Found (holds set) table.now.rows result.first }
+    ensures values { Valued table.now.bytes.now table.now.rows (holds set) result }
 {
-    let mut values = Values::none(rows);
-    let mut j = set.next(0, rows);
-    while j < rows {
-        values = values.add(s, rows, links, j);
-        j = set.next(j + 1, rows);
+    let mut values = Values::none(table.rows);
+    for j in set.members(table.rows) {
+        values = values.add(table, j);
     }
     values
 }

@@ -11,6 +11,7 @@ use mathlib.Core.Bool.{Bool, false, true}
 use mathlib.Core.List.{List}
 use mathlib.Core.Path.{◌∙◌, ◌≡◌, ap, subst, sym}
 use native.Mathlib.Omega.{arith}
+use Rattle.std.proofs.Common.{Ok, Result}
 use Rattle.ale.specs.Countermodel.{countermodel}
 use Rattle.ale.specs.PictureSignature.{picture_signature}
 use Rattle.ale.specs.RowMap.{image}
@@ -30,8 +31,7 @@ use Rattle.meaning.proofs.Pictures.{picture_ranked}
 use Rattle.meaning.specs.Meaning.{picture_table}
 use Rattle.meaning.specs.NormalTable.{normal_file, normal_tree_of}
 use Rattle.row_sets.specs.Rows.{Checked}
-use Rattle.picture.specs.Asked.{kept, on_asked}
-use Rattle.picture.specs.declared.answer.Asked.{Asked}
+use Rattle.picture.specs.Asked.{kept, on_asked, Asked}
 use Rattle.picture.specs.Depth.{depth}
 use Rattle.picture.specs.Readable.{Readable}
 use Rattle.table.specs.Fields.{parent_of}
@@ -46,12 +46,13 @@ use Rattle.prepare_pair.specs.declared.prepare.Pair.{Pair}
 use Rattle.subsumption.specs.Call.{verdict_answer}
 use Rattle.subsumes.specs.Tables.{Settled, evidence_in, verdict_in}
 use Rattle.subsumption.specs.Verdict.{evidence_of, evidence_size, map_of, refutation_of, verdict_of}
-use Rattle.subsumption.specs.declared.verdict.Verdict.{Verdict}
-use Rattle.subsumption.specs.declared.verdict.Verdict.TheVariants.{No, Refused, Yes}
+use Rattle.subsumption.specs.declared.verdict.Verdict.TheVariants.{No, Yes}
 use Rattle.subsumption.proofs.Writers.{individuals_few, map_size}
 use Rattle.definitions.specs.Unfolded.{unfolded_file}
 use Rattle.under.proofs.Asked.{subsumes_asked_is, subsumes_result_asked, subsumes_work_asked}
 use Rattle.under.specs.Asked.{pair_asked_under, subsumes_asked_under}
+use Rattle.subsumption.specs.declared.verdict.Verdict.{Verdict}
+use Rattle.picture.specs.declared.answer.Refusal.{Refusal}
 use Rattle.under.specs.Calls.{subsumes_result_under, subsumes_under, subsumes_work_under}
 
 -- ---- the normal tables of a pair
@@ -138,7 +139,7 @@ module _ (s t : List ℕ) (depth : ℕ) where
 -- ---- the call by its tests
 
 module _ (limits : Limits) (bounded : Bounded limits) (tbox first second work result : List ℕ) where
-  abbrev pub Gives : Verdict → List ℕ → List ℕ → Type 0
+  abbrev pub Gives : Result Verdict Refusal → List ℕ → List ℕ → Type 0
   Gives answer space buffer =
       (answer ≡ subsumes_under limits tbox first second (length work) (length result))
       × ((space ≡ subsumes_work_under limits tbox first second work (length result))
@@ -154,7 +155,7 @@ module _ (limits : Limits) (bounded : Bounded limits) (tbox first second work re
   pub prepared_call : (b : Bool) → b ≡ roomy limits (evidence_size limits) (length work) (length result) →
       (a : Asked) → pair_asked_under limits tbox b first second ≡ a → (space : List ℕ) →
       space ≡ work_under limits tbox first second b work →
-      Gives (on_asked Refused a (verdict_answer limits u v)) space (kept a (put result 0 (evidence_of limits u v)) result)
+      Gives (on_asked a (Ok (verdict_answer limits u v))) space (kept a (put result 0 (evidence_of limits u v)) result)
   prepared_call b room a is space written =
       let asks : subsumes_asked_under limits tbox first second (length work) (length result) ≡ a =
       ap (λ q. pair_asked_under limits tbox q first second) (sym room) ∙ is in (

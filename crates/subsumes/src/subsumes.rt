@@ -5,7 +5,8 @@ ghost use Rattle.table.specs.Bounds.{Bounded};
 ghost use Rattle.under.specs.Calls.{subsumes_result_under, subsumes_under, subsumes_work_under};
 
 use crate::verdict::decide;
-use prepare_pair::prepare::{Prepared, has_room, prepare};
+use picture::answer::Refusal;
+use prepare_pair::prepare::{has_room, prepare};
 use prepare_pair::tables::{first_table, second_table};
 use refutation_reader::layout::{individual_place, individuals_within};
 use subsumption::verdict::Verdict;
@@ -19,7 +20,7 @@ pub fn subsumes(
     limits: Limits,
     work: &mut [u8],
     res: &mut [u8],
-) -> Verdict
+) -> Result<Verdict, Refusal>
     requires { Bounded limits }
     ensures { (result ≡ subsumes_under limits tbox.now first.now second.now
         (length work.old) (length res.old))
@@ -30,12 +31,8 @@ pub fn subsumes(
 {
     let size = individual_place(individuals_within(limits), END_SIZE);
     let enough = has_room(limits, size, work.len(), res.len());
-    match prepare(tbox, first, second, limits, enough, work) {
-        Prepared::Tables(pair) => {
-            let low = first_table(work, pair);
-            let high = second_table(work, limits, pair);
-            decide(low, pair.first, high, pair.second, limits.depth, res)
-        }
-        Prepared::Refused(refusal) => Verdict::Refused(refusal),
-    }
+    let pair = prepare(tbox, first, second, limits, enough, work)?;
+    let low = first_table(work, pair);
+    let high = second_table(work, limits, pair);
+    Ok(decide(low, pair.first, high, pair.second, limits.depth, res))
 }

@@ -6,8 +6,8 @@ ghost use Rattle.subsumes.specs.Tables.{Settled, evidence_in, verdict_in};
 
 use homomorphism_search::search::maps;
 use map_writer::map::write_map;
-use picture::answer::Refusal;
 use refutation_writer::refute::write_refutation;
+use row_sets::linked::Table;
 use row_sets::rows::{LINKS, fill_links};
 use subsumption::verdict::Verdict;
 use table::layout::MAX_ROWS;
@@ -28,20 +28,20 @@ pub fn decide(
     fill_links(first, n, &mut links);
     let mut others = [0u8; LINKS];
     fill_links(second, m, &mut others);
+    let first = Table {
+        bytes: first,
+        rows: n,
+        links: &links,
+    };
+    let second = Table {
+        bytes: second,
+        rows: m,
+        links: &others,
+    };
     let mut found = [0u8; MAX_ROWS];
     let mut missed = [0u8; MAX_ROWS];
-    if maps(
-        first,
-        n,
-        &links,
-        second,
-        m,
-        &others,
-        depth,
-        &mut found,
-        &mut missed,
-    ) {
-        return Verdict::Yes(write_map(first, n, second, m, &found, out));
+    if maps(&first, &second, depth, &mut found, &mut missed) {
+        return Verdict::Yes(write_map(first.bytes, n, second.bytes, m, &found, out));
     }
-    Verdict::No(write_refutation(first, n, &links, second, m, &others, &missed, depth, out))
+    Verdict::No(write_refutation(&first, &second, &missed, depth, out))
 }

@@ -7,6 +7,7 @@ use Prim.Native.Nat.{ℕ}
 use lib.ListN.{replicate}
 use mathlib.Core.List.{List, [], ◌++◌, ◌∷◌}
 use mathlib.Core.Path.{◌≡◌, refl}
+use Rattle.std.proofs.Common.{Err, Ok, Result}
 use Rattle.table.specs.Bounds.{bench_limits}
 use Rattle.table.specs.Fields.{end_bytes, row_of}
 use Rattle.table.specs.Number.{be, be_bytes}
@@ -28,14 +29,15 @@ use Rattle.countermodel.specs.Writing.{individual_bytes, refutation_file}
 use Rattle.normal.specs.Call.{merged_asked}
 use Rattle.workspace.specs.Lent.{lent_asked}
 use Rattle.workspace.specs.Prepare.{pair_asked}
-use Rattle.subsumption.specs.declared.verdict.Verdict.{Verdict}
-use Rattle.subsumption.specs.declared.verdict.Verdict.TheVariants.{No, Refused, Yes}
+use Rattle.subsumption.specs.declared.verdict.Verdict.TheVariants.{No, Yes}
 use Rattle.subsumption.specs.Call.{subsumes_answer, subsumes_result, verdict_answer}
+use Rattle.subsumption.specs.declared.verdict.Verdict.{Verdict}
+use Rattle.picture.specs.declared.answer.Refusal.{Refusal}
 use Rattle.subsumption.specs.Verdict.{evidence_of, map_of, refutation_of, verdict_of}
 
 pub data Case : Type 0 where
-  told : List ℕ → List ℕ → Verdict → List ℕ → Case
-  asked : Limits → List ℕ → List ℕ → ℕ → ℕ → Verdict → Case
+  told : List ℕ → List ℕ → Result Verdict Refusal → List ℕ → Case
+  asked : Limits → List ℕ → List ℕ → ℕ → ℕ → Result Verdict Refusal → Case
   wrote : List ℕ → List ℕ → ℕ → List ℕ → Case
 
 abbrev ran : Case → Case
@@ -47,8 +49,8 @@ abbrev pub run_all : List Case → List Case
 run_all [] = []
 run_all (c ∷ cs) = ran c ∷ run_all cs
 
-abbrev refused : ℕ → Input → Verdict
-refused q input = Refused (refusal q input)
+abbrev refused : ℕ → Input → Result Verdict Refusal
+refused q input = Err (refusal q input)
 
 -- ---- pictures
 
@@ -124,47 +126,47 @@ also others = individual 0 0 0 ++ (others ++ end)
 abbrev pub cases : List Case
 cases =
     -- K7, K8
-    told some_both some_each (Yes 12) (map3 1 1)
-    ∷ told some_each some_both (No 45) (also (individual 0 8 8 ++ individual 0 8 32))
-    ∷ told none_reached (all_of 32) (Yes 10) (map2 1)
-    ∷ told none_reached some_reached (No 17) alone
+    told some_both some_each (Ok (Yes 12)) (map3 1 1)
+    ∷ told some_each some_both (Ok (No 45)) (also (individual 0 8 8 ++ individual 0 8 32))
+    ∷ told none_reached (all_of 32) (Ok (Yes 10)) (map2 1)
+    ∷ told none_reached some_reached (Ok (No 17)) alone
     -- every picture is covered by the empty one, and an impossible one by every picture
-    ∷ told some_both empty (Yes 8) map1
-    ∷ told impossible impossible (Yes 8) map1
+    ∷ told some_both empty (Ok (Yes 8)) map1
+    ∷ told impossible impossible (Ok (Yes 8)) map1
     -- the lowest row each time; by its names, and by what is below it, a higher one
-    ∷ told (two 2 6) (two 2 4) (Yes 12) (map3 1 2)
-    ∷ told (two 2 2) (one 2) (Yes 10) (map2 1)
-    ∷ told (two 4 2) (one 2) (Yes 10) (map2 2)
-    ∷ told (two_below 2 4) (below 4) (Yes 12) (map3 3 4)
+    ∷ told (two 2 6) (two 2 4) (Ok (Yes 12)) (map3 1 2)
+    ∷ told (two 2 2) (one 2) (Ok (Yes 10)) (map2 1)
+    ∷ told (two 4 2) (one 2) (Ok (Yes 10)) (map2 2)
+    ∷ told (two_below 2 4) (below 4) (Ok (Yes 12)) (map3 3 4)
     -- below a marked image the same one
-    ∷ told impossible (below 2) (Yes 12) (map3 0 0)
-    ∷ told none_reached all_some (Yes 12) (map3 1 1)
+    ∷ told impossible (below 2) (Ok (Yes 12)) (map3 0 0)
+    ∷ told none_reached all_some (Ok (Yes 12)) (map3 1 1)
     -- a name wanted, excluded; the mark. Of an individual that has an excluded name all wanted ones hold, and none that
     -- the first excludes
-    ∷ told empty (wanting 32) (No 17) alone
-    ∷ told (wanting 8) (wanting 40) (No 17) (individual 0 0 8 ++ end)
-    ∷ told empty (excluding 32) (No 17) (individual 0 0 32 ++ end)
-    ∷ told (wanting 8) (excluding 32) (No 17) (individual 0 0 40 ++ end)
-    ∷ told (excluding 8) (excluding 40) (No 17) (individual 0 0 32 ++ end)
-    ∷ told empty excluding_last (No 17) last
-    ∷ told empty impossible (No 17) alone
+    ∷ told empty (wanting 32) (Ok (No 17)) alone
+    ∷ told (wanting 8) (wanting 40) (Ok (No 17)) (individual 0 0 8 ++ end)
+    ∷ told empty (excluding 32) (Ok (No 17)) (individual 0 0 32 ++ end)
+    ∷ told (wanting 8) (excluding 32) (Ok (No 17)) (individual 0 0 40 ++ end)
+    ∷ told (excluding 8) (excluding 40) (Ok (No 17)) (individual 0 0 32 ++ end)
+    ∷ told empty excluding_last (Ok (No 17)) last
+    ∷ told empty impossible (Ok (No 17)) alone
     -- some: nobody, or not the one wanted, two levels down; what else the first asks is there
-    ∷ told empty some_reached (No 17) alone
-    ∷ told (below 8) (below 32) (No 45) (also (individual 0 8 0 ++ individual 1 9 8))
-    ∷ told (root 0 ++ (some_row 0 8 8 ++ (some_row 0 9 2 ++ end))) (one 32) (No 45) (also (individual 0 8 8 ++ individual 0 9 2))
+    ∷ told empty some_reached (Ok (No 17)) alone
+    ∷ told (below 8) (below 32) (Ok (No 45)) (also (individual 0 8 0 ++ individual 1 9 8))
+    ∷ told (root 0 ++ (some_row 0 8 8 ++ (some_row 0 9 2 ++ end))) (one 32) (Ok (No 45)) (also (individual 0 8 8 ++ individual 0 9 2))
     -- all: one more individual, of whom only that is so that the first says of all; what else the first asks comes after it
-    ∷ told empty (all_of 32) (No 31) (also (individual 0 8 0))
-    ∷ told empty (all_excluding 32) (No 31) (also (individual 0 8 32))
-    ∷ told (all_of 8) (all_of 40) (No 31) (also (individual 0 8 8))
-    ∷ told (root 0 ++ (some_row 0 9 2 ++ end)) (all_of 32) (No 45) (also (individual 0 8 0 ++ individual 0 9 2))
-    ∷ told empty none_reached (No 31) (also (individual 0 8 0))
+    ∷ told empty (all_of 32) (Ok (No 31)) (also (individual 0 8 0))
+    ∷ told empty (all_excluding 32) (Ok (No 31)) (also (individual 0 8 32))
+    ∷ told (all_of 8) (all_of 40) (Ok (No 31)) (also (individual 0 8 8))
+    ∷ told (root 0 ++ (some_row 0 9 2 ++ end)) (all_of 32) (Ok (No 45)) (also (individual 0 8 0 ++ individual 0 9 2))
+    ∷ told empty none_reached (Ok (No 31)) (also (individual 0 8 0))
     -- 1, whichever buffer is short; before the questions about the pictures; longer ones are as good
-    ∷ asked bench_limits empty empty 12294 46595 (Yes 8)
+    ∷ asked bench_limits empty empty 12294 46595 (Ok (Yes 8))
     ∷ asked bench_limits empty empty 12293 46595 (refused 1 Buffer)
     ∷ asked bench_limits empty empty 12294 46594 (refused 1 Buffer)
     ∷ asked bench_limits empty empty 12293 46594 (refused 1 Buffer)
     ∷ asked bench_limits empty empty 46595 12294 (refused 1 Buffer)
-    ∷ asked bench_limits empty empty 12295 46596 (Yes 8)
+    ∷ asked bench_limits empty empty 12295 46596 (Ok (Yes 8))
     ∷ asked bench_limits bad_tag bad_length 12293 46595 (refused 1 Buffer)
     -- first, second
     ∷ asked bench_limits bad_tag bad_length 12294 46595 (refused 3 First)
@@ -172,15 +174,15 @@ cases =
     ∷ asked bench_limits bad_tag empty 12294 46595 (refused 3 First)
     ∷ asked bench_limits empty bad_length 12294 46595 (refused 4 Second)
     -- with the row and the byte of the one that is refused
-    ∷ asked bench_limits (root 0 ++ bad_length) (root 0 ++ (some_row 0 8 0 ++ bad_tag)) 12294 46595 (Refused (refusal_at 4 First 1))
-    ∷ asked bench_limits (one 2) (root 0 ++ (some_row 0 8 0 ++ bad_tag)) 12294 46595 (Refused (refusal_at 3 Second 2))
+    ∷ asked bench_limits (root 0 ++ bad_length) (root 0 ++ (some_row 0 8 0 ++ bad_tag)) 12294 46595 (Err (refusal_at 4 First 1))
+    ∷ asked bench_limits (one 2) (root 0 ++ (some_row 0 8 0 ++ bad_tag)) 12294 46595 (Err (refusal_at 3 Second 2))
     -- 14 of the first, 14 of the second, after both are read
     ∷ asked four_rows grows bad_tag 198 171 (refused 3 Second)
     ∷ asked four_rows bad_tag grows 198 171 (refused 3 First)
     ∷ asked four_rows grows empty 198 171 (refused 14 First)
     ∷ asked four_rows empty grows 198 171 (refused 14 Second)
     ∷ asked four_rows grows grows 198 171 (refused 14 First)
-    ∷ asked four_rows empty (below 2) 198 171 (No 17)
+    ∷ asked four_rows empty (below 2) 198 171 (Ok (No 17))
     -- the result buffer: the evidence, and after it what was there; nothing written where the call refuses
     ∷ wrote empty empty 19 (map1 ++ (255 ∷ 255 ∷ 255 ∷ 255 ∷ 255 ∷ 255 ∷ 255 ∷ 255 ∷ 255 ∷ 255 ∷ 255 ∷ []))
     ∷ wrote empty (wanting 32) 19 (alone ++ (255 ∷ 255 ∷ []))

@@ -4,15 +4,15 @@
 --   subsumes_answer    that, after these
 --   subsumes_work      the work space: both tables where all is answered yes; else nothing written
 --   subsumes_result    the result buffer: the evidence from its first byte on, then; else nothing written
-use Rattle.std.specs.Prelude.{ℕ, length, List}
+use Rattle.std.specs.Prelude.{ℕ, length, List, Ok, Result}
 use Rattle.table.specs.Pick.{pick}
 use Rattle.table.specs.Put.{put}
 use Rattle.table.specs.declared.layout.Limits.{Limits}
-use Rattle.picture.specs.Asked.{kept, on_asked}
-use Rattle.picture.specs.declared.answer.Asked.{Asked}
+use Rattle.picture.specs.Asked.{kept, on_asked, Asked}
 use Rattle.workspace.specs.Lent.{lent_asked, pair_work, roomy}
+use Rattle.subsumption.specs.declared.verdict.Verdict.TheVariants.{No, Yes}
 use Rattle.subsumption.specs.declared.verdict.Verdict.{Verdict}
-use Rattle.subsumption.specs.declared.verdict.Verdict.TheVariants.{No, Refused, Yes}
+use Rattle.picture.specs.declared.answer.Refusal.{Refusal}
 use Rattle.subsumption.specs.Verdict.{evidence_of, evidence_size, verdict_of}
 
 abbrev pub subsumes_asked : Limits → List ℕ → List ℕ → ℕ → ℕ → Asked
@@ -23,9 +23,9 @@ unfoldable pub verdict_answer : Limits → List ℕ → List ℕ → Verdict
 verdict_answer limits first second =
     pick (verdict_of limits first second) (Yes (length (evidence_of limits first second))) (No (length (evidence_of limits first second)))
 
-unfoldable pub subsumes_answer : Limits → List ℕ → List ℕ → ℕ → ℕ → Verdict
+unfoldable pub subsumes_answer : Limits → List ℕ → List ℕ → ℕ → ℕ → Result Verdict Refusal
 subsumes_answer limits first second work result =
-    on_asked Refused (subsumes_asked limits first second work result) (verdict_answer limits first second)
+    on_asked (subsumes_asked limits first second work result) (Ok (verdict_answer limits first second))
 
 abbrev pub subsumes_work : Limits → List ℕ → List ℕ → List ℕ → ℕ → List ℕ
 subsumes_work limits first second work result =

@@ -1,10 +1,8 @@
-// The answer of the third call. Its definition is in specs/Verdict and specs/Call, the code in subsumes.
-use picture::answer::Refusal;
+// The verdict of the third call. Its definition is in specs/Verdict and specs/Call, the code in subsumes.
 
 // Yes or no, with the length of the evidence.
-#[derive(Clone, Copy)]
+#[derive(Clone, Copy, PartialEq, Eq, Debug)]
 pub enum Verdict {
     Yes(usize),
     No(usize),
-    Refused(Refusal),
 }

@@ -1,7 +1,7 @@
 -- The limits of the profiles: the paper's numbers, and such as the code can hold.
 --   clip_agrees                     the clip reader's limits and picture size
---   profile-bench, profile-clip, profile_none   which limits a number names
---   profile_bounded                 they are within the bounds
+--   profile_none                    no other number names limits
+--   profile_bounded                 the limits that a number names are within the bounds
 use Prim.Native.Nat.{ℕ, ◌≤◌}
 use native.Mathlib.Omega.{arith}
 use borrow.Author.Tests.{ne_eqb}
@@ -9,13 +9,13 @@ use lib.Dec.{eqb}
 use mathlib.Core.Path.{◌≡◌, refl}
 use Rattle.table.specs.Bounds.{clip_limits, picture_size}
 use Rattle.table.specs.Profiles.{BoundedAt, profile_of}
-use Rattle.table.specs.declared.layout.Profile.TheVariants.{Unknown}
+use Rattle.std.specs.Prelude.{None}
 use Rattle.table.proofs.Bools.{by_test}
 
 pub clip_agrees : picture_size clip_limits ≡ 1539
 clip_agrees = refl
 
-pub profile_none : (n : ℕ) → 2 ≤ n → profile_of n ≡ Unknown
+pub profile_none : (n : ℕ) → 2 ≤ n → profile_of n ≡ None
 profile_none n h = rw (ne_eqb n 0 (λ z. omega arith), ne_eqb n 1 (λ z. omega arith))
 
 pub profile_bounded : (n : ℕ) → BoundedAt (profile_of n)

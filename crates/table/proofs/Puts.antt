@@ -1,26 +1,26 @@
 -- Laws of `put` and of `zeros`.
---   put_paste                       what a copying loop makes is a `put`
+--   written_put                     what a write to a part of a slice leaves is a `put`
 --   put_nil                         nothing put changes nothing
 --   put_start                       a run put at the start, and what stood after it
 --   length_put                      the length stays
 --   put_put, put_three              runs put one after the other
 --   put_before, put_in, put_after   what stands before the run, in it and after it
 --   length_zeros, get_d_zeros        a run of zeros: its length, and that it has only zeros
---   clear_start, clear_step,
---   clear_end                       what a clearing loop makes: before its first turn, by each, and when it is done
 use mathlib.Core.Path.{◌≡◌, refl, ap, sym, ◌∙◌}
 use mathlib.Core.List.{List, [], ◌++◌, append_assoc, append-nil}
-use Prim.Native.Nat.{ℕ, zero, suc, ◌+◌, ◌-◌, ◌≤◌, ◌<◌}
+use Prim.Native.Nat.{ℕ, zero, suc, ◌+◌, ◌≤◌, ◌<◌}
 use native.Mathlib.Nat.{add_assoc, add-zero}
 use native.Mathlib.Omega.{arith}
-use lib.ListN.{length, take, drop, set, get_or, length-append, take-append-drop, length-replicate, get_or-append}
-use lib.Seq.{paste, paste-zero, paste-suc, length-paste, drop-append-add, drop-drop, take_at, take-length, length-take-le, get_or-take, get_or-drop, get_or-append-add}
+use borrow.Rule.Slice.PartMut.{put_mid}
+use lib.ListN.{length, take, drop, get_or, length-append, length-take, length-drop, take-append-drop, length-replicate, get_or-append}
+use lib.Seq.{drop-append-add, drop-drop, take_at, take-length, length-take-le, get_or-take, get_or-drop, get_or-append-add}
+use Rattle.std.proofs.lemmas.Slice.{put_mid-paste}
 use Rattle.table.specs.Put.{put, zeros}
 
--- what a copying loop makes, when it is done
-pub put_paste : (d : List ℕ) (at : ℕ) (s : List ℕ) → paste d at s (length s) ≡ put d at s
+-- the part of d that is k long, from `at` on, now has the bytes of s
+pub written_put : (d : List ℕ) (at k : ℕ) (s part : List ℕ) → part ≡ s → length s ≡ k → put_mid at k d part ≡ put d at s
 unfolding put
-put_paste d at s = rw take-length
+written_put d at k s part e l = put_mid-paste at k d part s (length s) e l refl ∙ rw take-length
 
 pub put_nil : (d : List ℕ) (at : ℕ) → put d at [] ≡ d
 unfolding put
@@ -31,7 +31,8 @@ unfolding put
 put_start d s = let e : 0 + length s ≡ length s = omega arith in ap (λ (k : ℕ). s ++ drop k d) e
 
 pub length_put : (d : List ℕ) (at : ℕ) (s : List ℕ) → at + length s ≤ length d → length (put d at s) ≡ length d
-length_put d at s h = ap length (sym (put_paste d at s)) ∙ length-paste d at s (length s) h (omega arith)
+unfolding put
+length_put d at s h = simp (length-append, length-take, length-drop) (omega arith)
 
 -- a run put after a run is their join put
 pub put_put : (d : List ℕ) (at : ℕ) (s t : List ℕ) → at + length s ≤ length d → put (put d at s) (at + length s) t ≡ put d at (s ++ t)
@@ -81,26 +82,3 @@ unfolding zeros
 get_d_zeros zero i = refl
 get_d_zeros (suc n) zero = refl
 get_d_zeros (suc n) (suc i) = get_d_zeros n i
-
-module _ (d : List ℕ) (from to : ℕ) where
-  pub clear_start : d ≡ paste d from (zeros (to - from)) (from - from)
-  clear_start =
-      let none : 0 ≡ from - from = omega arith in
-      paste-zero d from (zeros (to - from)) ∙ ap (λ (i : ℕ). paste d from (zeros (to - from)) i) none
-
-  pub clear_step : (j : ℕ) → from ≤ j → j < to → to ≤ length d → set (paste d from (zeros (to - from)) (j - from)) j 0 ≡ paste d from (zeros (to - from)) (j + 1 - from)
-  clear_step j a b h =
-      let z : List ℕ = zeros (to - from) in
-      let k : ℕ = j - from in
-      let at : j ≡ from + k = omega arith in
-      let next : suc k ≡ j + 1 - from = omega arith in
-      ap (λ (i : ℕ). set (paste d from z k) i 0) at
-      ∙ ap (λ (v : ℕ). set (paste d from z k) (from + k) v) (sym (get_d_zeros (to - from) k))
-      ∙ paste-suc d from z k 0 (omega arith) (omega (arith, length_zeros (to - from)))
-      ∙ ap (λ (i : ℕ). paste d from z i) next
-
-  pub clear_end : (j : ℕ) → j ≡ to → paste d from (zeros (to - from)) (j - from) ≡ put d from (zeros (to - from))
-  clear_end j e =
-      let z : List ℕ = zeros (to - from) in
-      let k : j - from ≡ length z = omega (arith, length_zeros (to - from)) in
-      ap (λ (i : ℕ). paste d from z i) k ∙ put_paste d from z

@@ -4,12 +4,14 @@
 --   some_at, at_some                 a search succeeds exactly when f holds of a number of the range
 --   each_at, at_each                 a test of all succeeds exactly when f holds of every number of the range
 --   some_same, each_same             functions that agree on the range give the same
-use mathlib.Core.Path.{◌≡◌, refl, ◌∙◌}
+--   each_listed                      a test of all numbers of the range, listed
+use mathlib.Core.Path.{◌≡◌, refl, ap, ◌∙◌}
 use mathlib.Core.Bool.{Bool, true, false, ◌&&◌, false≢true, or-true}
 use mathlib.Core.Logic.{⊎_elim}
 use Prim.Native.Nat.{ℕ, zero, suc, ◌+◌, ◌-◌, ◌≤◌, ◌<◌}
 use native.Mathlib.Nat.{eq-or-lt_of_le}
 use native.Mathlib.Omega.{arith}
+use Rattle.std.specs.List.{list_all, range_with_len}
 use Rattle.table.specs.Range.{some, each}
 use Rattle.table.proofs.Bools.{either, both}
 
@@ -82,3 +84,9 @@ unfolding each
 each_same f g zero j h = refl
 each_same f g (suc n) j h =
     rw (h j (omega arith) (omega arith), each_same f g n (j + 1) (λ k l u. h k (omega arith) (omega arith)))
+
+-- what `all` over a range decides
+pub each_listed : (f : ℕ → Bool) (n j : ℕ) → list_all f (range_with_len j n) ≡ each f n j
+unfolding each
+each_listed f zero j = refl
+each_listed f (suc n) j = ap (λ (b : Bool). f j && b) (each_listed f n (j + 1))

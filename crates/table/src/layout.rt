@@ -64,7 +64,7 @@ pub const CLIP_ROWS: usize = 64;
 pub const CLIP_DEPTH: usize = 6;
 
 // How many rows a picture may have, and how many edges from the root.
-#[derive(Clone, Copy)]
+#[derive(Clone, Copy, PartialEq, Eq, Debug)]
 pub struct Limits {
     pub rows: usize,
     pub depth: usize,
@@ -82,27 +82,17 @@ impl Limits {
     }
 }
 
-// What a caller's profile number names.
-#[derive(Clone, Copy)]
-pub enum Profile {
-    Known(Limits),
-    Unknown,
-}
-
-// The limits of a profile: 0 is the bench tool, 1 the clip reader.
-pub fn limits_of(profile: u32) -> Profile
+// The limits of a profile: 0 is the bench tool, 1 the clip reader, and no other number names one.
+pub fn limits_of(profile: u32) -> Option<Limits>
     ensures { result ≡ profile_of profile }
 {
     match profile {
-        0 => Profile::Known(Limits {
-            rows: MAX_ROWS,
-            depth: MAX_DEPTH,
-        }),
-        1 => Profile::Known(Limits {
+        0 => Some(Limits::bench()),
+        1 => Some(Limits {
             rows: CLIP_ROWS,
             depth: CLIP_DEPTH,
         }),
-        2..=0xFFFF_FFFF => Profile::Unknown,
+        _ => None,
     }
 }
 

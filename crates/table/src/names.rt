@@ -9,7 +9,7 @@ ghost use Rattle.table.specs.NameValues.{set_of, overlap};
 use crate::layout::NAME_BYTES;
 use crate::number::{copy_in, load64};
 
-#[derive(Clone, Copy)]
+#[derive(Clone, Copy, PartialEq, Eq, Debug)]
 pub struct Names {
     word: u64,
 }
@@ -32,20 +32,11 @@ impl Names {
     }
 
     // Its bytes, as they stand in a table.
+    #[tactic(auto, unfolding(crate::specs::Number::be_bytes))]
     pub fn bytes(self) -> [u8; NAME_BYTES]
         ensures { result ≡ be_bytes name_bytes (set_of self) }
     {
-        let w = self.word;
-        [
-            (w / 72057594037927936 % 256) as u8,
-            (w / 281474976710656 % 256) as u8,
-            (w / 1099511627776 % 256) as u8,
-            (w / 4294967296 % 256) as u8,
-            (w / 16777216 % 256) as u8,
-            (w / 65536 % 256) as u8,
-            (w / 256 % 256) as u8,
-            (w % 256) as u8,
-        ]
+        self.word.to_be_bytes()
     }
 
     // Writes the set at a place of out.
@@ -53,8 +44,7 @@ impl Names {
         requires { at + name_bytes ≤ length out.old }
         ensures { out.new ≡ put out.old at (be_bytes name_bytes (set_of self)) }
     {
-        let bytes = self.bytes();
-        copy_in(out, at, &bytes);
+        copy_in(out, at, &self.bytes());
     }
 
     pub fn is_none(self) -> bool
@@ -88,13 +78,13 @@ impl Names {
     pub fn subset(self, other: Names) -> bool
         ensures { result ≡ subset (set_of self) (set_of other) }
     {
-        self.word & other.word == self.word
+        self.intersection(other) == self
     }
 
     pub fn overlaps(self, other: Names) -> bool
         ensures { result ≡ overlap (set_of self) (set_of other) }
     {
-        self.word & other.word != 0
+        !self.intersection(other).is_none()
     }
 
     // The set of one name.

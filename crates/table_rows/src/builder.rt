@@ -8,7 +8,7 @@ ghost use Rattle.table_rows.specs.Rows.{row_bytes};
 
 use crate::row::write_end;
 use table::layout::{END_SIZE, EXCLUDED_AT, ROW_LENGTH, ROW_TAG, WANTED_AT, place};
-use table::number::copy_in;
+use table::number::{copy_in, number_bytes};
 use table::row::Row;
 
 #[derive(Clone, Copy)]
@@ -29,21 +29,21 @@ impl Builder {
         ensures { (result.rows ≡ self.rows + 1) × (out.new ≡ put out.old («place» self.rows 0) (row_bytes row)) }
     {
         let rows = self.rows;
+        let length = number_bytes(ROW_LENGTH);
+        let parent = number_bytes(row.parent);
         let head = [
             ROW_TAG,
-            (ROW_LENGTH / 256) as u8,
-            (ROW_LENGTH % 256) as u8,
-            (row.parent / 256 % 256) as u8,
-            (row.parent % 256) as u8,
+            length[0],
+            length[1],
+            parent[0],
+            parent[1],
             row.kind,
             row.role,
             row.impossible,
         ];
         copy_in(out, place(rows, 0), &head);
-        let wanted = row.wanted;
-        wanted.store(out, place(rows, WANTED_AT));
-        let excluded = row.excluded;
-        excluded.store(out, place(rows, EXCLUDED_AT));
+        row.wanted.store(out, place(rows, WANTED_AT));
+        row.excluded.store(out, place(rows, EXCLUDED_AT));
         Builder { rows: rows + 1 }
     }
 

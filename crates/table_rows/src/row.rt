@@ -1,5 +1,4 @@
 // The fields of a row, read by the row's number.
-
 ghost use Rattle.std.specs.Prelude.{◌≡◌, ℕ, ◌+◌, ◌^◌, ◌≤◌, ◌<◌, length, get_or};
 ghost use Rattle.table.specs.Layout.{«place», number_size, name_bytes, name_count, head_size, row_size, end_size};
 ghost use Rattle.table.specs.Number.{be};
@@ -14,7 +13,7 @@ use table::layout::{
     ROLE_AT, WANTED_AT, place,
 };
 use table::names::Names;
-use table::number::{copy_in, load16};
+use table::number::{copy_in, load16, number_bytes};
 
 // One byte, a number of two bytes and a set of names at an offset of a row.
 fn byte(s: &[u8], row: usize, offset: usize) -> u8
@@ -54,6 +53,7 @@ pub fn said_length(s: &[u8], row: usize) -> usize
 }
 
 // Whether the end field stands at a place of a file that stops there.
+#[tactic(auto, unfolding(table::specs::Fields::ends_at))]
 pub fn ends_at(s: &[u8], at: usize) -> bool
     ensures { result ≡ ends_at s.now at }
 {
@@ -71,12 +71,13 @@ pub fn ends_at(s: &[u8], at: usize) -> bool
 }
 
 // Writes the end field at a place.
+#[tactic(auto, unfolding(table::specs::Fields::end_bytes, table::specs::Number::be_bytes))]
 pub fn write_end(out: &mut [u8], at: usize)
     requires { at + end_size ≤ length out.old }
     ensures { out.new ≡ put out.old at end_bytes }
 {
-    let end = [END_TAG, (END_LENGTH / 256) as u8, (END_LENGTH % 256) as u8];
-    copy_in(out, at, &end);
+    let length = number_bytes(END_LENGTH);
+    copy_in(out, at, &[END_TAG, length[0], length[1]]);
 }
 
 // The value of a row.

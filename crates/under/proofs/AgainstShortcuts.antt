@@ -9,6 +9,7 @@ use Prim.Native.Nat.{ℕ, ◌-◌}
 use lib.ListN.{length, replicate}
 use mathlib.Core.List.{List, [], ◌++◌, ◌∷◌}
 use mathlib.Core.Path.{◌≡◌, refl}
+use Rattle.std.proofs.Common.{Err, Ok, Result}
 use Rattle.table.specs.Bounds.{picture_size}
 use Rattle.table.specs.Fields.{end_bytes, ends_at, row_of}
 use Rattle.table.specs.NameSet.{has, set_below}
@@ -29,8 +30,6 @@ use Rattle.meaning.specs.Covering.{covers}
 use Rattle.meaning.specs.NormalTable.{merged_count, merged_tree, normal_file, normal_tree_of}
 use Rattle.normal.specs.Call.{merged_asked, normalize_answer, normalize_result, one_asked}
 use Rattle.normal.specs.Half.{half_of}
-use Rattle.normal.specs.declared.normalize.Normalized.{Normalized}
-use Rattle.normal.specs.declared.normalize.Normalized.TheVariants as normalized
 use Rattle.homomorphism.specs.Map.{lowest_map, map_file}
 use Rattle.countermodel.specs.Individual.{individual_head, individual_ok, refutation_form}
 use Rattle.countermodel.specs.Layout.{individual_count}
@@ -41,21 +40,15 @@ use Rattle.evidence.specs.Call.{evidence_asked, verify_answer}
 use Rattle.evidence.specs.Check.{check_asked, refutation_asked}
 use Rattle.evidence.specs.Form.{map_form}
 use Rattle.evidence.specs.Map.{map_asked, row_asked}
-use Rattle.evidence.specs.declared.check.Verified.{Verified}
-use Rattle.evidence.specs.declared.check.Verified.TheVariants as verified
+use Rattle.evidence.specs.declared.check.Taken.TheVariants as taken
 use Rattle.subsumption.specs.Call.{subsumes_answer, verdict_answer}
 use Rattle.subsumption.specs.Verdict.{evidence_of, evidence_size, map_of, refutation_of, verdict_of}
-use Rattle.subsumption.specs.declared.verdict.Verdict.{Verdict}
 use Rattle.subsumption.specs.declared.verdict.Verdict.TheVariants as verdict
 use Rattle.lcs.specs.Call.{lcs_answer}
 use Rattle.lcs.specs.Product.{lcs_count, lcs_file, lcs_tree}
-use Rattle.lcs.specs.declared.common.Common.{Common}
-use Rattle.lcs.specs.declared.common.Common.TheVariants as common
 use Rattle.book.specs.Call.{book_asked, most_specific_answer}
 use Rattle.book.specs.Form.{book_bytes}
 use Rattle.book.specs.Selection.{most_specific, most_specific_cards}
-use Rattle.book.specs.declared.answer.Selected.{Selected}
-use Rattle.book.specs.declared.answer.Selected.TheVariants as selected
 use Rattle.definitions.proofs.CasesDefinitions.{define}
 use Rattle.definitions.specs.Asked.{asked_of, definitions_asked}
 use Rattle.definitions.specs.Form.{definition_file, definitions_form}
@@ -63,14 +56,17 @@ use Rattle.definitions.specs.Tbox.{defined_word}
 use Rattle.definitions.specs.Unfolded.{excludes_none, named_once, unfolded_count, unfolded_few, unfolded_file, unfolded_shallow}
 use Rattle.under.specs.Book.{book_before, most_specific_under, most_specific_work_under, unfolded_book}
 use Rattle.under.specs.Calls.{lcs_result_under, lcs_under, lcs_work_under, normalize_result_under, normalize_under, subsumes_result_under, subsumes_under, subsumes_work_under, verify_under, verify_work_under}
+use Rattle.subsumption.specs.declared.verdict.Verdict.{Verdict}
+use Rattle.evidence.specs.declared.check.Taken.{Taken}
+use Rattle.picture.specs.declared.answer.Refusal.{Refusal}
 use Rattle.under.specs.Given.{lent_under, under_asked}
 
 pub data Case : Type 0 where
-  table : List ℕ → List ℕ → Normalized → Case
-  told : List ℕ → List ℕ → List ℕ → Verdict → Case
-  product : List ℕ → List ℕ → List ℕ → Common → Case
-  check : List ℕ → List ℕ → List ℕ → List ℕ → Verified → Case
-  nearest : List ℕ → List ℕ → List ℕ → Selected → Case
+  table : List ℕ → List ℕ → Result ℕ Refusal → Case
+  told : List ℕ → List ℕ → List ℕ → Result Verdict Refusal → Case
+  product : List ℕ → List ℕ → List ℕ → Result ℕ Refusal → Case
+  check : List ℕ → List ℕ → List ℕ → List ℕ → Result Taken Refusal → Case
+  nearest : List ℕ → List ℕ → List ℕ → Result ℕ Refusal → Case
 
 abbrev work : ℕ
 work = work_size four_rows
@@ -127,44 +123,44 @@ alone names = 0x42 ∷ 0 ∷ 11 ∷ 0 ∷ 0 ∷ 0 ∷ 0 ∷ 0 ∷ 0 ∷ 0 ∷ 0 
 abbrev pub cases : List Case
 cases =
     -- both pictures are unfolded
-    told three_some (wants 8) some_r (verdict.Yes 10)
-    ∷ told three_some some_r (wants 8) (verdict.Yes 10)
-    ∷ told end (wants 8) some_r (verdict.No 17)
+    told three_some (wants 8) some_r (Ok (verdict.Yes 10))
+    ∷ told three_some some_r (wants 8) (Ok (verdict.Yes 10))
+    ∷ told end (wants 8) some_r (Ok (verdict.No 17))
     -- 2 to 13 of both, before 25
-    ∷ told no_name bad_tag [] (verdict.Refused (refusal_at 3 First 0))
-    ∷ told no_name empty bad_tag (verdict.Refused (refusal_at 3 Second 0))
-    ∷ told no_name grows grows (verdict.Refused (refusal 25 Definitions))
+    ∷ told no_name bad_tag [] (Err (refusal_at 3 First 0))
+    ∷ told no_name empty bad_tag (Err (refusal_at 3 Second 0))
+    ∷ told no_name grows grows (Err (refusal 25 Definitions))
     -- 27 of both, before 14
-    ∷ told three_some empty not_three (verdict.Refused (refusal 27 Second))
+    ∷ told three_some empty not_three (Err (refusal 27 Second))
     -- 14, of the unfolded pictures
-    ∷ told end grows grows (verdict.Yes 10)
-    ∷ told three_all grows empty (verdict.Refused (too_many First))
-    ∷ told three_all empty grows (verdict.Refused (too_many Second))
-    ∷ table three_some (wants 8) (normalized.Length 51)
-    ∷ table three_all grows (normalized.Refused (too_many First))
-    ∷ table no_name bad_tag (normalized.Refused (refusal_at 3 First 0))
-    ∷ table no_name empty (normalized.Refused (refusal 25 Definitions))
-    ∷ product three_some (wants 8) some_r (common.Length 51)
-    ∷ product three_some some_r (wants 8) (common.Length 51)
-    ∷ product three_all empty grows (common.Refused (too_many Second))
+    ∷ told end grows grows (Ok (verdict.Yes 10))
+    ∷ told three_all grows empty (Err (too_many First))
+    ∷ told three_all empty grows (Err (too_many Second))
+    ∷ table three_some (wants 8) (Ok 51)
+    ∷ table three_all grows (Err (too_many First))
+    ∷ table no_name bad_tag (Err (refusal_at 3 First 0))
+    ∷ table no_name empty (Err (refusal 25 Definitions))
+    ∷ product three_some (wants 8) some_r (Ok 51)
+    ∷ product three_some some_r (wants 8) (Ok 51)
+    ∷ product three_all empty grows (Err (too_many Second))
     -- the rows of a map are those of the unfolded pictures; what an individual has of defined names is ignored
-    ∷ check three_some (wants 8) (wants 8) two_images verified.MapTaken
-    ∷ check three_some empty (wants 8) (alone 0) verified.RefutationTaken
-    ∷ check three_some empty (wants 8) (alone 8) verified.RefutationTaken
-    ∷ check three_all empty grows [] (verified.Refused (too_many Second))
+    ∷ check three_some (wants 8) (wants 8) two_images (Ok taken.Map)
+    ∷ check three_some empty (wants 8) (alone 0) (Ok taken.Refutation)
+    ∷ check three_some empty (wants 8) (alone 8) (Ok taken.Refutation)
+    ∷ check three_all empty grows [] (Err (too_many Second))
     -- the case and the cards are unfolded: here the two cards cover each other
-    ∷ nearest three_some (wants 8) (book_bytes (wants 8 ∷ some_r ∷ [])) (selected.Cards 3)
-    ∷ nearest three_some some_r (book_bytes (wants 8 ∷ empty ∷ [])) (selected.Cards 1)
-    ∷ nearest end (wants 8) (book_bytes (wants 8 ∷ some_r ∷ [])) (selected.Cards 1)
+    ∷ nearest three_some (wants 8) (book_bytes (wants 8 ∷ some_r ∷ [])) (Ok 3)
+    ∷ nearest three_some some_r (book_bytes (wants 8 ∷ empty ∷ [])) (Ok 1)
+    ∷ nearest end (wants 8) (book_bytes (wants 8 ∷ some_r ∷ [])) (Ok 1)
     -- the case, 24 and the cards, before 25; 27 of the cards; 14 of the unfolded ones
-    ∷ nearest no_name bad_tag [] (selected.Refused (refusal_at 3 First 0))
-    ∷ nearest no_name empty [] (selected.Refused (refusal 24 Book))
-    ∷ nearest no_name empty (book_bytes (empty ∷ bad_tag ∷ [])) (selected.Refused (refusal_at 3 (Card 1) 0))
-    ∷ nearest no_name empty (book_bytes (empty ∷ grows ∷ [])) (selected.Refused (refusal 25 Definitions))
+    ∷ nearest no_name bad_tag [] (Err (refusal_at 3 First 0))
+    ∷ nearest no_name empty [] (Err (refusal 24 Book))
+    ∷ nearest no_name empty (book_bytes (empty ∷ bad_tag ∷ [])) (Err (refusal_at 3 (Card 1) 0))
+    ∷ nearest no_name empty (book_bytes (empty ∷ grows ∷ [])) (Err (refusal 25 Definitions))
     -- 27 of the case before the cards
-    ∷ nearest three_some not_three (book_bytes (not_three ∷ [])) (selected.Refused (refusal 27 First))
-    ∷ nearest three_some empty (book_bytes (empty ∷ not_three ∷ [])) (selected.Refused (refusal 27 (Card 1)))
-    ∷ nearest three_all empty (book_bytes (empty ∷ grows ∷ [])) (selected.Refused (too_many (Card 1)))
+    ∷ nearest three_some not_three (book_bytes (not_three ∷ [])) (Err (refusal 27 First))
+    ∷ nearest three_some empty (book_bytes (empty ∷ not_three ∷ [])) (Err (refusal 27 (Card 1)))
+    ∷ nearest three_all empty (book_bytes (empty ∷ grows ∷ [])) (Err (too_many (Card 1)))
     ∷ []
 
 pub all_pass : run_all cases ≡ cases

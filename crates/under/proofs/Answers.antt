@@ -14,7 +14,6 @@ use mathlib.Core.Path.{◌≡◌}
 use Rattle.table.specs.Bounds.{Bounded, picture_size}
 use Rattle.table.specs.declared.layout.Limits.{Limits}
 use Rattle.picture.proofs.Orders.{and_yes, test_decides}
-use Rattle.picture.specs.declared.answer.Asked.TheVariants.{Yes}
 use Rattle.meaning.specs.NormalTable.{merged_count}
 use Rattle.workspace.proofs.Lendings.{room_both, room_yes}
 use Rattle.workspace.specs.Lent.{roomy}
@@ -28,10 +27,11 @@ use Rattle.definitions.specs.Unfolded.{unfolded_file}
 use Rattle.under.specs.Given.{AcceptableUnder, one}
 use Rattle.under.proofs.Calls.{lcs_all, normalize_all, pair_all, verify_all, verify_lent_all}
 use Rattle.under.proofs.Givens.{PreparedUnder, acceptable_unfolded}
+use Rattle.picture.specs.Asked.{yes}
 use Rattle.under.proofs.Orders.{one_decides, pair_decides}
 
 module _ (limits : Limits) (bounded : Bounded limits) (tbox : List ℕ) where
-  pub one_yes : (picture : List ℕ) (room : ℕ) → (normalize_all limits tbox picture room ≡ Yes)
+  pub one_yes : (picture : List ℕ) (room : ℕ) → (normalize_all limits tbox picture room ≡ yes)
       ↔ ((picture_size limits ≤ room) × PreparedUnder limits tbox (one picture)
       × (merged_count limits (unfolded_file limits tbox picture) ≤ limits.rows))
   one_yes picture room =
@@ -47,11 +47,11 @@ module _ (limits : Limits) (bounded : Bounded limits) (tbox : List ℕ) where
     abbrev q : List ℕ
     q = unfolded_file limits tbox second
 
-    abbrev Ok : Type 0
-    Ok = AcceptableUnder limits tbox first second
+    abbrev Accepted : Type 0
+    Accepted = AcceptableUnder limits tbox first second
 
-    pub pair_yes : (size work result : ℕ) → (pair_all limits tbox first second size work result ≡ Yes)
-        ↔ ((work_size limits ≤ work) × (size ≤ result) × Ok)
+    pub pair_yes : (size work result : ℕ) → (pair_all limits tbox first second size work result ≡ yes)
+        ↔ ((work_size limits ≤ work) × (size ≤ result) × Accepted)
     pair_yes size work result =
         let decides = (pair_decides limits bounded tbox first second (roomy limits size work result)).yes in (
           λ e.
@@ -61,8 +61,8 @@ module _ (limits : Limits) (bounded : Bounded limits) (tbox : List ℕ) where
           λ (enough, long, ok). decides.1 (room_yes limits size work result enough long, ok),
         )
 
-    pub lcs_yes : (work result : ℕ) → (lcs_all limits tbox first second work result ≡ Yes)
-        ↔ ((work_size limits ≤ work) × (picture_size limits ≤ result) × Ok × (lcs_count limits p q ≤ limits.rows))
+    pub lcs_yes : (work result : ℕ) → (lcs_all limits tbox first second work result ≡ yes)
+        ↔ ((work_size limits ≤ work) × (picture_size limits ≤ result) × Accepted × (lcs_count limits p q ≤ limits.rows))
     lcs_yes work result =
         let size = picture_size limits in
         let both = and_yes (pair_all limits tbox first second size work result) (large_asked limits p q) in
@@ -72,16 +72,16 @@ module _ (limits : Limits) (bounded : Bounded limits) (tbox : List ℕ) where
           λ (enough, long, ok, few). both.1 (lent.1 (enough, long, ok), large.1 few),
         )
 
-    pub check_lent : (room : ℕ) → (verify_lent_all limits tbox first second room ≡ Yes)
-        ↔ ((work_size limits ≤ room) × Ok)
+    pub check_lent : (room : ℕ) → (verify_lent_all limits tbox first second room ≡ yes)
+        ↔ ((work_size limits ≤ room) × Accepted)
     check_lent room =
         let decides = (pair_decides limits bounded tbox first second (leb (work_size limits) room)).yes in (
           λ e. let (enough, ok) = decides.0 e in (leb-true (work_size limits) room enough, ok),
           λ (enough, ok). decides.1 (le-leb (work_size limits) room enough, ok),
         )
 
-    pub verify_yes : (evidence : List ℕ) (room : ℕ) → (verify_all limits tbox first second evidence room ≡ Yes)
-        ↔ ((work_size limits ≤ room) × Ok × (MapOf limits p q evidence ⊎ RefutationOf limits p q evidence))
+    pub verify_yes : (evidence : List ℕ) (room : ℕ) → (verify_all limits tbox first second evidence room ≡ yes)
+        ↔ ((work_size limits ≤ room) × Accepted × (MapOf limits p q evidence ⊎ RefutationOf limits p q evidence))
     verify_yes evidence room =
         let both = and_yes (verify_lent_all limits tbox first second room) (evidence_asked limits p q evidence) in
         let lent = check_lent room in (
@@ -89,7 +89,7 @@ module _ (limits : Limits) (bounded : Bounded limits) (tbox : List ℕ) where
           λ (enough, ok, is). both.1 (lent.1 (enough, ok), (taken ok).1 is),
         )
       where
-        taken : (ok : Ok) →
-            (evidence_asked limits p q evidence ≡ Yes) ↔ (MapOf limits p q evidence ⊎ RefutationOf limits p q evidence)
+        taken : (ok : Accepted) →
+            (evidence_asked limits p q evidence ≡ yes) ↔ (MapOf limits p q evidence ⊎ RefutationOf limits p q evidence)
         taken ok =
             evidence_taken limits p q evidence bounded (acceptable_unfolded limits tbox first second bounded ok)

@@ -9,26 +9,21 @@ use lib.Dec.{leb}
 use lib.ListN.{length}
 use mathlib.Core.List.{List}
 use mathlib.Core.Path.{◌∙◌, ◌≡◌, ap}
+use Rattle.std.proofs.Common.{Ok, Result}
 use Rattle.table.specs.Bounds.{Bounded, picture_size}
 use Rattle.table.specs.Put.{put, zeros}
 use Rattle.table.specs.declared.layout.Limits.{Limits}
-use Rattle.picture.specs.Asked.{and_then, kept, on_asked}
-use Rattle.picture.specs.declared.answer.Asked.{Asked}
+use Rattle.picture.specs.Asked.{and_then, kept, on_asked, Asked}
 use Rattle.picture.specs.declared.answer.Refusal.{Refusal}
 use Rattle.meaning.specs.NormalTable.{normal_file}
-use Rattle.normal.specs.declared.normalize.Normalized.TheVariants as normalized
 use Rattle.workspace.specs.Lent.{roomy}
 use Rattle.workspace.specs.Prepare.{halves_put, work_size}
 use Rattle.evidence.specs.Call.{evidence_asked, evidence_kind}
-use Rattle.evidence.specs.declared.check.Verified.TheVariants as verified
 use Rattle.subsumption.specs.Call.{verdict_answer}
 use Rattle.subsumption.specs.Verdict.{evidence_of, evidence_size}
-use Rattle.subsumption.specs.declared.verdict.Verdict.TheVariants as verdict
 use Rattle.lcs.specs.Call.{large_asked}
 use Rattle.lcs.specs.Product.{lcs_file}
-use Rattle.lcs.specs.declared.common.Common.TheVariants as common
 use Rattle.book.specs.Selection.{most_specific_cards}
-use Rattle.book.specs.declared.answer.Selected.TheVariants as selected
 use Rattle.definitions.specs.Unfolded.{unfolded_file}
 use Rattle.under.specs.Asked.{lcs_asked_under, most_specific_asked_under, one_asked_under, pair_asked_under}
 use Rattle.under.specs.Asked.{subsumes_asked_under, verify_asked_under}
@@ -41,8 +36,8 @@ use Rattle.under.proofs.Calls.{subsumes_all_is, subsumes_result_all, subsumes_wo
 use Rattle.under.proofs.Orders.{one_order, pair_order}
 
 -- an answer, and a buffer, where the questions are the same
-on_same : {A : Type 0} (no : Refusal → A) (value : A) (a b : Asked) → a ≡ b → on_asked no a value ≡ on_asked no b value
-on_same none value a b e = ap (λ (x : Asked). on_asked none x value) e
+on_same : {A : Type 0} (answer : Result A Refusal) (a b : Asked) → a ≡ b → on_asked a answer ≡ on_asked b answer
+on_same answer a b e = ap (λ (x : Asked). on_asked x answer) e
 
 kept_same : (new old : List ℕ) (a b : Asked) → a ≡ b → kept a new old ≡ kept b new old
 kept_same new old a b e = ap (λ (x : Asked). kept x new old) e
@@ -53,11 +48,11 @@ module _ (limits : Limits) (bounded : Bounded limits) (tbox : List ℕ) where
 
   module _ (picture : List ℕ) where
     pub normalize_asked : (room : ℕ) → normalize_under limits tbox picture room
-        ≡ on_asked normalized.Refused (one_asked_under limits tbox picture room)
-        (normalized.Length (length (normal_file limits (unfolded picture))))
+        ≡ on_asked (one_asked_under limits tbox picture room)
+        (Ok (length (normal_file limits (unfolded picture))))
     normalize_asked room =
         normalize_all_is limits tbox picture room
-        ∙ on_same normalized.Refused _ _ _ (one_order limits bounded tbox picture room)
+        ∙ on_same _ _ _ (one_order limits bounded tbox picture room)
 
     pub normalize_result_asked : (out : List ℕ) → normalize_result_under limits tbox picture out
         ≡ kept (one_asked_under limits tbox picture (length out)) (put out 0 (normal_file limits (unfolded picture))) out
@@ -73,10 +68,10 @@ module _ (limits : Limits) (bounded : Bounded limits) (tbox : List ℕ) where
     q = unfolded second
 
     pub subsumes_asked_is : (work result : ℕ) → subsumes_under limits tbox first second work result
-        ≡ on_asked verdict.Refused (subsumes_asked_under limits tbox first second work result) (verdict_answer limits p q)
+        ≡ on_asked (subsumes_asked_under limits tbox first second work result) (Ok (verdict_answer limits p q))
     subsumes_asked_is work result =
         subsumes_all_is limits tbox first second work result
-        ∙ on_same verdict.Refused _ _ _
+        ∙ on_same _ _ _
         (pair_order limits bounded tbox first second (roomy limits (evidence_size limits) work result))
 
     pub subsumes_work_asked : (work : List ℕ) (result : ℕ) → subsumes_work_under limits tbox first second work result
@@ -95,11 +90,11 @@ module _ (limits : Limits) (bounded : Bounded limits) (tbox : List ℕ) where
         (pair_order limits bounded tbox first second (roomy limits (evidence_size limits) work (length result)))
 
     pub lcs_asked_is : (work result : ℕ) → lcs_under limits tbox first second work result
-        ≡ on_asked common.Refused (lcs_asked_under limits tbox first second work result)
-        (common.Length (length (lcs_file limits p q)))
+        ≡ on_asked (lcs_asked_under limits tbox first second work result)
+        (Ok (length (lcs_file limits p q)))
     lcs_asked_is work result =
         lcs_all_is limits tbox first second work result
-        ∙ on_same common.Refused _ _ _ (ap (λ (a : Asked). and_then a (large_asked limits p q))
+        ∙ on_same _ _ _ (ap (λ (a : Asked). and_then a (large_asked limits p q))
         (pair_order limits bounded tbox first second (roomy limits (picture_size limits) work result)))
 
     pub lcs_work_asked : (work : List ℕ) (result : ℕ) → lcs_work_under limits tbox first second work result
@@ -118,11 +113,11 @@ module _ (limits : Limits) (bounded : Bounded limits) (tbox : List ℕ) where
         (pair_order limits bounded tbox first second (roomy limits (picture_size limits) work (length result))))
 
     pub verify_asked_is : (evidence : List ℕ) (room : ℕ) → verify_under limits tbox first second evidence room
-        ≡ on_asked verified.Refused (verify_asked_under limits tbox first second evidence room)
-        (evidence_kind limits q evidence)
+        ≡ on_asked (verify_asked_under limits tbox first second evidence room)
+        (Ok (evidence_kind limits q evidence))
     verify_asked_is evidence room =
         verify_all_is limits tbox first second evidence room
-        ∙ on_same verified.Refused _ _ _ (ap (λ (a : Asked). and_then a (evidence_asked limits p q evidence))
+        ∙ on_same _ _ _ (ap (λ (a : Asked). and_then a (evidence_asked limits p q evidence))
         (pair_order limits bounded tbox first second (leb (work_size limits) room)))
 
     pub verify_work_asked : (work : List ℕ) → verify_work_under limits tbox first second work
@@ -134,11 +129,11 @@ module _ (limits : Limits) (bounded : Bounded limits) (tbox : List ℕ) where
 
   module _ (case book : List ℕ) where
     pub most_specific_asked_is : (room : ℕ) → most_specific_under limits tbox case book room
-        ≡ on_asked selected.Refused (most_specific_asked_under limits tbox case book room)
-        (selected.Cards (most_specific_cards limits (unfolded case) (unfolded_book limits tbox book)))
+        ≡ on_asked (most_specific_asked_under limits tbox case book room)
+        (Ok (most_specific_cards limits (unfolded case) (unfolded_book limits tbox book)))
     most_specific_asked_is room =
         most_specific_all limits bounded tbox case book room
-        ∙ on_same selected.Refused _ _ _ (book_order limits bounded tbox case book room)
+        ∙ on_same _ _ _ (book_order limits bounded tbox case book room)
 
     pub most_specific_work_asked : (work : List ℕ) → most_specific_work_under limits tbox case book work
         ≡ kept (most_specific_asked_under limits tbox case book (length work)) (put work 0 (zeros (work_size limits))) work

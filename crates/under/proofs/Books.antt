@@ -27,6 +27,7 @@ use mathlib.Core.Logic.{◌↔◌, ◌⊎◌, ⊎_elim}
 use mathlib.Core.Path.{◌∙◌, ◌≡◌, ap, subst, sym}
 use native.Mathlib.Nat.{eq-or-lt_of_le, zero-add}
 use native.Mathlib.Omega.{arith}
+use Rattle.std.proofs.Common.{Err, Ok}
 use Rattle.table.proofs.Bools.{by_test}
 use Rattle.table.specs.Bounds.{Bounded}
 use Rattle.table.specs.NameSet.{has}
@@ -37,11 +38,9 @@ use Rattle.picture.proofs.Orders.{AllFrom, Decides, EveryRefusal, FirstFrom, Unr
 use Rattle.picture.proofs.Orders.{asked_decides, asked_refuses, from_decides, from_refuses, from_same, from_yes}
 use Rattle.picture.proofs.Orders.{on_then, read_decides, read_refuses, said_so, test_decides, then_same}
 use Rattle.picture.proofs.Readables.{readable_size}
-use Rattle.picture.specs.Asked.{and_then, asked_from, kept, on_asked, read_asked, room_asked}
+use Rattle.picture.specs.Asked.{and_then, asked_from, kept, on_asked, read_asked, room_asked, Asked, yes}
 use Rattle.picture.specs.Readable.{FailsAt, Readable}
 use Rattle.picture.specs.Refusal.{refusal_at, short_buffer, too_many}
-use Rattle.picture.specs.declared.answer.Asked.{Asked}
-use Rattle.picture.specs.declared.answer.Asked.TheVariants.{No, Yes}
 use Rattle.picture.specs.declared.answer.Input.TheVariants.{Card, First}
 use Rattle.picture.specs.declared.answer.Refusal.{Refusal}
 use Rattle.meaning.specs.Covering.{Covers}
@@ -57,7 +56,6 @@ use Rattle.book.proofs.WrittenBooks.{book_written}
 use Rattle.book.specs.Call.{AcceptableBook, book_asked, card_merged, card_read, form_asked, most_specific_answer, most_specific_asked, most_specific_work, no_book}
 use Rattle.book.specs.Form.{book_form, card, card_count, card_tag, most_length}
 use Rattle.book.specs.Selection.{MostSpecific, most_specific_cards}
-use Rattle.book.specs.declared.answer.Selected.TheVariants.{Cards, Refused}
 use Rattle.definitions.proofs.Coverings.{under_unfolded}
 use Rattle.definitions.proofs.Unfolds.{unfolded_readable}
 use Rattle.definitions.specs.Asked.{Picture, definitions_asked}
@@ -152,7 +150,7 @@ module _ (limits : Limits) (tbox case book : List ℕ) where
       (test_decides (work_size limits) room short_buffer) (λ long. after_decides)
 
   before_short : (room : ℕ) → leb (work_size limits) room ≡ false →
-      book_before limits tbox case book room ≡ No short_buffer
+      book_before limits tbox case book room ≡ Err short_buffer
   unfolding book_before
   before_short room e = rw e
 
@@ -308,11 +306,11 @@ module _ (limits : Limits) (bounded : Bounded limits) (tbox case book : List ℕ
   book_all room = and_then (book_before limits tbox case book room) (most_specific_asked limits c b room)
 
   pub most_specific_all : (room : ℕ) → most_specific_under limits tbox case book room
-      ≡ on_asked Refused (book_all room) (Cards (most_specific_cards limits c b))
+      ≡ on_asked (book_all room) (Ok (most_specific_cards limits c b))
   unfolding most_specific_under most_specific_answer
   most_specific_all room =
-      on_then Refused (book_before limits tbox case book room) (most_specific_asked limits c b room)
-      (Cards (most_specific_cards limits c b))
+      on_then (book_before limits tbox case book room) (most_specific_asked limits c b room)
+      (Ok (most_specific_cards limits c b))
 
   pub most_specific_work_all : (work : List ℕ) → most_specific_work_under limits tbox case book work
       ≡ kept (book_all (length work)) (put work 0 (zeros (work_size limits))) work
@@ -389,10 +387,10 @@ module _ (limits : Limits) (bounded : Bounded limits) (tbox case book : List ℕ
 
   module _ (ok : PreparedBook limits tbox case book) where
     -- 1 is asked again
-    base_short : (room : ℕ) → leb (work_size limits) room ≡ false → most_specific_asked limits c b room ≡ No short_buffer
+    base_short : (room : ℕ) → leb (work_size limits) room ≡ false → most_specific_asked limits c b room ≡ Err short_buffer
     base_short room e = rw e
 
-    yes_long : (room : ℕ) → leb (work_size limits) room ≡ true → book_before limits tbox case book room ≡ Yes
+    yes_long : (room : ℕ) → leb (work_size limits) room ≡ true → book_before limits tbox case book room ≡ yes
     yes_long room e = (before_decides limits tbox case book room).yes.1 (leb-true (work_size limits) room e, ok)
 
     pub most_specific_same : (room : ℕ) →

@@ -18,31 +18,26 @@ use lib.ListN.{length}
 use mathlib.Core.Bool.{Bool, false, true}
 use mathlib.Core.List.{List}
 use mathlib.Core.Path.{◌∙◌, ◌≡◌, ap}
+use Rattle.std.proofs.Common.{Err, Ok, Result}
 use Rattle.table.proofs.Bools.{by_test}
 use Rattle.table.specs.Bounds.{picture_size}
 use Rattle.table.specs.Put.{put}
 use Rattle.table.specs.declared.layout.Limits.{Limits}
 use Rattle.picture.proofs.Keeping.{kept_no, kept_then}
 use Rattle.picture.proofs.Orders.{on_no, on_then, then_assoc}
-use Rattle.picture.specs.Asked.{and_then, kept, on_asked}
+use Rattle.picture.specs.Asked.{and_then, kept, on_asked, Asked, yes}
 use Rattle.picture.specs.Refusal.{short_buffer}
-use Rattle.picture.specs.declared.answer.Asked.{Asked}
-use Rattle.picture.specs.declared.answer.Asked.TheVariants.{No, Yes}
 use Rattle.picture.specs.declared.answer.Refusal.{Refusal}
 use Rattle.meaning.specs.NormalTable.{normal_file}
 use Rattle.normal.specs.Call.{normalize_answer, normalize_result, one_asked}
-use Rattle.normal.specs.declared.normalize.Normalized.TheVariants as normalized
 use Rattle.workspace.proofs.Pairs.{lent_short}
 use Rattle.workspace.specs.Lent.{lent_asked, roomy}
 use Rattle.workspace.specs.Prepare.{halves_put, work_size}
 use Rattle.evidence.specs.Call.{evidence_asked, evidence_kind, verify_answer, verify_asked, verify_lent, verify_work}
-use Rattle.evidence.specs.declared.check.Verified.TheVariants as verified
 use Rattle.subsumption.specs.Call.{subsumes_answer, subsumes_asked, subsumes_result, subsumes_work, verdict_answer}
 use Rattle.subsumption.specs.Verdict.{evidence_of, evidence_size}
-use Rattle.subsumption.specs.declared.verdict.Verdict.TheVariants as verdict
 use Rattle.lcs.specs.Call.{large_asked, lcs_answer, lcs_asked, lcs_lent, lcs_result, lcs_work}
 use Rattle.lcs.specs.Product.{lcs_file}
-use Rattle.lcs.specs.declared.common.Common.TheVariants as common
 use Rattle.definitions.specs.Asked.{Picture}
 use Rattle.definitions.specs.Unfolded.{unfolded_file}
 use Rattle.under.specs.Calls.{lcs_result_under, lcs_under, lcs_work_under, normalize_before, normalize_result_under, normalize_under, pair_before, subsumes_result_under, subsumes_under, subsumes_work_under, verify_before, verify_under, verify_work_under}
@@ -51,19 +46,19 @@ use Rattle.under.proofs.Givens as givens
 
 -- ---- any call
 
-pub no_before : {A : Type 0} (no : Refusal → A) (value : A) (new old : List ℕ) (before : Asked) (r : Refusal) →
-    before ≡ No r → (on_asked no before value ≡ no r) × (kept before new old ≡ old)
-no_before none value new old before r e = (on_no none value before r e, kept_no new old before r e)
+pub no_before : {A : Type 0} (answer : Result A Refusal) (new old : List ℕ) (before : Asked) (r : Refusal) →
+    before ≡ Err r → (on_asked before answer ≡ Err r) × (kept before new old ≡ old)
+no_before answer new old before r e = (on_no answer before r e, kept_no new old before r e)
 
 -- b is what the call without a book asks, so 1 is its first question
 module _ (limits : Limits) (enough : Bool) (tbox : List ℕ) (given : List Picture)
-    (ok : under_asked limits tbox given ≡ Yes) (b : Asked) (short : enough ≡ false → b ≡ No short_buffer) where
-  before_yes : enough ≡ true → lent_under limits enough tbox given ≡ Yes
+    (ok : under_asked limits tbox given ≡ yes) (b : Asked) (short : enough ≡ false → b ≡ Err short_buffer) where
+  before_yes : enough ≡ true → lent_under limits enough tbox given ≡ yes
   before_yes e = (givens.lent_yes limits tbox given enough).1 (e, (givens.under_yes limits tbox given).0 ok)
 
-  pub same_answer : {A : Type 0} (no : Refusal → A) (value : A) →
-      on_asked no (lent_under limits enough tbox given) (on_asked no b value) ≡ on_asked no b value
-  same_answer none value =
+  pub same_answer : {A : Type 0} (answer : Result A Refusal) →
+      on_asked (lent_under limits enough tbox given) (on_asked b answer) ≡ on_asked b answer
+  same_answer answer =
       by_test enough (λ e. rw (before_yes e)) (λ e. rw (givens.lent_short limits tbox given enough e, short e))
 
   pub same_buffer : (new old : List ℕ) →
@@ -82,10 +77,10 @@ module _ (limits : Limits) (tbox : List ℕ) where
     normalize_all room = and_then (normalize_before limits tbox picture room) (one_asked limits s room)
 
     pub normalize_all_is : (room : ℕ) → normalize_under limits tbox picture room
-        ≡ on_asked normalized.Refused (normalize_all room) (normalized.Length (length (normal_file limits s)))
+        ≡ on_asked (normalize_all room) (Ok (length (normal_file limits s)))
     unfolding normalize_under normalize_answer
     normalize_all_is room =
-        on_then normalized.Refused (normalize_before limits tbox picture room) (one_asked limits s room) _
+        on_then (normalize_before limits tbox picture room) (one_asked limits s room) _
 
     pub normalize_result_all : (out : List ℕ) → normalize_result_under limits tbox picture out
         ≡ kept (normalize_all (length out)) (put out 0 (normal_file limits s)) out
@@ -94,8 +89,8 @@ module _ (limits : Limits) (tbox : List ℕ) where
         kept_then (normalize_before limits tbox picture (length out)) (one_asked limits s (length out))
         (put out 0 (normal_file limits s)) out
 
-    module _ (ok : under_asked limits tbox (one picture) ≡ Yes) where
-      one_short : (room : ℕ) → leb (picture_size limits) room ≡ false → one_asked limits s room ≡ No short_buffer
+    module _ (ok : under_asked limits tbox (one picture) ≡ yes) where
+      one_short : (room : ℕ) → leb (picture_size limits) room ≡ false → one_asked limits s room ≡ Err short_buffer
       unfolding one_asked
       one_short room e = rw e
 
@@ -103,7 +98,7 @@ module _ (limits : Limits) (tbox : List ℕ) where
       unfolding normalize_under normalize_answer
       normalize_same room =
           same_answer limits (leb (picture_size limits) room) tbox (one picture) ok (one_asked limits s room)
-          (one_short room) normalized.Refused _
+          (one_short room) _
 
       pub normalize_result_same : (out : List ℕ) →
           normalize_result_under limits tbox picture out ≡ normalize_result limits s out
@@ -138,11 +133,11 @@ module _ (limits : Limits) (tbox : List ℕ) where
     verify_all evidence room = and_then (verify_lent_all room) (evidence_asked limits p q evidence)
 
     pub subsumes_all_is : (work result : ℕ) → subsumes_under limits tbox first second work result
-        ≡ on_asked verdict.Refused (pair_all (evidence_size limits) work result) (verdict_answer limits p q)
+        ≡ on_asked (pair_all (evidence_size limits) work result) (Ok (verdict_answer limits p q))
     unfolding subsumes_under subsumes_answer
     subsumes_all_is work result =
-        on_then verdict.Refused (pair_before limits tbox first second (evidence_size limits) work result)
-        (subsumes_asked limits p q work result) (verdict_answer limits p q)
+        on_then (pair_before limits tbox first second (evidence_size limits) work result)
+        (subsumes_asked limits p q work result) (Ok (verdict_answer limits p q))
 
     pub subsumes_work_all : (work : List ℕ) (result : ℕ) → subsumes_work_under limits tbox first second work result
         ≡ kept (pair_all (evidence_size limits) (length work) result) (halves_put limits p q work) work
@@ -159,13 +154,13 @@ module _ (limits : Limits) (tbox : List ℕ) where
         (subsumes_asked limits p q work (length result)) (put result 0 (evidence_of limits p q)) result
 
     pub lcs_all_is : (work result : ℕ) → lcs_under limits tbox first second work result
-        ≡ on_asked common.Refused (lcs_all work result) (common.Length (length (lcs_file limits p q)))
+        ≡ on_asked (lcs_all work result) (Ok (length (lcs_file limits p q)))
     unfolding lcs_under lcs_answer
     lcs_all_is work result =
         let before = pair_before limits tbox first second (picture_size limits) work result in
         let file = lcs_file limits p q in
-        on_then common.Refused before (lcs_asked limits p q work result) (common.Length (length file))
-        ∙ ap (λ (a : Asked). on_asked common.Refused a (common.Length (length file)))
+        on_then before (lcs_asked limits p q work result) (Ok (length file))
+        ∙ ap (λ (a : Asked). on_asked a (Ok (length file)))
         (then_assoc before (lcs_lent limits p q work result) (large_asked limits p q))
 
     pub lcs_work_all : (work : List ℕ) (result : ℕ) → lcs_work_under limits tbox first second work result
@@ -186,13 +181,13 @@ module _ (limits : Limits) (tbox : List ℕ) where
         (then_assoc before (lcs_lent limits p q work (length result)) (large_asked limits p q))
 
     pub verify_all_is : (evidence : List ℕ) (room : ℕ) → verify_under limits tbox first second evidence room
-        ≡ on_asked verified.Refused (verify_all evidence room) (evidence_kind limits q evidence)
+        ≡ on_asked (verify_all evidence room) (Ok (evidence_kind limits q evidence))
     unfolding verify_under verify_answer
     verify_all_is evidence room =
         let before = verify_before limits tbox first second room in
-        let kind = evidence_kind limits q evidence in
-        on_then verified.Refused before (verify_asked limits p q evidence room) kind
-        ∙ ap (λ (a : Asked). on_asked verified.Refused a kind)
+        let kind = Ok (evidence_kind limits q evidence) in
+        on_then before (verify_asked limits p q evidence room) kind
+        ∙ ap (λ (a : Asked). on_asked a kind)
         (then_assoc before (verify_lent limits p q room) (evidence_asked limits p q evidence))
 
     pub verify_work_all : (work : List ℕ) → verify_work_under limits tbox first second work
@@ -204,12 +199,12 @@ module _ (limits : Limits) (tbox : List ℕ) where
 
     -- ---- where all before the first 14 is answered yes
 
-    module _ (ok : under_asked limits tbox (pair first second) ≡ Yes) where
+    module _ (ok : under_asked limits tbox (pair first second) ≡ yes) where
       module _ (enough : Bool) where
-        pair_short : enough ≡ false → lent_asked limits enough p q ≡ No short_buffer
+        pair_short : enough ≡ false → lent_asked limits enough p q ≡ Err short_buffer
         pair_short = lent_short limits p q enough
 
-        after_short : (after : Asked) → enough ≡ false → and_then (lent_asked limits enough p q) after ≡ No short_buffer
+        after_short : (after : Asked) → enough ≡ false → and_then (lent_asked limits enough p q) after ≡ Err short_buffer
         after_short after e = ap (λ a. and_then a after) (pair_short e)
 
         -- a buffer that is written once 1 to 14 are answered yes
@@ -224,7 +219,7 @@ module _ (limits : Limits) (tbox : List ℕ) where
       subsumes_same work result =
           let enough = roomy limits (evidence_size limits) work result in
           same_answer limits enough tbox (pair first second) ok (lent_asked limits enough p q) (pair_short enough)
-          verdict.Refused (verdict_answer limits p q)
+          (Ok (verdict_answer limits p q))
 
       pub subsumes_work_same : (work : List ℕ) (result : ℕ) →
           subsumes_work_under limits tbox first second work result ≡ subsumes_work limits p q work result
@@ -245,7 +240,7 @@ module _ (limits : Limits) (tbox : List ℕ) where
       lcs_same work result =
           let enough = roomy limits (picture_size limits) work result in
           same_answer limits enough tbox (pair first second) ok (lcs_asked limits p q work result)
-          (after_short enough (large_asked limits p q)) common.Refused (common.Length (length (lcs_file limits p q)))
+          (after_short enough (large_asked limits p q)) (Ok (length (lcs_file limits p q)))
 
       pub lcs_work_same : (work : List ℕ) (result : ℕ) →
           lcs_work_under limits tbox first second work result ≡ lcs_work limits p q work result
@@ -267,7 +262,7 @@ module _ (limits : Limits) (tbox : List ℕ) where
       verify_same evidence room =
           let enough = leb (work_size limits) room in
           same_answer limits enough tbox (pair first second) ok (verify_asked limits p q evidence room)
-          (after_short enough (evidence_asked limits p q evidence)) verified.Refused (evidence_kind limits q evidence)
+          (after_short enough (evidence_asked limits p q evidence)) (Ok (evidence_kind limits q evidence))
 
       pub verify_work_same : (work : List ℕ) →
           verify_work_under limits tbox first second work ≡ verify_work limits p q work

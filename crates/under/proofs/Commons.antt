@@ -14,7 +14,7 @@ use lib.Seq.{take_at}
 use mathlib.Core.List.{List, [], ◌∷◌}
 use mathlib.Core.Logic.{◌⊎◌, inl, inr}
 use mathlib.Core.Path.{◌∙◌, ◌≡◌, ap, subst, sym}
-use native.Mathlib.Omega.{arith}
+use Rattle.std.proofs.Common.{Err, Ok}
 use Rattle.table.proofs.Bools.{by_test}
 use Rattle.table.specs.Bounds.{Bounded, picture_size}
 use Rattle.table.specs.Put.{put}
@@ -43,7 +43,6 @@ use Rattle.meaning.specs.Meaning.{picture_table, picture_tree}
 use Rattle.workspace.specs.Prepare.{work_size}
 use Rattle.lcs.proofs.Commons.{common_least}
 use Rattle.lcs.specs.Call.{too_large}
-use Rattle.lcs.specs.declared.common.Common.TheVariants.{Length, Refused}
 use Rattle.lcs.specs.Description.{LeastCommon}
 use Rattle.lcs.specs.Product.{lcs_count, lcs_file}
 use Rattle.definitions.proofs.Coverings.{belongs_unfolded, book_respects, respects_book}
@@ -202,8 +201,8 @@ module _ (limits : Limits) (bounded : Bounded limits) (tbox first second : List 
 
   -- with room it is refused only when the product has too many rows
   pub common_refused : (work result : ℕ) → work_size limits ≤ work → picture_size limits ≤ result →
-      (lcs_under limits tbox first second work result ≡ Length (length (lcs_file limits p q)))
-      ⊎ ((lcs_under limits tbox first second work result ≡ Refused too_large) × (limits.rows < lcs_count limits p q))
+      (lcs_under limits tbox first second work result ≡ Ok (length (lcs_file limits p q)))
+      ⊎ ((lcs_under limits tbox first second work result ≡ Err too_large) × (limits.rows < lcs_count limits p q))
   common_refused work result enough long =
       let count = lcs_count limits p q in
       let before = (pair_yes limits bounded tbox first second (picture_size limits) work result).1 (enough, long, pair) in
@@ -214,7 +213,7 @@ module _ (limits : Limits) (bounded : Bounded limits) (tbox first second : List 
 -- ---- what is given and left, whatever bytes and buffers
 
 pub common_given_is : (limits : Limits) → Bounded limits → (tbox first second : List ℕ) (work : ℕ) (result : List ℕ)
-    (n : ℕ) → lcs_under limits tbox first second work (length result) ≡ Length n →
+    (n : ℕ) → lcs_under limits tbox first second work (length result) ≡ Ok n →
     AcceptableUnder limits tbox first second
     × LeastCommonUnder limits tbox first second n (take n (lcs_result_under limits tbox first second work result))
 unfolding put
@@ -223,8 +222,7 @@ common_given_is limits bounded tbox first second work result n h =
     let q = unfolded_file limits tbox second in
     let file = lcs_file limits p q in
     let asks = lcs_all limits tbox first second work (length result) in
-    let (all, is) = given Refused (Length (length file)) (Length n)
-    (λ r is. let z : ◌≡◌ {A = ℕ} 0 1 = cc in omega arith) asks
+    let (all, is) = given (Ok (length file)) n asks
     (sym (lcs_all_is limits tbox first second work (length result)) ∙ h) in
     let (enough, long, ok, few) = (lcs_yes limits bounded tbox first second work (length result)).0 all in
     let sized : n ≡ length file = cc in

@@ -20,6 +20,7 @@ use mathlib.Core.List.{List}
 use mathlib.Core.Logic.{◌↔◌, ◌⊎◌, inl, inr}
 use mathlib.Core.Path.{◌∙◌, ◌≡◌, ap, sym}
 use native.Mathlib.Omega.{arith}
+use Rattle.std.proofs.Common.{Ok, Result}
 use Rattle.table.proofs.Bools.{by_test}
 use Rattle.table.specs.Bounds.{Bounded}
 use Rattle.table.specs.Number.{Bytes}
@@ -41,12 +42,12 @@ use Rattle.workspace.specs.Prepare.{Acceptable, work_size}
 use Rattle.evidence.proofs.Soundness.{TakenAs, evidence_taken, map_covers, map_taken, refutation_fails, refutation_taken}
 use Rattle.evidence.specs.Call.{evidence_kind}
 use Rattle.evidence.specs.Taken.{MapOf, RefutationOf}
-use Rattle.evidence.specs.declared.check.Verified.{Verified}
-use Rattle.evidence.specs.declared.check.Verified.TheVariants.{MapTaken, Refused, RefutationTaken}
+use Rattle.evidence.specs.declared.check.Taken.TheVariants.{Map, Refutation}
 use Rattle.subsumption.proofs.Writers.{evidence_bytes, no_written, verdict_covers, verdict_fails, yes_written}
 use Rattle.subsumption.specs.Call.{verdict_answer}
 use Rattle.subsumption.specs.Verdict.{evidence_of, evidence_size, verdict_of}
 use Rattle.subsumption.specs.declared.verdict.Verdict.TheVariants as verdict
+use Rattle.subsumption.specs.declared.verdict.Verdict.{Verdict}
 use Rattle.definitions.proofs.Coverings.{belongs_unfolded}
 use Rattle.definitions.proofs.Unfolds.{unfolded_readable}
 use Rattle.definitions.specs.Covering.{Belongs, CoversUnder, RespectsBook}
@@ -55,6 +56,7 @@ use Rattle.under.specs.Calls.{subsumes_result_under, subsumes_under, verify_unde
 use Rattle.under.specs.Given.{AcceptableUnder}
 use Rattle.under.proofs.Answers.{pair_yes, verify_yes}
 use Rattle.under.proofs.Calls.{pair_all, subsumes_all_is, subsumes_result_all, verify_all_is, verify_all}
+use Rattle.evidence.specs.declared.check.Taken.{Taken}
 use Rattle.under.proofs.Givens.{acceptable_prepared, acceptable_unfolded, covers_same}
 
 module _ (limits : Limits) (bounded : Bounded limits) (tbox : List ℕ) where
@@ -71,27 +73,26 @@ module _ (limits : Limits) (bounded : Bounded limits) (tbox : List ℕ) where
     -- ---- evidence, whatever bytes are given
 
     module _ (e : List ℕ) (room : ℕ) where
-      pub kind_shown : (kind : Verified) → ((r : Refusal) → Refused r ≡ kind → ⊥) →
-          verify_under limits tbox first second e room ≡ kind →
+      pub kind_shown : (kind : Taken) → verify_under limits tbox first second e room ≡ Ok kind →
           (work_size limits ≤ room) × AcceptableUnder limits tbox first second × TakenAs limits p q e kind
-      kind_shown kind none h =
-          let (all, is) = given Refused (evidence_kind limits q e) kind none (verify_all limits tbox first second e room)
+      kind_shown kind h =
+          let (all, same) = given (Ok (evidence_kind limits q e)) kind (verify_all limits tbox first second e room)
           (sym (verify_all_is limits tbox first second e room) ∙ h) in
+          let is : evidence_kind limits q e ≡ kind = cc in
           let (enough, ok, taken) = (verify_yes limits bounded tbox first second e room).0 all in
           let base = acceptable_unfolded limits tbox first second bounded ok in
           (enough, ok, ((evidence_taken limits p q e bounded base).1 taken, is))
 
-      pub map_shown : verify_under limits tbox first second e room ≡ MapTaken →
+      pub map_shown : verify_under limits tbox first second e room ≡ Ok Map →
           AcceptableUnder limits tbox first second × MapOf limits p q e
       map_shown h =
-          let (enough, ok, taken) = kind_shown MapTaken (λ r is. let z : ◌≡◌ {A = ℕ} 0 1 = cc in omega arith) h in
+          let (enough, ok, taken) = kind_shown Map h in
           (ok, (map_taken limits p q e bounded (acceptable_unfolded limits tbox first second bounded ok)).0 taken)
 
-      pub refutation_shown : verify_under limits tbox first second e room ≡ RefutationTaken →
+      pub refutation_shown : verify_under limits tbox first second e room ≡ Ok Refutation →
           AcceptableUnder limits tbox first second × RefutationOf limits p q e
       refutation_shown h =
-          let (enough, ok, taken) = kind_shown RefutationTaken
-          (λ r is. let z : ◌≡◌ {A = ℕ} 0 1 = cc in omega arith) h in
+          let (enough, ok, taken) = kind_shown Refutation h in
           let base = acceptable_unfolded limits tbox first second bounded ok in
           (ok, (refutation_taken limits p q e bounded base).0 taken)
 
@@ -125,33 +126,33 @@ module _ (limits : Limits) (bounded : Bounded limits) (tbox : List ℕ) where
       -- ---- with a work space of the length laid down
 
       module _ (room : ℕ) (enough : work_size limits ≤ room) where
-        taken_as : (e : List ℕ) (kind : Verified) → MapOf limits p q e ⊎ RefutationOf limits p q e →
-            evidence_kind limits q e ≡ kind → verify_under limits tbox first second e room ≡ kind
+        taken_as : (e : List ℕ) (kind : Taken) → MapOf limits p q e ⊎ RefutationOf limits p q e →
+            evidence_kind limits q e ≡ kind → verify_under limits tbox first second e room ≡ Ok kind
         taken_as e kind is h =
             verify_all_is limits tbox first second e room
-            ∙ on_yes Refused (evidence_kind limits q e) (verify_all limits tbox first second e room)
-            ((verify_yes limits bounded tbox first second e room).1 (enough, ok, is)) ∙ h
+            ∙ on_yes (Ok (evidence_kind limits q e)) (verify_all limits tbox first second e room)
+            ((verify_yes limits bounded tbox first second e room).1 (enough, ok, is)) ∙ ap Ok h
 
-        pub takes_map : (e : List ℕ) → MapOf limits p q e → verify_under limits tbox first second e room ≡ MapTaken
-        takes_map e m = taken_as e MapTaken (inl m) ((map_taken limits p q e bounded base).1 m).1
+        pub takes_map : (e : List ℕ) → MapOf limits p q e → verify_under limits tbox first second e room ≡ Ok Map
+        takes_map e m = taken_as e Map (inl m) ((map_taken limits p q e bounded base).1 m).1
 
         pub takes_refutation : (e : List ℕ) → RefutationOf limits p q e →
-            verify_under limits tbox first second e room ≡ RefutationTaken
-        takes_refutation e r = taken_as e RefutationTaken (inr r) ((refutation_taken limits p q e bounded base).1 r).1
+            verify_under limits tbox first second e room ≡ Ok Refutation
+        takes_refutation e r = taken_as e Refutation (inr r) ((refutation_taken limits p q e bounded base).1 r).1
 
         pub yes_taken : verdict_of limits p q ≡ true →
-            verify_under limits tbox first second (evidence_of limits p q) room ≡ MapTaken
+            verify_under limits tbox first second (evidence_of limits p q) room ≡ Ok Map
         yes_taken e = takes_map (evidence_of limits p q) (yes_written limits p q bounded base e)
 
         pub no_taken : verdict_of limits p q ≡ false →
-            verify_under limits tbox first second (evidence_of limits p q) room ≡ RefutationTaken
+            verify_under limits tbox first second (evidence_of limits p q) room ≡ Ok Refutation
         no_taken e = takes_refutation (evidence_of limits p q) (no_written limits p q bounded base e)
 
         -- some bytes are taken as a kind
-        abbrev Taken : Verified → Type 0
-        Taken kind = (e : List ℕ) × Bytes e × (verify_under limits tbox first second e room ≡ kind)
+        abbrev SomeTaken : Taken → Type 0
+        SomeTaken kind = (e : List ℕ) × Bytes e × (verify_under limits tbox first second e room ≡ Ok kind)
 
-        pub some_map : Taken MapTaken ↔ Covered
+        pub some_map : SomeTaken Map ↔ Covered
         some_map = (
           λ (e, bytes, h). map_covers_under e (map_shown e room h).1,
           λ c. (
@@ -161,7 +162,7 @@ module _ (limits : Limits) (bounded : Bounded limits) (tbox : List ℕ) where
           ),
         )
 
-        pub some_refutation : Taken RefutationTaken ↔ (Covered → ⊥)
+        pub some_refutation : SomeTaken Refutation ↔ (Covered → ⊥)
         some_refutation = (
           λ (e, bytes, h). refutation_fails_under e (refutation_shown e room h).1,
           λ u. (
@@ -174,10 +175,10 @@ module _ (limits : Limits) (bounded : Bounded limits) (tbox : List ℕ) where
         -- ---- and a result buffer of the length laid down
 
         pub verdict_given_is : (result : ℕ) → evidence_size limits ≤ result →
-            subsumes_under limits tbox first second room result ≡ verdict_answer limits p q
+            subsumes_under limits tbox first second room result ≡ Ok (verdict_answer limits p q)
         verdict_given_is result long =
             subsumes_all_is limits tbox first second room result
-            ∙ on_yes verdict.Refused (verdict_answer limits p q)
+            ∙ on_yes (Ok (verdict_answer limits p q))
             (pair_all limits tbox first second (evidence_size limits) room result)
             ((pair_yes limits bounded tbox first second (evidence_size limits) room result).1 (enough, long, ok))
 
@@ -195,29 +196,29 @@ module _ (limits : Limits) (bounded : Bounded limits) (tbox : List ℕ) where
           size = length (evidence_of limits p q)
 
           answers : (v : Bool) → verdict_of limits p q ≡ v →
-              subsumes_under limits tbox first second room result ≡ pick v (verdict.Yes size) (verdict.No size)
+              subsumes_under limits tbox first second room result ≡ Ok (pick v (verdict.Yes size) (verdict.No size))
           unfolding verdict_answer
           answers v e =
-              verdict_given_is result long ∙ ap (λ (b : Bool). pick b (verdict.Yes size) (verdict.No size)) e
+              verdict_given_is result long ∙ ap (λ (b : Bool). Ok (pick b (verdict.Yes size) (verdict.No size))) e
 
-          pub yes_exactly : (subsumes_under limits tbox first second room result ≡ verdict.Yes size) ↔ Covered
+          pub yes_exactly : (subsumes_under limits tbox first second room result ≡ Ok (verdict.Yes size)) ↔ Covered
           yes_exactly = (
             λ h. by_test (verdict_of limits p q) (λ e. verdict_covers_under.1 e)
                 (λ e. absurd (other (sym (answers false e) ∙ h))),
             λ c. answers true (verdict_covers_under.0 c),
           )
             where
-              other : verdict.No size ≡ verdict.Yes size → ⊥
+              other : ◌≡◌ {A = Result Verdict Refusal} (Ok (verdict.No size)) (Ok (verdict.Yes size)) → ⊥
               other is = let z : ◌≡◌ {A = ℕ} 0 1 = cc in omega arith
 
-          pub no_exactly : (subsumes_under limits tbox first second room result ≡ verdict.No size) ↔ (Covered → ⊥)
+          pub no_exactly : (subsumes_under limits tbox first second room result ≡ Ok (verdict.No size)) ↔ (Covered → ⊥)
           no_exactly = (
             λ h. by_test (verdict_of limits p q) (λ e. absurd (other (sym (answers true e) ∙ h)))
                 (λ e. verdict_fails_under.0 e),
             λ u. answers false (verdict_fails_under.1 u),
           )
             where
-              other : verdict.Yes size ≡ verdict.No size → ⊥
+              other : ◌≡◌ {A = Result Verdict Refusal} (Ok (verdict.Yes size)) (Ok (verdict.No size)) → ⊥
               other is = let z : ◌≡◌ {A = ℕ} 0 1 = cc in omega arith
 
   -- ---- one picture

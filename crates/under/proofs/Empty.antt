@@ -15,6 +15,7 @@ use mathlib.Core.Bool.{Bool, ◌&&◌, not, true}
 use mathlib.Core.List.{List}
 use mathlib.Core.Path.{◌∙◌, ◌≡◌, ap, refl, sym}
 use native.Mathlib.Omega.{arith}
+use Rattle.std.proofs.Common.{Err, Ok}
 use Rattle.table.proofs.Ranges.{some_same}
 use Rattle.table.proofs.SetsBelow.{set_below_same}
 use Rattle.table.specs.Bounds.{Bounded, picture_size}
@@ -23,10 +24,8 @@ use Rattle.table.specs.Put.{put, zeros}
 use Rattle.table.specs.declared.layout.Limits.{Limits}
 use Rattle.order.specs.Preorder.{minimal, is_passed_over, strict}
 use Rattle.picture.proofs.Orders.{from_same, from_yes, read_decides}
-use Rattle.picture.specs.Asked.{and_then, asked_from, kept, on_asked, read_asked, room_asked}
+use Rattle.picture.specs.Asked.{and_then, asked_from, kept, on_asked, read_asked, room_asked, Asked, yes}
 use Rattle.picture.specs.Readable.{Readable}
-use Rattle.picture.specs.declared.answer.Asked.{Asked}
-use Rattle.picture.specs.declared.answer.Asked.TheVariants.{No, Yes}
 use Rattle.picture.specs.declared.answer.Input.TheVariants.{Card, First, Second}
 use Rattle.normal.specs.Call.{merged_asked, normalize_answer, normalize_result, one_asked}
 use Rattle.workspace.specs.Lent.{lent_asked, roomy}
@@ -38,7 +37,6 @@ use Rattle.lcs.specs.Call.{large_asked, lcs_answer, lcs_result, lcs_work}
 use Rattle.book.specs.Call.{book_asked, card_merged, card_read, form_asked, most_specific_answer, most_specific_asked, most_specific_work}
 use Rattle.book.specs.Form.{book_form, card, card_count}
 use Rattle.book.specs.Selection.{card_covers, case_covered, most_specific, most_specific_cards}
-use Rattle.book.specs.declared.answer.Selected.TheVariants.{Cards, Refused}
 use Rattle.definitions.proofs.Empty.{empty_asked, empty_unfolded}
 use Rattle.definitions.specs.Asked.{Picture, asked_of, definitions_asked, read_of}
 use Rattle.definitions.specs.Form.{definition_count, definitions_form}
@@ -52,9 +50,9 @@ use Rattle.under.proofs.Givens.{reads_decides}
 
 -- ---- questions that are asked again
 
-pub in_front : (x y z : Asked) → (x ≡ Yes → and_then y z ≡ z) → and_then (and_then x y) (and_then x z) ≡ and_then x z
-in_front Yes y z h = h refl
-in_front (No r) y z h = refl
+pub in_front : (x y z : Asked) → (x ≡ yes → and_then y z ≡ z) → and_then (and_then x y) (and_then x z) ≡ and_then x z
+in_front (Ok _) y z h = h refl
+in_front (Err r) y z h = refl
 
 module _ (limits : Limits) (tbox : List ℕ) (empty : definition_count tbox ≡ 0)
     (form : definitions_form tbox ≡ true) where
@@ -64,10 +62,10 @@ module _ (limits : Limits) (tbox : List ℕ) (empty : definition_count tbox ≡ 
       by (asked_of (read_of limits) given)
       (λ e. empty_asked tbox empty form limits given ((reads_decides limits given).yes.0 e))
     where
-      by : (a : Asked) → (a ≡ Yes → definitions_asked limits tbox given ≡ Yes) →
+      by : (a : Asked) → (a ≡ yes → definitions_asked limits tbox given ≡ yes) →
           and_then a (definitions_asked limits tbox given) ≡ a
-      by Yes h = h refl
-      by (No r) h = refl
+      by (Ok _) h = h refl
+      by (Err r) h = refl
 
   abbrev itself : (s : List ℕ) → unfolded_file limits tbox s ≡ s
   itself s = empty_unfolded tbox empty limits s
@@ -82,7 +80,7 @@ module _ (limits : Limits) (tbox : List ℕ) (empty : definition_count tbox ≡ 
         let read = read_asked limits First picture in
         let merged = merged_asked limits First picture in
         rw (itself picture, under_read (one picture))
-        (in_front enough (and_then read Yes) (and_then read merged) (λ e. in_front read Yes merged (λ f. refl)))
+        (in_front enough (and_then read yes) (and_then read merged) (λ e. in_front read yes merged (λ f. refl)))
 
     pub empty_normalize : (room : ℕ) → normalize_under limits tbox picture room ≡ normalize_answer limits picture room
     unfolding normalize_answer
@@ -106,8 +104,8 @@ module _ (limits : Limits) (tbox : List ℕ) (empty : definition_count tbox ≡ 
         let next = read_asked limits Second second in
         let merged = and_then (merged_asked limits First first) (merged_asked limits Second second) in
         rw (under_read (pair first second))
-        (in_front (room_asked enough) (and_then read (and_then next Yes)) (and_then read (and_then next merged))
-        (λ e. in_front read (and_then next Yes) (and_then next merged) (λ f. in_front next Yes merged (λ g. refl))))
+        (in_front (room_asked enough) (and_then read (and_then next yes)) (and_then read (and_then next merged))
+        (λ e. in_front read (and_then next yes) (and_then next merged) (λ f. in_front next yes merged (λ g. refl))))
 
     then_again : (enough : Bool) (after : Asked) →
         and_then (and_then (lent_under limits enough tbox (pair first second)) (lent_asked limits enough first second))
@@ -240,8 +238,8 @@ module _ (limits : Limits) (bounded : Bounded limits) (tbox : List ℕ) (empty :
       (λ f. in_front (form_asked book) (and_then reads defs) (and_then reads merged)
       (λ g. in_front reads defs merged (λ h. ap (λ (a : Asked). and_then a merged) (nothing f h)))))
     where
-      nothing : read_asked limits First case ≡ Yes → asked_from (card_read limits book) (card_count book) 0 ≡ Yes →
-          definitions_asked limits tbox (case_and_cards case book) ≡ Yes
+      nothing : read_asked limits First case ≡ yes → asked_from (card_read limits book) (card_count book) 0 ≡ yes →
+          definitions_asked limits tbox (case_and_cards case book) ≡ yes
       nothing f h =
           let cards = (from_yes (card_read limits book) (λ k. Readable limits (card book k))
           (λ k. (read_decides limits (Card k) (card book k)).yes) (card_count book) 0).0 h in
@@ -251,7 +249,7 @@ module _ (limits : Limits) (bounded : Bounded limits) (tbox : List ℕ) (empty :
           )
 
   -- all of it answered yes: the book of the unfolded cards has the same cards
-  same_when : (room : ℕ) → book_before limits tbox case book room ≡ Yes →
+  same_when : (room : ℕ) → book_before limits tbox case book room ≡ yes →
       (most_specific_asked limits (unfolded_file limits tbox case) again room ≡ most_specific_asked limits case book room)
       × (most_specific_cards limits (unfolded_file limits tbox case) again ≡ most_specific_cards limits case book)
   same_when room e =
@@ -271,13 +269,13 @@ module _ (limits : Limits) (bounded : Bounded limits) (tbox : List ℕ) (empty :
   empty_most_specific room = by (book_before limits tbox case book room) refl
     where
       by : (a : Asked) → book_before limits tbox case book room ≡ a →
-          on_asked Refused a (most_specific_answer limits (unfolded_file limits tbox case) again room)
+          on_asked a (most_specific_answer limits (unfolded_file limits tbox case) again room)
           ≡ most_specific_answer limits case book room
-      by Yes e = let (asks, cards) = same_when room e in rw (asks, cards)
-      by (No r) e =
-          let z : No r ≡ most_specific_asked limits case book room =
+      by (Ok _) e = let (asks, cards) = same_when room e in rw (asks, cards)
+      by (Err r) e =
+          let z : Err r ≡ most_specific_asked limits case book room =
           sym (ap (λ (a : Asked). and_then a (most_specific_asked limits case book room)) e) ∙ book_again room in
-          ap (λ (a : Asked). on_asked Refused a (Cards (most_specific_cards limits case book))) z
+          ap (λ (a : Asked). on_asked a (Ok (most_specific_cards limits case book))) z
 
   pub empty_most_specific_work : (work : List ℕ) →
       most_specific_work_under limits tbox case book work ≡ most_specific_work limits case book work
@@ -287,9 +285,9 @@ module _ (limits : Limits) (bounded : Bounded limits) (tbox : List ℕ) (empty :
       by : (a : Asked) → book_before limits tbox case book (length work) ≡ a →
           kept a (most_specific_work limits (unfolded_file limits tbox case) again work) work
           ≡ most_specific_work limits case book work
-      by Yes e = let (asks, cards) = same_when (length work) e in rw asks
-      by (No r) e =
-          let z : No r ≡ most_specific_asked limits case book (length work) =
+      by (Ok _) e = let (asks, cards) = same_when (length work) e in rw asks
+      by (Err r) e =
+          let z : Err r ≡ most_specific_asked limits case book (length work) =
           sym (ap (λ (a : Asked). and_then a (most_specific_asked limits case book (length work))) e)
           ∙ book_again (length work) in
           ap (λ (a : Asked). kept a (put work 0 (zeros (work_size limits))) work) z

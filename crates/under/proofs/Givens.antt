@@ -15,13 +15,13 @@ use mathlib.Core.Bool.{Bool, false, true}
 use mathlib.Core.List.{List, [], ◌∷◌}
 use mathlib.Core.Logic.{◌↔◌, ◌⊎◌, inl}
 use mathlib.Core.Path.{◌≡◌, refl}
+use Rattle.std.proofs.Common.{Err}
 use Rattle.table.specs.Bounds.{Bounded}
 use Rattle.table.specs.declared.layout.Limits.{Limits}
 use Rattle.picture.proofs.Orders.{Decides, EveryRefusal, Unreadable, and_decides, and_refuses, asked_decides, asked_refuses, read_decides, read_refuses, said_so}
-use Rattle.picture.specs.Asked.{and_then, room_asked}
+use Rattle.picture.specs.Asked.{and_then, room_asked, yes}
 use Rattle.picture.specs.Readable.{FailsAt, Readable}
 use Rattle.picture.specs.Refusal.{refusal_at, short_buffer}
-use Rattle.picture.specs.declared.answer.Asked.TheVariants.{No, Yes}
 use Rattle.picture.specs.declared.answer.Refusal.{Refusal}
 use Rattle.meaning.specs.Covering.{Covers}
 use Rattle.workspace.specs.Prepare.{Acceptable}
@@ -72,7 +72,7 @@ module _ (limits : Limits) where
         )
         (λ r. (λ h. h, λ h. h))
 
-    pub under_yes : (under_asked limits tbox given ≡ Yes) ↔ PreparedUnder limits tbox given
+    pub under_yes : (under_asked limits tbox given ≡ yes) ↔ PreparedUnder limits tbox given
     under_yes = under_decides.yes
 
     pub lent_decides : (enough : Bool) → Decides (lent_under limits enough tbox given)
@@ -83,10 +83,10 @@ module _ (limits : Limits) where
         (λ e. under_decides)
 
     pub lent_yes : (enough : Bool) →
-        (lent_under limits enough tbox given ≡ Yes) ↔ ((enough ≡ true) × PreparedUnder limits tbox given)
+        (lent_under limits enough tbox given ≡ yes) ↔ ((enough ≡ true) × PreparedUnder limits tbox given)
     lent_yes enough = (lent_decides enough).yes
 
-    pub lent_short : (enough : Bool) → enough ≡ false → lent_under limits enough tbox given ≡ No short_buffer
+    pub lent_short : (enough : Bool) → enough ≡ false → lent_under limits enough tbox given ≡ Err short_buffer
     lent_short enough e = ((lent_decides enough).no short_buffer).1 (inl (e, refl))
 
     -- 1; 2 to 13 of the given pictures, and where; 25 to 30, and 2 to 13 of the definitions

@@ -13,6 +13,7 @@ use mathlib.Core.List.{List}
 use mathlib.Core.Logic.{◌↔◌}
 use mathlib.Core.Path.{◌∙◌, ◌≡◌, ap, subst, sym}
 use native.Mathlib.Omega.{arith}
+use Rattle.std.proofs.Common.{Ok}
 use Rattle.table.proofs.Bools.{true_is}
 use Rattle.table.proofs.Ranges.{each_same}
 use Rattle.table.proofs.Tests.{refuted}
@@ -33,7 +34,7 @@ use Rattle.meaning.specs.Meaning.{picture_table, picture_tree}
 use Rattle.countermodel.specs.Individual.{individual_ok, individuals}
 use Rattle.countermodel.specs.Layout.{individual_count}
 use Rattle.evidence.specs.Taken.{RefutationOf}
-use Rattle.evidence.specs.declared.check.Verified.TheVariants.{RefutationTaken}
+use Rattle.evidence.specs.declared.check.Taken.TheVariants.{Refutation}
 use Rattle.definitions.proofs.Idle.{word_set}
 use Rattle.definitions.proofs.Unfolds.{book_sound, picture_unfoldable, unfolded_tree_is}
 use Rattle.definitions.specs.Tbox.{defined_word, tbox_of}
@@ -146,11 +147,10 @@ module _ (limits : Limits) (bounded : Bounded limits) (tbox first second : List 
       }
 
 pub taken_ignored : (limits : Limits) → Bounded limits → (tbox first second e d : List ℕ) (room : ℕ) →
-    OtherDefined limits tbox e d → verify_under limits tbox first second e room ≡ RefutationTaken →
-    verify_under limits tbox first second d room ≡ RefutationTaken
+    OtherDefined limits tbox e d → verify_under limits tbox first second e room ≡ Ok Refutation →
+    verify_under limits tbox first second d room ≡ Ok Refutation
 taken_ignored limits bounded tbox first second e d room other h =
-    let (enough, ok, taken) = kind_shown limits bounded tbox first second e room RefutationTaken
-    (λ r is. let z : ◌≡◌ {A = ℕ} 0 1 = cc in omega arith) h in
+    let (enough, ok, taken) = kind_shown limits bounded tbox first second e room Refutation h in
     let r = (refutation_shown limits bounded tbox first second e room h).1 in
     takes_refutation limits bounded tbox first second ok room enough d
     (refutation_ignored limits bounded tbox first second ok e d other r)

@@ -16,11 +16,9 @@ use mathlib.Core.Path.{◌∙◌, ◌≡◌, subst, sym}
 use Rattle.table.specs.Bounds.{Bounded, picture_size}
 use Rattle.table.specs.declared.layout.Limits.{Limits}
 use Rattle.picture.proofs.Orders.{Decides, EveryRefusal, and_decides, and_refuses, read_decides, said_so, then_same}
-use Rattle.picture.specs.Asked.{and_then}
+use Rattle.picture.specs.Asked.{and_then, Asked, yes}
 use Rattle.picture.specs.Readable.{Readable}
 use Rattle.picture.specs.Refusal.{too_many}
-use Rattle.picture.specs.declared.answer.Asked.{Asked}
-use Rattle.picture.specs.declared.answer.Asked.TheVariants.{Yes}
 use Rattle.picture.specs.declared.answer.Input.TheVariants.{First, Second}
 use Rattle.picture.specs.declared.answer.Refusal.{Refusal}
 use Rattle.meaning.specs.NormalTable.{merged_count}
@@ -56,7 +54,7 @@ module _ (limits : Limits) (bounded : Bounded limits) (tbox : List ℕ) where
         then_same (normalize_before limits tbox picture room) (one_asked limits s room) (merged_asked limits First s)
         (λ e.
         let (long, ok) = (lent_yes limits tbox (one picture) enough).0 e in
-        one_read limits s room (leb-true (picture_size limits) room long) Yes
+        one_read limits s room (leb-true (picture_size limits) room long) yes
         ((read_decides limits First s).yes.1
         (unfolded_readable limits bounded tbox ok.definable picture ok.readable.0 ok.unfolds.0)))
 

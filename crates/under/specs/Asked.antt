@@ -12,8 +12,7 @@
 use Rattle.std.specs.Prelude.{ℕ, leb, Bool, List}
 use Rattle.table.specs.Bounds.{picture_size}
 use Rattle.table.specs.declared.layout.Limits.{Limits}
-use Rattle.picture.specs.Asked.{and_then, asked_from}
-use Rattle.picture.specs.declared.answer.Asked.{Asked}
+use Rattle.picture.specs.Asked.{and_then, asked_from, Asked}
 use Rattle.picture.specs.declared.answer.Input.TheVariants.{Card, First, Second}
 use Rattle.normal.specs.Call.{merged_asked}
 use Rattle.workspace.specs.Lent.{roomy}

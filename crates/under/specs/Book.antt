@@ -8,11 +8,10 @@
 --   MostSpecificUnder              card n is nearest, with covering under definitions
 --   most_specific_under, most_specific_work_under   the answer and the work space: those of the call without a definitions
 --                                  book, for the unfolded case and the unfolded cards
-use Rattle.std.specs.Prelude.{ℕ, ◌<◌, ◌≤◌, leb, length, true, List, ◌∷◌, ◌≡◌}
+use Rattle.std.specs.Prelude.{ℕ, ◌<◌, ◌≤◌, leb, length, true, List, ◌∷◌, ◌≡◌, Result}
 use Rattle.table.specs.declared.layout.Limits.{Limits}
-use Rattle.picture.specs.Asked.{and_then, asked_from, kept, on_asked, read_asked, room_asked}
+use Rattle.picture.specs.Asked.{and_then, asked_from, kept, on_asked, read_asked, room_asked, Asked}
 use Rattle.picture.specs.Readable.{Readable}
-use Rattle.picture.specs.declared.answer.Asked.{Asked}
 use Rattle.picture.specs.declared.answer.Input.TheVariants.{Card, First}
 use Rattle.meaning.specs.NormalTable.{merged_count}
 use Rattle.workspace.specs.Prepare.{work_size}
@@ -20,10 +19,9 @@ use Rattle.fields.specs.Form.{listed}
 use Rattle.book.specs.Call.{card_read, form_asked, most_specific_answer, most_specific_work}
 use Rattle.book.specs.Form.{book_bytes, book_form, card, card_count}
 use Rattle.book.specs.Selection.{MostSpecificBy}
-use Rattle.book.specs.declared.answer.Selected.{Selected}
-use Rattle.book.specs.declared.answer.Selected.TheVariants.{Refused}
 use Rattle.definitions.specs.Asked.{Picture, definitions_asked}
 use Rattle.definitions.specs.Covering.{CoversUnder}
+use Rattle.picture.specs.declared.answer.Refusal.{Refusal}
 use Rattle.definitions.specs.Unfolded.{Definable, Unfolds, unfolded_file}
 
 abbrev pub case_and_cards : List ℕ → List ℕ → List Picture
@@ -61,9 +59,9 @@ MostSpecificUnder limits tbox case book =
     MostSpecificBy (card_count book) (λ k. CoversUnder limits tbox (card book k) case)
     (λ k j. CoversUnder limits tbox (card book k) (card book j))
 
-unfoldable pub most_specific_under : Limits → List ℕ → List ℕ → List ℕ → ℕ → Selected
+unfoldable pub most_specific_under : Limits → List ℕ → List ℕ → List ℕ → ℕ → Result ℕ Refusal
 most_specific_under limits tbox case book room =
-    on_asked Refused (book_before limits tbox case book room)
+    on_asked (book_before limits tbox case book room)
     (most_specific_answer limits (unfolded_file limits tbox case) (unfolded_book limits tbox book) room)
 
 unfoldable pub most_specific_work_under : Limits → List ℕ → List ℕ → List ℕ → List ℕ → List ℕ

@@ -6,27 +6,21 @@
 --   subsumes_under, subsumes_work_under, subsumes_result_under      the verdict with evidence
 --   lcs_under, lcs_work_under, lcs_result_under                     the common picture
 --   verify_under, verify_work_under                               the check of evidence
-use Rattle.std.specs.Prelude.{ℕ, leb, length, List}
+use Rattle.std.specs.Prelude.{ℕ, leb, length, List, Result}
 use Rattle.table.specs.Bounds.{picture_size}
 use Rattle.table.specs.declared.layout.Limits.{Limits}
-use Rattle.picture.specs.Asked.{kept, on_asked}
-use Rattle.picture.specs.declared.answer.Asked.{Asked}
+use Rattle.picture.specs.Asked.{kept, on_asked, Asked}
 use Rattle.normal.specs.Call.{normalize_answer, normalize_result}
-use Rattle.normal.specs.declared.normalize.Normalized.{Normalized}
-use Rattle.normal.specs.declared.normalize.Normalized.TheVariants as normalized
 use Rattle.workspace.specs.Lent.{roomy}
 use Rattle.workspace.specs.Prepare.{work_size}
 use Rattle.evidence.specs.Call.{verify_answer, verify_work}
-use Rattle.evidence.specs.declared.check.Verified.{Verified}
-use Rattle.evidence.specs.declared.check.Verified.TheVariants as verified
 use Rattle.subsumption.specs.Call.{subsumes_answer, subsumes_result, subsumes_work}
 use Rattle.subsumption.specs.Verdict.{evidence_size}
-use Rattle.subsumption.specs.declared.verdict.Verdict.{Verdict}
-use Rattle.subsumption.specs.declared.verdict.Verdict.TheVariants as verdict
 use Rattle.lcs.specs.Call.{lcs_answer, lcs_result, lcs_work}
-use Rattle.lcs.specs.declared.common.Common.{Common}
-use Rattle.lcs.specs.declared.common.Common.TheVariants as common
 use Rattle.definitions.specs.Unfolded.{unfolded_file}
+use Rattle.subsumption.specs.declared.verdict.Verdict.{Verdict}
+use Rattle.evidence.specs.declared.check.Taken.{Taken}
+use Rattle.picture.specs.declared.answer.Refusal.{Refusal}
 use Rattle.under.specs.Given.{lent_under, one, pair}
 
 module _ (limits : Limits) (tbox : List ℕ) where
@@ -38,9 +32,9 @@ module _ (limits : Limits) (tbox : List ℕ) where
     abbrev pub normalize_before : ℕ → Asked
     normalize_before room = lent_under limits (leb (picture_size limits) room) tbox (one picture)
 
-    unfoldable pub normalize_under : ℕ → Normalized
+    unfoldable pub normalize_under : ℕ → Result ℕ Refusal
     normalize_under room =
-        on_asked normalized.Refused (normalize_before room) (normalize_answer limits (unfolded picture) room)
+        on_asked (normalize_before room) (normalize_answer limits (unfolded picture) room)
 
     unfoldable pub normalize_result_under : List ℕ → List ℕ
     normalize_result_under out = kept (normalize_before (length out)) (normalize_result limits (unfolded picture) out) out
@@ -50,9 +44,9 @@ module _ (limits : Limits) (tbox : List ℕ) where
     abbrev pub pair_before : ℕ → ℕ → ℕ → Asked
     pair_before size work result = lent_under limits (roomy limits size work result) tbox (pair first second)
 
-    unfoldable pub subsumes_under : ℕ → ℕ → Verdict
+    unfoldable pub subsumes_under : ℕ → ℕ → Result Verdict Refusal
     subsumes_under work result =
-        on_asked verdict.Refused (pair_before (evidence_size limits) work result)
+        on_asked (pair_before (evidence_size limits) work result)
         (subsumes_answer limits (unfolded first) (unfolded second) work result)
 
     unfoldable pub subsumes_work_under : List ℕ → ℕ → List ℕ
@@ -65,9 +59,9 @@ module _ (limits : Limits) (tbox : List ℕ) where
         kept (pair_before (evidence_size limits) work (length result))
         (subsumes_result limits (unfolded first) (unfolded second) work result) result
 
-    unfoldable pub lcs_under : ℕ → ℕ → Common
+    unfoldable pub lcs_under : ℕ → ℕ → Result ℕ Refusal
     lcs_under work result =
-        on_asked common.Refused (pair_before (picture_size limits) work result)
+        on_asked (pair_before (picture_size limits) work result)
         (lcs_answer limits (unfolded first) (unfolded second) work result)
 
     unfoldable pub lcs_work_under : List ℕ → ℕ → List ℕ
@@ -84,9 +78,9 @@ module _ (limits : Limits) (tbox : List ℕ) where
     abbrev pub verify_before : ℕ → Asked
     verify_before room = lent_under limits (leb (work_size limits) room) tbox (pair first second)
 
-    unfoldable pub verify_under : List ℕ → ℕ → Verified
+    unfoldable pub verify_under : List ℕ → ℕ → Result Taken Refusal
     verify_under evidence room =
-        on_asked verified.Refused (verify_before room)
+        on_asked (verify_before room)
         (verify_answer limits (unfolded first) (unfolded second) evidence room)
 
     unfoldable pub verify_work_under : List ℕ → List ℕ

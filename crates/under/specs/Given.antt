@@ -7,9 +7,8 @@
 --                     and as before 2 to 13 for both pictures; 14 is asked of the unfolded ones
 use Rattle.std.specs.Prelude.{◌≤◌, ℕ, Bool, List, [], ◌∷◌}
 use Rattle.table.specs.declared.layout.Limits.{Limits}
-use Rattle.picture.specs.Asked.{and_then, room_asked}
+use Rattle.picture.specs.Asked.{and_then, room_asked, Asked}
 use Rattle.picture.specs.Readable.{Readable}
-use Rattle.picture.specs.declared.answer.Asked.{Asked}
 use Rattle.picture.specs.declared.answer.Input.TheVariants.{First, Second}
 use Rattle.meaning.specs.NormalTable.{merged_count}
 use Rattle.definitions.specs.Asked.{Picture, asked_of, definitions_asked, read_of}

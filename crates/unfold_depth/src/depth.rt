@@ -12,14 +12,12 @@ pub fn is_shallow(table: &[u8], rows: usize, limit: usize) -> bool
     ensures { result ≡ shallow table.now rows limit }
 {
     let mut depths = [0u8; MAX_ROWS];
-    let mut n = 1;
-    while n < rows {
+    for n in 1..rows {
         let depth = depth_at(table, n, &depths);
         if limit < depth {
             return false;
         }
         depths[n] = depth as u8;
-        n += 1;
     }
     true
 }

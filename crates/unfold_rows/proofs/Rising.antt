@@ -1,6 +1,6 @@
 -- Row i comes up. What it reads as, what it takes in, how it is written anew, and what is hung to it.
 --   row_again                      a row that was read is written with the same parent
---   taken_opened, taken_pictures   names that were taken in are defined
+--   taken_pictures                 names that were taken in are defined
 --   label_shown                    the label that is read is that of the row which it is a copy of
 --   row_unfolded                   the row that is written anew is the unfolded one
 --   names_taken                    the names that were taken in, rising
@@ -45,8 +45,9 @@ use Rattle.tbox.specs.Unfold as Theory
 use Rattle.tbox.specs.Unfold.{Origin, attach, origin_at, taken_by, taking, unfolded_row, visit}
 use Rattle.tbox.proofs.UnfoldedTables.{WantsNone, taken_idle, taking_idle}
 use Rattle.meaning.specs.File.{code_at, mark_code, row_at, rows_from}
-use Rattle.definition_parts.specs.Parts.{Agrees, Opened}
 use Rattle.table_rows.specs.Rows.{prefix}
+use Rattle.definition_parts.specs.Tboxes.{Agreeing}
+use Rattle.definition_parts.specs.declared.opened.Tbox.{Tbox}
 use Rattle.unfold_rows.specs.Growing.{Attached, Capped, Pictures, Rising, Standing, mixed, raw_row}
 use Rattle.unfold_rows.specs.Labels.{LabelRead, relabelled}
 use Rattle.unfold_rows.specs.Takings.{Shows, TakenIn}
@@ -76,19 +77,12 @@ row_again s n p k r m w x m' w' x' h =
 
 -- ---- names that were taken in
 
-pub taken_opened : (tbox starts : List ℕ) (defined taken : ℕ) → Opened tbox starts defined →
-    ((n : ℕ) → has taken n ≡ true → has defined n ≡ true) → Opened tbox starts taken
-taken_opened tbox starts defined taken o known = record {
-  limits = o.limits;
-  bounded = o.bounded;
-  parts = λ n h. o.parts n (known n h);
-  readable = λ n h. o.readable n (known n h);
-}
+module _ (D : Definitions picture_signature) (tbox : Tbox) (agrees : Agreeing D tbox) where
+  abbrev defined : ℕ
+  defined = set_of tbox.defined
 
-module _ (D : Definitions picture_signature) (tbox starts : List ℕ) (defined : ℕ)
-    (agrees : Agrees D tbox starts defined) where
   pub taken_pictures : (taken : ℕ) → ((n : ℕ) → has taken n ≡ true → has defined n ≡ true) →
-      Pictures D tbox starts taken
+      Pictures D tbox taken
   taken_pictures taken known n h =
       agrees.pictures n (true_is (has D.defined.set n) (ap (λ z. has z n) agrees.names ∙ known n h))
 
@@ -146,9 +140,9 @@ module _ (D : Definitions picture_signature) (tbox starts : List ℕ) (defined :
         (lt-ltb i (length v) (omega (arith, standing.count)))
 
     -- the row takes in definitions
-    pub risen_anew : (start t : Taking) → rows ≤ limit → LabelRead d i start → TakenIn start tbox starts defined t →
+    pub risen_anew : (start t : Taking) → rows ≤ limit → LabelRead d i start → TakenIn start tbox t →
         (row m e : List ℕ) (r : ℕ) → row ≡ relabelled d i t defined → m ≡ put d (place i 0) row →
-        Attached tbox starts (set_of t.taken) i limit rows m r e →
+        Attached tbox (set_of t.taken) i limit rows m r e →
         Capped D limit (suc i) (visit picture_signature D p v i) r e
     risen_anew start t small read taken row m e r is at a =
         let h = taken.shows D (record { label = l; taken = [] }) agrees (label_shown start read) in
@@ -217,9 +211,8 @@ module _ (D : Definitions picture_signature) (tbox starts : List ℕ) (defined :
 
 -- ---- room
 
-pub has_row : (tbox starts : List ℕ) (defined i limit rows : ℕ) (out : List ℕ) →
-    Rising tbox starts defined i limit rows out → HasRow out i
-has_row tbox starts defined i limit rows out h =
+pub has_row : (i limit rows : ℕ) (out : List ℕ) → Rising i limit rows out → HasRow out i
+has_row i limit rows out h =
     (omega (arith, h.here, h.within, h.small), omega (arith, h.here, h.within, h.room))
 
 -- row i written anew keeps the length

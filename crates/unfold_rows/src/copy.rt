@@ -34,10 +34,8 @@ pub fn copy_rows(s: &[u8], rows: usize, out: &mut [u8]) -> Builder
         × (Added out.old out.new (copy_bytes s.now (λ p. p) 0 rows) 0 rows) }
 {
     let mut table = Builder::new();
-    let mut k = 0;
-    while k < rows {
+    for k in 0..rows {
         table = table.push(out, copied(s, k, parent(s, k)));
-        k += 1;
     }
     table
 }
@@ -64,11 +62,9 @@ pub fn hang(s: &[u8], i: usize, limit: usize, out: &mut [u8], table: Builder) ->
         return Builder { rows: limit + 1 };
     }
     let mut grown = table;
-    let mut k = 1;
-    while k < rows {
+    for k in 1..rows {
         let above = hung_from(parent(s, k), i, first);
         grown = grown.push(out, copied(s, k, above));
-        k += 1;
     }
     grown
 }

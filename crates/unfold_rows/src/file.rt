@@ -3,29 +3,26 @@ ghost use Rattle.std.specs.Prelude.{◌≡◌, ◌≤◌, length, take};
 ghost use Rattle.table.specs.Bounds.{max_rows};
 ghost use Rattle.table.specs.Layout.{«place», end_size};
 ghost use Rattle.table.specs.NameValues.{set_of};
-ghost use Rattle.unfold_rows.specs.Growing.{Filed, Unfoldable};
+ghost use Rattle.unfold_rows.specs.Growing.{Filed, Growable};
 
 use crate::unfold::unfold;
-use table::layout::{END_SIZE, NAMES, place};
-use table::names::Names;
+use definition_parts::opened::Tbox;
+use table::layout::{END_SIZE, place};
 use table_rows::builder::Builder;
 
 // Writes it, and gives its rows; more than the limit if they are too many.
 pub fn unfold_file(
     picture: &[u8],
     rows: usize,
-    tbox: &[u8],
-    starts: &[usize; NAMES],
-    defined: Names,
+    tbox: &Tbox<'_>,
     limit: usize,
     out: &mut [u8],
 ) -> usize
-    requires { (Unfoldable picture.now rows tbox.now starts.now (set_of defined) limit out.old)
-        × («place» limit end_size ≤ length out.old) }
-    ensures { Filed picture.now tbox.now starts.now (set_of defined) limit result
-        out.old out.new }
+    requires { (Growable picture.now rows limit out.old) × («place» limit end_size ≤ length out.old) }
+    ensures { Filed picture.now tbox.now.bytes.now tbox.now.starts.now (set_of tbox.now.defined) limit
+        result out.old out.new }
 {
-    let count = unfold(picture, rows, tbox, starts, defined, limit, out);
+    let count = unfold(picture, rows, tbox, limit, out);
     if count <= limit {
         let table = Builder { rows: count };
         table.finish(out);

@@ -6,10 +6,9 @@ ghost use Rattle.table.specs.NameValues.{set_of};
 ghost use Rattle.table.specs.Pick.{pick};
 ghost use Rattle.table_rows.specs.Rows.{HasRow};
 ghost use Rattle.ale.specs.Rows.{first_from};
-ghost use Rattle.definition_parts.specs.Parts.{Opened};
 ghost use Rattle.unfold_rows.specs.Takings.{TakenIn, Took, wanting_in};
 
-use definition_parts::part::definition;
+use definition_parts::opened::Tbox;
 use table::layout::NAMES;
 use table::names::Names;
 use table_rows::row::{excluded, impossible, wanted};
@@ -60,19 +59,17 @@ fn take_one(s: Taking, picture: &[u8], name: usize) -> Taking
 }
 
 // The lowest defined name that is still wanted is taken in, again and again.
-pub fn take_in(start: Taking, tbox: &[u8], starts: &[usize; NAMES], defined: Names) -> Taking
-    requires { (set_of start.taken ≡ none) × (Opened tbox.now starts.now (set_of defined)) }
-    ensures { TakenIn start tbox.now starts.now (set_of defined) result }
+pub fn take_in(start: Taking, tbox: &Tbox<'_>) -> Taking
+    requires { set_of start.taken ≡ none }
+    ensures { TakenIn start tbox.now result }
 {
     let mut s = start;
-    let mut left = NAMES;
-    while 0 < left {
-        let name = next_name(s, defined);
+    for _round in 0..NAMES {
+        let name = next_name(s, tbox.defined);
         if name == NAMES {
             return s;
         }
-        s = take_one(s, definition(tbox, starts, name), name);
-        left -= 1;
+        s = take_one(s, tbox.definition(name), name);
     }
     s
 }

@@ -13,13 +13,5 @@ pub fn wants_defined(picture: &[u8], rows: usize, defined: Names) -> bool
     requires { (rows ≡ row_count picture.now) × (rows ≤ max_rows) }
     ensures { result ≡ wants_names picture.now (set_of defined) }
 {
-    let mut j = 0;
-    while j < rows {
-        let names = wanted(picture, j);
-        if names.overlaps(defined) {
-            return true;
-        }
-        j += 1;
-    }
-    false
+    (0..rows).any(|j| wanted(picture, j).overlaps(defined))
 }

@@ -1,2 +1,3 @@
 -- What unfolding a picture needs. Nobody has to believe these.
+pub mod Calls
 pub mod Ready

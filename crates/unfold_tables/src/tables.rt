@@ -9,11 +9,13 @@ ghost use Rattle.normal.specs.Half.{half_of};
 ghost use Rattle.normal_writer.specs.Tables.{Tabled, table_rows};
 ghost use Rattle.definitions.specs.Unfolded.{unfolded_file};
 ghost use Rattle.unfold_rows.specs.Takings.{wants_names};
-ghost use Rattle.unfold_tables.specs.Ready.{Changing, HalfSpace, Made, TableSpace, Unfolding};
+ghost use Rattle.unfold_tables.specs.Calls.{ReturnsAt, TakesAt};
+ghost use Rattle.unfold_tables.specs.Ready.{Changing, HalfSpace, TableSpace, Unfolding};
 
+use definition_parts::opened::Tbox;
 use merged_count::within::is_within;
 use normal_writer::write::{TABLE, build_half, normal_table};
-use table::layout::{Limits, NAMES, ROW_SIZE};
+use table::layout::{Limits, ROW_SIZE};
 use table::names::Names;
 use unfold_rows::file::{file_part, unfold_file};
 use unfold_rows::wants::wants_defined;
@@ -29,133 +31,89 @@ fn is_changed(picture: &[u8], defined: Names) -> bool
     wants_defined(picture, picture.len() / ROW_SIZE, defined)
 }
 
-// The unfolded picture of one that changes, and its rows.
-fn unfold_changed(
+// The unfolded picture of one that changes.
+fn unfold_changed<'a>(
     picture: &[u8],
-    tbox: &[u8],
-    starts: &[usize; NAMES],
-    defined: Names,
+    tbox: &Tbox<'_>,
     limits: Limits,
-    made: &mut [u8],
-) -> usize
-    requires { (Changing limits tbox.now starts.now (set_of defined) picture.now)
+    made: &'a mut [u8],
+) -> &'a [u8]
+    requires { (Changing limits tbox.now.bytes.now tbox.now.starts.now (set_of tbox.now.defined) picture.now)
         × (picture_size limits ≤ length made.old) }
-    ensures { Made limits tbox.now picture.now result made.old made.new }
+    ensures { result.now ≡ unfolded_file limits tbox.now.bytes.now picture.now }
 {
     let rows = picture.len() / ROW_SIZE;
-    unfold_file(picture, rows, tbox, starts, defined, limits.rows, made)
+    let count = unfold_file(picture, rows, tbox, limits.rows, made);
+    file_part(made, count)
 }
 
-// 14 of a picture that unfolding changes.
-fn is_changed_within(
+// What is made of the unfolded picture, in a part that is lent. The limits are passed on, and not captured, so that their
+// numbers are known where the picture is read.
+// Not inlined, so that its array is in no caller's frame.
+#[inline(never)]
+fn with_unfolded<R, F: FnOnce(&[u8], Limits, &mut [u8]) -> R>(
     picture: &[u8],
-    tbox: &[u8],
-    starts: &[usize; NAMES],
-    defined: Names,
+    tbox: &Tbox<'_>,
     limits: Limits,
-) -> bool
-    requires { Changing limits tbox.now starts.now (set_of defined) picture.now }
-    ensures { result
-        ≡ leb (merged_count limits (unfolded_file limits tbox.now picture.now)) limits.rows }
+    out: &mut [u8],
+    make: F,
+) -> R
+    requires ready { Unfolding limits tbox.now.bytes.now tbox.now.starts.now (set_of tbox.now.defined) picture.now }
+    requires callable { TakesAt F.FnOnce make (unfolded_file limits tbox.now.bytes.now picture.now) limits out.old }
+    ensures { ReturnsAt F.FnOnce make (unfolded_file limits tbox.now.bytes.now picture.now) limits out.old
+        result out.new }
 {
+    if !is_changed(picture, tbox.defined) {
+        return make(picture, limits, out);
+    }
     let mut made = [0u8; TABLE];
-    let rows = unfold_changed(picture, tbox, starts, defined, limits, &mut made);
-    is_within(file_part(&made, rows), limits)
+    let file = unfold_changed(picture, tbox, limits, &mut made);
+    make(file, limits, out)
 }
 
 // 14 of the unfolded picture.
-pub fn is_unfolded_within(
-    picture: &[u8],
-    tbox: &[u8],
-    starts: &[usize; NAMES],
-    defined: Names,
-    limits: Limits,
-) -> bool
-    requires { Unfolding limits tbox.now starts.now (set_of defined) picture.now }
+pub fn is_unfolded_within(picture: &[u8], tbox: &Tbox<'_>, limits: Limits) -> bool
+    requires { Unfolding limits tbox.now.bytes.now tbox.now.starts.now (set_of tbox.now.defined) picture.now }
     ensures { result
-        ≡ leb (merged_count limits (unfolded_file limits tbox.now picture.now)) limits.rows }
+        ≡ leb (merged_count limits (unfolded_file limits tbox.now.bytes.now picture.now)) limits.rows }
 {
-    if is_changed(picture, defined) {
-        return is_changed_within(picture, tbox, starts, defined, limits);
-    }
-    is_within(picture, limits)
-}
-
-// The normal table of a picture that unfolding changes.
-fn changed_table(
-    picture: &[u8],
-    tbox: &[u8],
-    starts: &[usize; NAMES],
-    defined: Names,
-    limits: Limits,
-    out: &mut [u8],
-) -> usize
-    requires { (Changing limits tbox.now starts.now (set_of defined) picture.now)
-        × (picture_size limits ≤ length out.old) }
-    ensures { Tabled limits (unfolded_file limits tbox.now picture.now) out.old
-        result out.new }
-{
-    let mut made = [0u8; TABLE];
-    let rows = unfold_changed(picture, tbox, starts, defined, limits, &mut made);
-    normal_table(file_part(&made, rows), limits, out)
+    with_unfolded(
+        picture,
+        tbox,
+        limits,
+        &mut [],
+        |file, limits, _| is_within(file, limits),
+    )
 }
 
 // Writes the normal table of the unfolded picture, and gives its rows; 0 if 14 is answered no (`normal_table`).
-pub fn unfolded_table(
-    picture: &[u8],
-    tbox: &[u8],
-    starts: &[usize; NAMES],
-    defined: Names,
-    limits: Limits,
-    out: &mut [u8],
-) -> usize
-    requires { TableSpace limits tbox.now starts.now (set_of defined) picture.now out.old }
-    ensures { Tabled limits (unfolded_file limits tbox.now picture.now) out.old
+pub fn unfolded_table(picture: &[u8], tbox: &Tbox<'_>, limits: Limits, out: &mut [u8]) -> usize
+    requires { TableSpace limits tbox.now.bytes.now tbox.now.starts.now (set_of tbox.now.defined) picture.now out.old }
+    ensures { Tabled limits (unfolded_file limits tbox.now.bytes.now picture.now) out.old
         result out.new }
 {
-    if is_changed(picture, defined) {
-        return changed_table(picture, tbox, starts, defined, limits, out);
-    }
-    normal_table(picture, limits, out)
-}
-
-// The normal table of a picture that unfolding changes, in a half of the work space.
-fn changed_half(
-    picture: &[u8],
-    tbox: &[u8],
-    starts: &[usize; NAMES],
-    defined: Names,
-    limits: Limits,
-    half: &mut [u8],
-) -> usize
-    requires { (HalfSpace limits tbox.now starts.now (set_of defined) picture.now half.old)
-        × (Changing limits tbox.now starts.now (set_of defined) picture.now) }
-    ensures { (result ≡ table_rows limits (unfolded_file limits tbox.now picture.now))
-        × (half.new
-        ≡ half_of limits (normal_file limits (unfolded_file limits tbox.now picture.now))) }
-{
-    let mut made = [0u8; TABLE];
-    let rows = unfold_changed(picture, tbox, starts, defined, limits, &mut made);
-    build_half(file_part(&made, rows), limits, half)
+    with_unfolded(
+        picture,
+        tbox,
+        limits,
+        out,
+        |file, limits, out| normal_table(file, limits, out),
+    )
 }
 
 // The same in a half of the work space, 14 being answered yes, and the rest of it cleared (`build_half`); the table's
 // rows.
-pub fn unfolded_half(
-    picture: &[u8],
-    tbox: &[u8],
-    starts: &[usize; NAMES],
-    defined: Names,
-    limits: Limits,
-    half: &mut [u8],
-) -> usize
-    requires { HalfSpace limits tbox.now starts.now (set_of defined) picture.now half.old }
-    ensures { (result ≡ table_rows limits (unfolded_file limits tbox.now picture.now))
+pub fn unfolded_half(picture: &[u8], tbox: &Tbox<'_>, limits: Limits, half: &mut [u8]) -> usize
+    requires { HalfSpace limits tbox.now.bytes.now tbox.now.starts.now (set_of tbox.now.defined) picture.now half.old }
+    ensures { (result ≡ table_rows limits (unfolded_file limits tbox.now.bytes.now picture.now))
         × (half.new
-        ≡ half_of limits (normal_file limits (unfolded_file limits tbox.now picture.now))) }
+        ≡ half_of limits (normal_file limits (unfolded_file limits tbox.now.bytes.now picture.now))) }
 {
-    if is_changed(picture, defined) {
-        return changed_half(picture, tbox, starts, defined, limits, half);
-    }
-    build_half(picture, limits, half)
+    with_unfolded(
+        picture,
+        tbox,
+        limits,
+        half,
+        |file, limits, half| build_half(file, limits, half),
+    )
 }

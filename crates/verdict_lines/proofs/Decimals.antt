@@ -6,7 +6,8 @@ use borrow.Author.Tests.{le-ltb, lt-ltb}
 use lib.Dec.{ltb}
 use lib.ListN.{length, length-append}
 use mathlib.Core.Bool.{false, true}
-use mathlib.Core.Path.{◌≡◌, ap}
+use mathlib.Core.List.{List}
+use mathlib.Core.Path.{◌∙◌, ◌≡◌, ap}
 use native.Mathlib.Nat.{one-le-pow, pow-le-pow_right, pow-suc}
 use native.Mathlib.Omega.{arith}
 use Rattle.io.specs.Digits.{IsDigitCount, last_digits, hex_digit_ascii}
@@ -47,9 +48,9 @@ fewest_few (suc k) n small (some, below, least) =
     omega (arith, least (omega arith), one_less k, large) in
     omega (arith, none_more)
 
-pub decimal_digits : (k n : ℕ) → n < 2 ^ 64 → IsDigitCount 10 1 n k → last_digits 10 k n ≡ decimal n
+pub decimal_digits : (k n : ℕ) {s : List ℕ} → n < 2 ^ 64 → IsDigitCount 10 1 n k → s ≡ last_digits 10 k n → s ≡ decimal n
 unfolding decimal
-decimal_digits k n small f = digits_up_to_is 20 k n (fewest_few k n small f) f
+decimal_digits k n small f is = is ∙ digits_up_to_is 20 k n (fewest_few k n small f) f
 
 up_to_short : (most k n : ℕ) → n < 10 ^ suc k → length (digits_up_to most n) ≤ suc k
 up_to_short zero k n l = omega arith

@@ -4,14 +4,15 @@
 --   MapIn                  a buffer begins with a map of n bytes, of tables that are no longer than allowed
 --   Told                   so it does where the verdict is yes
 --   Front                  a buffer begins with a text that is n bytes long
-use Rattle.std.specs.Prelude.{◌*◌, ◌+◌, ◌<◌, ◌≤◌, ℕ, length, take, List, ◌≡◌}
+use Rattle.std.specs.Prelude.{◌*◌, ◌+◌, ◌<◌, ◌≤◌, ℕ, length, take, List, ◌≡◌, Ok, Result}
 use Rattle.std.specs.Counts.{IsPrefixLen}
 use Rattle.table.specs.Bounds.{max_rows}
 use Rattle.table.specs.Layout.{end_size}
 use Rattle.table.specs.Put.{put}
 use Rattle.homomorphism.specs.Layout.{image_of, image_place}
-use Rattle.subsumption.specs.declared.verdict.Verdict.{Verdict}
 use Rattle.subsumption.specs.declared.verdict.Verdict.TheVariants.{Yes}
+use Rattle.subsumption.specs.declared.verdict.Verdict.{Verdict}
+use Rattle.picture.specs.declared.answer.Refusal.{Refusal}
 use Rattle.verdict_lines.specs.Lines.{map_rows, text}
 
 -- no row and no image has a greater number than 255
@@ -31,8 +32,8 @@ pub record MapIn (e : List ℕ) (n : ℕ) : Type 0 where
   pub inside : n ≤ length e
   pub small : (i : ℕ) → i < map_rows n → image_of e i < max_rows
 
-abbrev pub Told : Verdict → List ℕ → Type 0
-Told verdict e = (n : ℕ) → verdict ≡ Yes n → MapIn e n
+abbrev pub Told : Result Verdict Refusal → List ℕ → Type 0
+Told verdict e = (n : ℕ) → verdict ≡ Ok (Yes n) → MapIn e n
 
 pub record Front (d s : List ℕ) (n : ℕ) : Type 0 where
   pub long : n ≡ length s

@@ -14,7 +14,7 @@
 --   output        the lines of a verdict, whose evidence is e
 --   printed       those of two files
 use Prim.Native.Char.{code}
-use Rattle.std.specs.Prelude.{◌%◌, ◌+◌, ◌-◌, ◌/◌, suc, zero, ℕ, ltb, List, [], ◌++◌, ◌∷◌}
+use Rattle.std.specs.Prelude.{◌%◌, ◌+◌, ◌-◌, ◌/◌, suc, zero, ℕ, ltb, List, [], ◌++◌, ◌∷◌, Err, Ok, Result}
 use Prim.Native.String.{String}
 use Prim.Native.String as string
 use Rattle.table.specs.Bounds.{bench_limits}
@@ -27,7 +27,8 @@ use Rattle.workspace.specs.Prepare.{work_size}
 use Rattle.subsumption.specs.Call.{subsumes_answer}
 use Rattle.subsumption.specs.Verdict.{evidence_of, evidence_size}
 use Rattle.subsumption.specs.declared.verdict.Verdict.{Verdict}
-use Rattle.subsumption.specs.declared.verdict.Verdict.TheVariants.{No, Refused, Yes}
+use Rattle.picture.specs.declared.answer.Refusal.{Refusal}
+use Rattle.subsumption.specs.declared.verdict.Verdict.TheVariants.{No, Yes}
 
 abbrev pub text : String → List ℕ
 text string.[] = []
@@ -69,10 +70,10 @@ refused_input (Definition k) = text "refused second "
 abbrev pub refusal_line : Input → ℕ → ℕ → ℕ → List ℕ
 refusal_line input question row byte = refused_input input ++ number question " " ++ number row " " ++ number byte "\n"
 
-unfoldable pub output : Verdict → List ℕ → List ℕ
-output (Yes n) e = text "verdict yes\n" ++ map_lines e (map_rows n)
-output (No n) e = text "verdict no\n"
-output (Refused r) e = refusal_line r.input r.number r.row r.byte
+unfoldable pub output : Result Verdict Refusal → List ℕ → List ℕ
+output (Ok (Yes n)) e = text "verdict yes\n" ++ map_lines e (map_rows n)
+output (Ok (No n)) e = text "verdict no\n"
+output (Err r) e = refusal_line r.input r.number r.row r.byte
 
 unfoldable pub printed : List ℕ → List ℕ → List ℕ
 printed first second =

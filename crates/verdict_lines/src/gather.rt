@@ -5,7 +5,7 @@ ghost use Rattle.verdict_lines.specs.Lines.{map_line, map_lines, map_rows, outpu
 
 use crate::text::{put_number, put_text};
 use map_writer::layout::image;
-use picture::answer::Input;
+use picture::answer::{Input, Refusal};
 use subsumption::verdict::Verdict;
 use table::layout::{END_SIZE, HEAD_SIZE, NUMBER_SIZE};
 
@@ -25,10 +25,8 @@ fn put_map(out: &mut [u8], at: usize, e: &[u8], n: usize) -> usize
 {
     let rows = (n - HEAD_SIZE - END_SIZE) / NUMBER_SIZE;
     let mut end = at;
-    let mut row = 0;
-    while row < rows {
+    for row in 0..rows {
         end = put_row(out, end, row, image(e, row));
-        row += 1;
     }
     end
 }
@@ -62,17 +60,17 @@ fn put_refusal(out: &mut [u8], input: Input, question: u8, row: u16, byte: u16) 
 }
 
 // All lines of a verdict whose evidence stands in a result buffer, from the first byte on; their length.
-pub fn gather(verdict: Verdict, res: &[u8], out: &mut [u8]) -> usize
+pub fn gather(verdict: Result<Verdict, Refusal>, res: &[u8], out: &mut [u8]) -> usize
     requires { (output_size ≤ length out.old) × Told verdict res.now }
     ensures { Front out.new (output verdict res.now) result }
 {
     match verdict {
-        Verdict::Yes(n) => {
+        Ok(Verdict::Yes(n)) => {
             let first = put_text(out, 0, b"verdict yes\n");
             put_map(out, first, res, n)
         }
-        Verdict::No(_) => put_text(out, 0, b"verdict no\n"),
-        Verdict::Refused(refusal) => {
+        Ok(Verdict::No(_)) => put_text(out, 0, b"verdict no\n"),
+        Err(refusal) => {
             let input = refusal.input;
             put_refusal(out, input, refusal.number, refusal.row, refusal.byte)
         }

@@ -21,9 +21,8 @@ pub fn put_number(out: &mut [u8], at: usize, n: u64, after: u8) -> usize
     requires { at + length (decimal n) < length out.old }
     ensures { Added out.old at (decimal n ++ (after ∷ [])) result out.new }
 {
-    let mut digits = [0u8; MOST_DIGITS];
+    let mut digits = [0; MOST_DIGITS];
     let k = io::decimal(n, &mut digits);
     let end = put_text(out, at, &digits[..k]);
-    let last = [after];
-    put_text(out, end, &last)
+    put_text(out, end, &[after])
 }

@@ -1,16 +1,13 @@
 -- A refusal that the program tells names one of the two pictures: its buffers are long enough, so 1 is answered yes.
 --   refused_named   no other input is refused
 use Prim.Native.Nat.{ℕ}
-use lib.ListN.{length}
-use mathlib.Core.Bool.{Bool, false, true}
 use mathlib.Core.List.{List}
 use mathlib.Core.Logic.{◌⊎◌, inl, inr}
 use mathlib.Core.Path.{◌∙◌, ◌≡◌, refl, sym}
 use native.Mathlib.Omega.{arith}
+use Rattle.std.proofs.Common.{Err, Ok}
 use Rattle.table.specs.Bounds.{bench_limits}
-use Rattle.table.specs.Pick.{pick}
 use Rattle.picture.proofs.Orders.{EveryRefusal, refused_by, refuses_no}
-use Rattle.picture.specs.declared.answer.Asked.TheVariants as asked
 use Rattle.picture.specs.declared.answer.Input.TheVariants.{First, Second}
 use Rattle.picture.specs.declared.answer.Refusal.{Refusal}
 use Rattle.workspace.proofs.Lendings.{room_yes}
@@ -18,12 +15,7 @@ use Rattle.workspace.proofs.Pairs.{lent_pair, pair_refuses}
 use Rattle.workspace.specs.Lent.{roomy}
 use Rattle.workspace.specs.Prepare.{pair_asked, work_size}
 use Rattle.subsumption.specs.Call.{subsumes_answer, subsumes_asked, verdict_answer}
-use Rattle.subsumption.specs.Verdict.{evidence_of, evidence_size, verdict_of}
-use Rattle.subsumption.specs.declared.verdict.Verdict.TheVariants.{No, Refused, Yes}
-
-verdict_given_is : (v : Bool) (n : ℕ) (r : Refusal) → pick v (Yes n) (No n) ≡ Refused r → ⊥
-verdict_given_is true n r e = let z : ◌≡◌ {A = ℕ} 0 1 = cc in omega arith
-verdict_given_is false n r e = let z : ◌≡◌ {A = ℕ} 0 1 = cc in omega arith
+use Rattle.subsumption.specs.Verdict.{evidence_size}
 
 abbrev pub NamesPicture : Refusal → Type 0
 NamesPicture r = (r.input ≡ First) ⊎ (r.input ≡ Second)
@@ -45,12 +37,11 @@ module _ (first second : List ℕ) where
       lent_pair bench_limits first second (roomy bench_limits size work size)
       (room_yes bench_limits size work size (omega arith) (omega arith))
 
-  pub refused_named : (r : Refusal) → subsumes_answer bench_limits first second work size ≡ Refused r → NamesPicture r
-  unfolding subsumes_answer verdict_answer
+  pub refused_named : (r : Refusal) → subsumes_answer bench_limits first second work size ≡ Err r → NamesPicture r
+  unfolding subsumes_answer
   refused_named r e =
-      let size_told = length (evidence_of bench_limits first second) in
-      let none = verdict_given_is (verdict_of bench_limits first second) size_told r in
-      let is : subsumes_asked bench_limits first second work size ≡ asked.No r =
-      refused_by Refused (verdict_answer bench_limits first second) (λ p q same. cc) r none
+      let is : subsumes_asked bench_limits first second work size ≡ Err r =
+      refused_by (Ok (verdict_answer bench_limits first second)) r
+      (λ o. let z : ◌≡◌ {A = ℕ} 0 1 = cc in omega arith)
       (subsumes_asked bench_limits first second work size) e in
       refuses_no NamesPicture (pair_asked bench_limits first second) pair_named r (sym asks_pair ∙ is)

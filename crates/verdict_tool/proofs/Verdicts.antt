@@ -8,6 +8,7 @@ use mathlib.Core.Bool.{true}
 use mathlib.Core.List.{List, ◌++◌}
 use mathlib.Core.Path.{◌∙◌, ◌≡◌, ap, refl, subst}
 use native.Mathlib.Omega.{arith}
+use Rattle.std.proofs.Common.{Err, Ok, Result}
 use Rattle.ale.specs.PictureSignature.{picture_signature}
 use Rattle.ale.specs.RowMap.{image}
 use Rattle.ale.specs.Table.{Table}
@@ -18,15 +19,12 @@ use Rattle.homomorphism.specs.Map.{lowest_map}
 use Rattle.meaning.proofs.Normals.{normal_count}
 use Rattle.meaning.specs.Meaning.{picture_table}
 use Rattle.meaning.specs.NormalTable.{merged_count, normal_file}
-use Rattle.picture.specs.Asked.{kept, on_asked}
-use Rattle.picture.specs.declared.answer.Asked.{Asked}
-use Rattle.picture.specs.declared.answer.Asked.TheVariants as asked
+use Rattle.picture.specs.Asked.{kept, on_asked, Asked, yes}
 use Rattle.picture.specs.declared.answer.Refusal.{Refusal}
 use Rattle.subsumption.proofs.Writers.{evidence_size_is, yes_written}
 use Rattle.subsumption.specs.Call.{subsumes_answer, subsumes_asked, subsumes_result, verdict_answer}
 use Rattle.subsumption.specs.Verdict.{evidence_of, evidence_size, map_of, verdict_of}
-use Rattle.subsumption.specs.declared.verdict.Verdict.{Verdict}
-use Rattle.subsumption.specs.declared.verdict.Verdict.TheVariants.{No, Refused, Yes}
+use Rattle.subsumption.specs.declared.verdict.Verdict.TheVariants.{No, Yes}
 use Rattle.table.proofs.Bools.{by_test}
 use Rattle.table.proofs.Numbers.{be_same}
 use Rattle.table.proofs.Puts.{length_put, put_in}
@@ -38,6 +36,7 @@ use Rattle.workspace.proofs.Lendings.{two_decides}
 use Rattle.workspace.specs.Prepare.{Acceptable, work_size}
 use Rattle.verdict_lines.specs.Gathering.{MapIn, Told}
 use Rattle.verdict_lines.specs.Lines.{map_rows, output, printed, text}
+use Rattle.subsumption.specs.declared.verdict.Verdict.{Verdict}
 use Rattle.verdict_lines.proofs.MapLines.{lines_same}
 
 pub image_front : (d e : List ℕ) (i : ℕ) → image_place i + number_size ≤ length e →
@@ -57,14 +56,14 @@ module _ (limits : Limits) (first second buffer : List ℕ) (bounded : Bounded l
   left = put buffer 0 e
 
   -- the verdict's map stands in the buffer, and the lines are those of the evidence
-  abbrev Shown : Verdict → List ℕ → Type 0
+  abbrev Shown : Result Verdict Refusal → List ℕ → Type 0
   Shown v d = Told v d × (output v d ≡ output v e)
 
-  refused_shown : (r : Refusal) (d : List ℕ) → Shown (Refused r) d
+  refused_shown : (r : Refusal) (d : List ℕ) → Shown (Err r) d
   unfolding output
   refused_shown r d = (λ n is. absurd (let z : ◌≡◌ {A = ℕ} 0 1 = cc in omega arith), refl)
 
-  no_shown : (m : ℕ) → Shown (No m) left
+  no_shown : (m : ℕ) → Shown (Ok (No m)) left
   unfolding output
   no_shown m = (λ n is. absurd (let z : ◌≡◌ {A = ℕ} 0 1 = cc in omega arith), refl)
 
@@ -105,7 +104,7 @@ module _ (limits : Limits) (first second buffer : List ℕ) (bounded : Bounded l
             );
           }
 
-      yes_shown : Shown (Yes (length e)) left
+      yes_shown : Shown (Ok (Yes (length e))) left
       unfolding output
       yes_shown = (
         λ n is. let same : length e ≡ n = cc in subst (λ k. MapIn left k) same map_in,
@@ -113,15 +112,15 @@ module _ (limits : Limits) (first second buffer : List ℕ) (bounded : Bounded l
             (lines_same left e (map_rows (length e)) (λ i l. image_front buffer e i (omega (arith, length_map)))),
       )
 
-    pair_shown : Shown (verdict_answer limits first second) left
+    pair_shown : Shown (Ok (verdict_answer limits first second)) left
     unfolding verdict_answer
     pair_shown =
         by_test (verdict_of limits first second) (λ is. rw is (yes_shown is)) (λ is. rw is (no_shown (length e)))
 
-  asked_shown : (a : Asked) → (a ≡ asked.Yes → Acceptable limits first second) →
-      Shown (on_asked Refused a (verdict_answer limits first second)) (kept a left buffer)
-  asked_shown asked.Yes pair = pair_shown (pair refl)
-  asked_shown (asked.No r) pair = refused_shown r buffer
+  asked_shown : (a : Asked) → (a ≡ yes → Acceptable limits first second) →
+      Shown (on_asked a (Ok (verdict_answer limits first second))) (kept a left buffer)
+  asked_shown (Ok _) pair = pair_shown (pair refl)
+  asked_shown (Err r) pair = refused_shown r buffer
 
   call_shown : (work : ℕ) →
       Shown (subsumes_answer limits first second work (length buffer)) (subsumes_result limits first second work buffer)
@@ -130,12 +129,12 @@ module _ (limits : Limits) (first second buffer : List ℕ) (bounded : Bounded l
       asked_shown (subsumes_asked limits first second work (length buffer))
       (λ all. ((two_decides limits first second (evidence_size limits) work (length buffer)).yes.0 all).pair)
 
-module _ (limits : Limits) (first second buffer left : List ℕ) (work : ℕ) (v : Verdict) (bench : limits ≡ bench_limits)
+module _ (limits : Limits) (first second buffer left : List ℕ) (work : ℕ) (v : Result Verdict Refusal) (bench : limits ≡ bench_limits)
     (bounded : Bounded limits) (room : work ≡ work_size bench_limits)
     (long : length buffer ≡ evidence_size bench_limits)
     (answer : v ≡ subsumes_answer limits first second work (length buffer))
     (written : left ≡ subsumes_result limits first second work buffer) where
-  abbrev shown_verdict : Verdict
+  abbrev shown_verdict : Result Verdict Refusal
   shown_verdict = subsumes_answer limits first second work (length buffer)
 
   of_evidence : output shown_verdict (evidence_of limits first second) ≡ printed first second

@@ -9,13 +9,12 @@ use mathlib.Core.Bool.{Bool, false, true}
 use mathlib.Core.List.{List}
 use mathlib.Core.Logic.{◌⊎◌, inl}
 use mathlib.Core.Path.{◌≡◌, refl}
+use Rattle.std.proofs.Common.{Err}
 use Rattle.table.specs.declared.layout.Limits.{Limits}
 use Rattle.picture.proofs.Orders.{Decides, EveryRefusal, Unreadable, and_decides, and_refuses, asked_decides, asked_refuses, read_decides, read_refuses, said_so}
-use Rattle.picture.specs.Asked.{and_then, read_asked, room_asked}
+use Rattle.picture.specs.Asked.{and_then, read_asked, room_asked, Asked}
 use Rattle.picture.specs.Readable.{Readable}
 use Rattle.picture.specs.Refusal.{short_buffer}
-use Rattle.picture.specs.declared.answer.Asked.{Asked}
-use Rattle.picture.specs.declared.answer.Asked.TheVariants.{No}
 use Rattle.picture.specs.declared.answer.Input.TheVariants.{First, Second}
 use Rattle.picture.specs.declared.answer.Refusal.{Refusal}
 use Rattle.meaning.specs.NormalTable.{merged_count}
@@ -64,7 +63,7 @@ module _ (limits : Limits) (first second : List ℕ) where
     lent_decides = and_decides (room_asked enough) (pair_asked limits first second) (asked_decides enough short_buffer)
         (λ e. pair_decides)
 
-    pub lent_short : enough ≡ false → lent_asked limits enough first second ≡ No short_buffer
+    pub lent_short : enough ≡ false → lent_asked limits enough first second ≡ Err short_buffer
     lent_short e = (lent_decides.no short_buffer).1 (inl (e, refl))
 
     pub lent_pair : enough ≡ true → lent_asked limits enough first second ≡ pair_asked limits first second

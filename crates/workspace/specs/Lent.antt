@@ -5,8 +5,7 @@
 --   pair_work    the work space: both tables where all that is answered yes, whatever comes after; else nothing written
 use Rattle.std.specs.Prelude.{ℕ, leb, Bool, ◌&&◌, List}
 use Rattle.table.specs.declared.layout.Limits.{Limits}
-use Rattle.picture.specs.Asked.{and_then, kept, room_asked}
-use Rattle.picture.specs.declared.answer.Asked.{Asked}
+use Rattle.picture.specs.Asked.{and_then, kept, room_asked, Asked}
 use Rattle.workspace.specs.Prepare.{halves_put, pair_asked, work_size}
 
 -- the length named of the result buffer, and how long the two are

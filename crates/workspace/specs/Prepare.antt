@@ -10,9 +10,8 @@ use Rattle.std.specs.Prelude.{◌+◌, ◌≤◌, ℕ, List, ◌++◌}
 use Rattle.table.specs.Bounds.{picture_size}
 use Rattle.table.specs.Put.{put}
 use Rattle.table.specs.declared.layout.Limits.{Limits}
-use Rattle.picture.specs.Asked.{and_then, read_asked}
+use Rattle.picture.specs.Asked.{and_then, read_asked, Asked}
 use Rattle.picture.specs.Readable.{Readable}
-use Rattle.picture.specs.declared.answer.Asked.{Asked}
 use Rattle.picture.specs.declared.answer.Input.TheVariants.{First, Second}
 use Rattle.meaning.specs.NormalTable.{merged_count, normal_file}
 use Rattle.normal.specs.Call.{merged_asked}

@@ -5,22 +5,24 @@ use mathlib.Core.List.{List}
 use mathlib.Core.Path.{◌∙◌, ◌≡◌, subst}
 use native.Mathlib.Omega.{arith}
 use Prim.Native.Nat.{ℕ}
+use Rattle.std.proofs.Common.{Result}
 use Rattle.table.specs.Bounds.{Bounded, bench_limits}
 use Rattle.table.specs.Fields.{end_bytes}
 use Rattle.table.specs.Number.{be_bytes}
 use Rattle.table.specs.declared.layout.Limits.{Limits}
 use Rattle.definitions.proofs.Empty.{end_count, end_form}
 use Rattle.subsumption.specs.Verdict.{evidence_size}
-use Rattle.subsumption.specs.declared.verdict.Verdict.{Verdict}
 use Rattle.under.proofs.Empty.{empty_subsumes, empty_subsumes_result}
 use Rattle.under.specs.Calls.{subsumes_result_under, subsumes_under}
 use Rattle.workspace.specs.Prepare.{work_size}
 use Rattle.verdict_lines.specs.Gathering.{Front, Told}
 use Rattle.verdict_lines.specs.Lines.{output, printed}
 use Rattle.verdict_tool.proofs.Verdicts.{call_lines}
+use Rattle.subsumption.specs.declared.verdict.Verdict.{Verdict}
+use Rattle.picture.specs.declared.answer.Refusal.{Refusal}
 use Rattle.verdict_tool.proofs.answer.Goals as goal
 
-shown : (limits : Limits) (first second buffer left : List ℕ) (work : ℕ) (v : Verdict) → limits ≡ bench_limits →
+shown : (limits : Limits) (first second buffer left : List ℕ) (work : ℕ) (v : Result Verdict Refusal) → limits ≡ bench_limits →
     Bounded limits → work ≡ work_size bench_limits → length buffer ≡ evidence_size bench_limits →
     v ≡ subsumes_under limits end_bytes first second work (length buffer) →
     left ≡ subsumes_result_under limits end_bytes first second work buffer →

@@ -1,85 +1,42 @@
--- The table is found, cached for the later cards, and compared with those of the earlier ones.
--- the book of the unfolded cards
-use Prim.Native.Nat.{◌+◌, ℕ}
+-- The table is found, kept for the later cards, and compared with those of the earlier ones.
 use native.Mathlib.Omega.{arith}
-use mathlib.Core.List.{List}
-use mathlib.Core.Path.{◌∙◌, ap, subst, sym}
-use Rattle.table.specs.NameSet.{has}
+use mathlib.Core.Path.{◌∙◌, refl}
+use Rattle.table_rows.proofs.Stores.{blank}
 use Rattle.fields.proofs.Forms.{count_most}
 use Rattle.book.specs.Form.{card_tag}
-use Rattle.book_tables.specs.Cache.{Cached}
-use Rattle.under.specs.Book.{unfolded_book}
-use Rattle.book_selection.specs.Comparing.{Compared}
-use Rattle.book_selection.specs.Standing.{Stands}
-use Rattle.book_selection.proofs.Standings.{stands_whole}
+use Rattle.book_selection.proofs.Standings.{stands_bytes, stands_checkable}
 use Rattle.book_selection.proofs.compare.compare_card.Goals as goal
 
-pub find_table-own-requires : goal.find_table-own-requires
-find_table-own-requires c =
-    let (taken, pre) = c.requires in (
-      taken,
-      record {
-        bounded = pre.bounded;
-        cached = record { taken = pre.taken; at = _; cache_is = pre.cached };
-        below = pre.below;
-        room = omega (arith, pre.long);
-      },
-    )
+pub keep_made-requires-clause-below : goal.keep_made-requires-clause-below
+keep_made-requires-clause-below c = omega (arith, count_most card_tag c.args.book.now)
 
-pub cache_table-at-requires : goal.cache_table-at-requires
-cache_table-at-requires c =
-    let again : List ℕ = unfolded_book c.args.limits c.args.tbox.now c.args.book.now in
-    let a = c.args in
-    let pre = c.requires.1 in
-    let find = c.find_table-own in
-    let stands = find.ensures.stands in
-    record {
-      few = stands.inside.few;
-      first = find.ensures.first;
-      whole = λ outside. stands_whole a.limits (again) find.new.work find.result
-          a.tables.now outside stands;
-      below = omega (arith, find.ensures.card_is, pre.below, count_most card_tag (again));
-      inside = pre.cached.long;
-      spanned = pre.cached.spanned;
-    }
+pub keep_made-requires-clause-checkable : goal.keep_made-requires-clause-checkable
+keep_made-requires-clause-checkable c =
+    let known = c.requires.known in
+    let found = c.find_table-spot in
+    stands_checkable _ _ c.args.cache.now found.new.part known.bounded known.cached.inside (omega arith) found.result found.ensures
 
-pub compare_earlier-redundant-requires : goal.compare_earlier-redundant-requires
-compare_earlier-redundant-requires c =
-    let again : List ℕ = unfolded_book c.args.limits c.args.tbox.now c.args.book.now in
-    let kept : let a = c.args in let tables = c.cache_table-at.new.tables in (Cached a.limits (again) tables c.cache_table-at.new.spans c.cache_table-at.result) × (Stands a.limits (again) tables c.find_table-own.new.work c.find_table-own.result) = let a = c.args in
-    c.cache_table-at.ensures.0 a.limits (again) c.requires.1.cached
-    c.find_table-own.ensures.stands in
-    let a = c.args in
-    let (taken, pre) = c.requires in
-    let is = c.find_table-own.ensures.card_is in (
-      taken,
-      record {
-        bounded = pre.bounded;
-        cached = record { taken = pre.taken; at = _; cache_is = (kept).0 };
-        stands = (kept).1;
-        first = c.find_table-own.ensures.first;
-        below = omega (arith, is, pre.below);
-        covers = ap (has a.covering) is ∙ pre.covers;
-        compared =
-            subst (λ k. Compared a.limits (again) a.covering k a.progress.redundant) (sym is)
-            pre.compared;
-        long = c.find_table-own.ensures.same ∙ pre.long;
-      },
-    )
+pub table_of-own-requires-clause-checkable : goal.table_of-own-requires-clause-checkable
+table_of-own-requires-clause-checkable c =
+    let known = c.requires.known in
+    let found = c.find_table-spot in
+    let kept = c.keep_made.ensures c.args.limits _ known.cached found.ensures in
+    stands_checkable _ _ c.keep_made.new.cache found.new.part known.bounded kept.0.inside (omega arith) found.result kept.1
 
-pub returns : goal.returns
-returns c =
-    let again : List ℕ = unfolded_book c.args.limits c.args.tbox.now c.args.book.now in
-    let kept : let a = c.args in let tables = c.cache_table-at.new.tables in (Cached a.limits (again) tables c.cache_table-at.new.spans c.cache_table-at.result) × (Stands a.limits (again) tables c.find_table-own.new.work c.find_table-own.result) = let a = c.args in
-    c.cache_table-at.ensures.0 a.limits (again) c.requires.1.cached
-    c.find_table-own.ensures.stands in
-    let a = c.args in
-    let is = c.find_table-own.ensures.card_is in (
-      (
-        subst
-            (λ k. Compared a.limits (again) a.covering (k + 1) c.compare_earlier-redundant.result) is
-            c.compare_earlier-redundant.ensures.0,
-        (kept).0,
-      ),
-      (c.cache_table-at.ensures.1, c.compare_earlier-redundant.ensures.1 ∙ c.find_table-own.ensures.same),
-    )
+pub table_of-own-requires-clause-empty : goal.table_of-own-requires-clause-empty
+table_of-own-requires-clause-empty c = blank 512 512 refl
+
+pub compare_earlier-requires-clause-known : goal.compare_earlier-requires-clause-known
+compare_earlier-requires-clause-known c =
+    let known = c.requires.known in
+    let kept = c.keep_made.ensures c.args.limits _ known.cached c.find_table-spot.ensures in
+    record { bounded = known.bounded; taken = known.taken; cached = kept.0 }
+
+pub compare_earlier-requires-clause-own : goal.compare_earlier-requires-clause-own
+compare_earlier-requires-clause-own c =
+    let found = c.find_table-spot in
+    let kept = c.keep_made.ensures c.args.limits _ c.requires.known.cached found.ensures in
+    c.table_of-own.ensures ∙ stands_bytes _ _ c.keep_made.new.cache found.new.part found.result kept.1
+
+pub returns-clause-cached : goal.returns-clause-cached
+returns-clause-cached c = (c.keep_made.ensures c.args.limits _ c.requires.known.cached c.find_table-spot.ensures).0

@@ -1,38 +1,44 @@
 -- The card is the part of the book that is looked up; what is found in the definitions book is what unfolding needs.
-use native.Mathlib.Omega.{arith}
-use mathlib.Core.Path.{◌∙◌}
-use Rattle.table.specs.NameValues.{set_of}
-use Rattle.unfold_tables.specs.Ready.{Ready}
-use Rattle.book_tables.proofs.CardTables.{card_room, card_tabled}
+use Rattle.std.proofs.lemmas.Option.{MatchOption-at_some}
+use Rattle.std.specs.Option.{option_copied}
+use mathlib.Core.Path.{◌∙◌, ap, sym}
+use Rattle.definitions_reader.proofs.Indexes.{index_there}
+use Rattle.definitions_reader.specs.Index.{Indexes}
+use Rattle.book_tables.proofs.CardTables.{card_made, card_room}
 use Rattle.book_selection.proofs.spot.make_table.Goals as goal
+use Rattle.book_selection.proofs.spot.make_table.Goals.{After-unwrap-index}
 
-pub index_of-index-requires : goal.index_of-index-requires
-index_of-index-requires c = record { placed = c.find_fields-fields.ensures; form = c.requires.taken.accepted.prepared.definable.form }
+pub unwrap-index-requires : goal.unwrap-index-requires
+unwrap-index-requires c =
+    c.as_ref.ensures.variant ∙ index_there _ _ c.index_of-found.ensures c.requires.taken.accepted.prepared.definable.once
 
-pub card-requires : goal.card-requires
-card-requires c =
-    let placed = c.find_cards-cards.ensures in
-    let below = c.requires.below in
-    (placed, omega (arith, placed.counted, below))
+found : (c : After-unwrap-index) → Indexes c.args.tbox.now c.unwrap-index.result.now
+found c =
+    (MatchOption-at_some _ _ _ (sym c.as_ref.ensures.value ∙ ap option_copied c.unwrap-index.ensures)
+    c.index_of-found.ensures).1
+
+pub invariant_of-opened : goal.invariant_of-opened
+invariant_of-opened c =
+    record {
+      opened = (found (goal.at.invariant_of-opened c).After-unwrap-index).opened c.args.limits c.requires.bounded
+          c.requires.taken.accepted.prepared.definable.readable;
+    }
 
 pub unfolded_table-requires : goal.unfolded_table-requires
 unfolded_table-requires c =
-    let ready : let a = c.args in let index = c.index_of-index.result in Ready a.limits a.tbox.now index.starts (set_of index.defined) = let bounded = c.requires.bounded in
-    let book = c.requires.taken.accepted.prepared.definable in
-    let found = c.index_of-index.ensures in
-    let once = found.single ∙ book.once in
-    record {
-      bounded = bounded;
-      definable = book;
-      opened = found.opened once c.args.limits bounded book.readable;
-      agrees = found.agrees once;
-    } in
     let pre = c.requires in
-    card_room pre.bounded pre.taken c.args.k pre.below c.card.ensures (ready)
-    pre.space
+    let book = pre.taken.accepted.prepared.definable in
+    let index = found (goal.at.unfolded_table-requires c).After-unwrap-index in
+    card_room pre.bounded pre.taken c.args.k pre.below c.card.ensures
+    (record {
+      bounded = pre.bounded;
+      definable = book;
+      opened = index.opened c.args.limits pre.bounded book.readable;
+      agrees = index.agrees;
+    })
+    pre.room
 
 pub returns : goal.returns
 returns c =
     let pre = c.requires in
-    card_tabled pre.bounded pre.taken c.args.k pre.below
-    c.card.ensures c.unfolded_table.ensures
+    card_made pre.bounded pre.taken c.args.k pre.below c.card.ensures c.unfolded_table.ensures

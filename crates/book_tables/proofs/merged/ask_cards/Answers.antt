@@ -17,7 +17,7 @@ use Rattle.unfold_tables.specs.Ready.{Unfolding}
 use Rattle.book_tables.proofs.merged.ask_cards.Goals as goal
 
 pub loop-k-init : goal.loop-k-init
-loop-k-init c = (omega arith, λ j l. absurd (omega arith))
+loop-k-init c = λ j l. absurd (omega arith)
 
 pub card-requires : goal.card-requires
 card-requires c = (c.requires.places_are, c.loop-k-test.true)
@@ -25,7 +25,7 @@ card-requires c = (c.requires.places_are, c.loop-k-test.true)
 pub is_unfolded_within-requires : goal.is_unfolded_within-requires
 is_unfolded_within-requires c =
     let a = c.args in
-    subst (λ s. Unfolding a.limits a.tbox.now a.books.starts (set_of a.books.defined) s)
+    subst (λ s. Unfolding a.limits a.tbox.now.bytes.now a.tbox.now.starts.now (set_of a.tbox.now.defined) s)
     (sym c.card.ensures)
     (c.requires.each c.loop-k.k c.loop-k-test.true)
 
@@ -36,46 +36,36 @@ overflow_cast-k c =
 
 pub returns-then-not-is_unfolded_within : goal.returns-then-not-is_unfolded_within
 returns-then-not-is_unfolded_within c =
-    let asked_of : List ℕ = let a = c.args in unfolded_file a.limits a.tbox.now (card a.book.now c.loop-k.k) in
+    let asked_of : List ℕ = let a = c.args in unfolded_file a.limits a.tbox.now.bytes.now (card a.book.now c.loop-k.k) in
     let says : let a = c.args in c.is_unfolded_within.result ≡ leb (merged_count a.limits (asked_of)) a.limits.rows = let a = c.args in
     c.is_unfolded_within.ensures
-    ∙ ap (λ (s : List _). leb (merged_count a.limits (unfolded_file a.limits a.tbox.now s)) a.limits.rows)
+    ∙ ap (λ (s : List _). leb (merged_count a.limits (unfolded_file a.limits a.tbox.now.bytes.now s)) a.limits.rows)
     c.card.ensures in
     let a = c.args in
     let k = c.loop-k.k in
     let no = merged_many a.limits (Card k) (asked_of)
     (sym (says) ∙ c.if-not-is_unfolded_within.true) in
     rw c.too_many.ensures
-    (sym (to_no (card_few a.limits a.tbox.now a.book.now) a.books.cards.count k (too_many (Card k))
-    c.loop-k-test.true no c.loop-k.invariant.1))
-
-pub overflow_add-k : goal.overflow_add-k
-overflow_add-k c =
-    let most = c.requires.places_are.located.most in
-    omega (arith, c.loop-k-test.true, most)
-
-pub loop-k-smaller : goal.loop-k-smaller
-loop-k-smaller c = omega (arith, c.loop-k-test.true)
+    (sym (to_no (card_few a.limits a.tbox.now.bytes.now a.book.now) a.cards.count k (too_many (Card k))
+    c.loop-k-test.true no c.loop-k.invariant))
 
 pub loop-k-preserved : goal.loop-k-preserved
 loop-k-preserved c =
-    let asked_of : List ℕ = let a = c.args in unfolded_file a.limits a.tbox.now (card a.book.now c.loop-k.k) in
+    let asked_of : List ℕ = let a = c.args in unfolded_file a.limits a.tbox.now.bytes.now (card a.book.now c.loop-k.k) in
     let says : let a = c.args in c.is_unfolded_within.result ≡ leb (merged_count a.limits (asked_of)) a.limits.rows = let a = c.args in
     c.is_unfolded_within.ensures
-    ∙ ap (λ (s : List _). leb (merged_count a.limits (unfolded_file a.limits a.tbox.now s)) a.limits.rows)
+    ∙ ap (λ (s : List _). leb (merged_count a.limits (unfolded_file a.limits a.tbox.now.bytes.now s)) a.limits.rows)
     c.card.ensures in
     let a = c.args in
     let k = c.loop-k.k in
     let few = leb-true (merged_count a.limits (asked_of)) a.limits.rows
-    (sym (says) ∙ c.if-not-is_unfolded_within.false) in (
-      omega (arith, c.loop-k-test.true),
-      yes_on (card_few a.limits a.tbox.now a.book.now) k
-          ((merged_decides a.limits (Card k) (asked_of)).yes.1 few) c.loop-k.invariant.1,
-    )
+    (sym (says) ∙ c.if-not-is_unfolded_within.false) in
+    yes_on (card_few a.limits a.tbox.now.bytes.now a.book.now) k
+    ((merged_decides a.limits (Card k) (asked_of)).yes.1 few) c.loop-k.invariant
 
 pub returns : goal.returns
 returns c =
     let a = c.args in
     let loop = c.loop-k in
-    sym (to_yes (card_few a.limits a.tbox.now a.book.now) a.books.cards.count loop.k
-    c.loop-k-test.false loop.invariant.1)
+    sym (to_yes (card_few a.limits a.tbox.now.bytes.now a.book.now) a.cards.count loop.k
+    c.loop-k-test.false loop.invariant)

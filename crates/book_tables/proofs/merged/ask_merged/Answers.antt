@@ -22,7 +22,7 @@ is_unfolded_within-requires c =
 
 pub returns-then-not-is_unfolded_within : goal.returns-then-not-is_unfolded_within
 returns-then-not-is_unfolded_within c =
-    let asked_of : List ℕ = let a = c.args in unfolded_file a.limits a.tbox.now a.case.now in
+    let asked_of : List ℕ = let a = c.args in unfolded_file a.limits a.tbox.now.bytes.now a.case.now in
     let many = sym c.is_unfolded_within.ensures ∙ c.if-not-is_unfolded_within.true in
     sym (rw (merged_many c.args.limits First (asked_of) many, c.too_many.ensures))
 
@@ -37,7 +37,7 @@ ask_cards-requires c =
 
 pub returns : goal.returns
 returns c =
-    let asked_of : List ℕ = let a = c.args in unfolded_file a.limits a.tbox.now a.case.now in
+    let asked_of : List ℕ = let a = c.args in unfolded_file a.limits a.tbox.now.bytes.now a.case.now in
     let limits = c.args.limits in
     let few = leb-true (merged_count limits (asked_of)) limits.rows
     (sym c.is_unfolded_within.ensures ∙ c.if-not-is_unfolded_within.false) in

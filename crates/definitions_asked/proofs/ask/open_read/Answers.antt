@@ -1,51 +1,49 @@
 -- A no of 26, or what is left to ask of the pictures; where all is yes, the index is what was looked for.
-use borrow.Author.Tests.{not-false, not-true}
-use mathlib.Core.List.{List}
-use mathlib.Core.Path.{◌∙◌, subst, sym}
-use Rattle.picture.specs.Refusal.{refusal}
-use Rattle.picture.specs.declared.answer.Asked.TheVariants.{No}
-use Rattle.picture.specs.declared.answer.Input.TheVariants.{Definitions}
-use Rattle.definitions.specs.Asked.{Picture}
+use mathlib.Core.Path.{◌∙◌, ◌≡◌, sym}
+use Rattle.std.proofs.lemmas.Option.{MatchOption-at_none, MatchOption-at_some}
+use Rattle.picture.proofs.Exits.{exits}
+use Rattle.definitions.specs.Asked.{definitions_asked}
 use Rattle.definitions_reader.proofs.DefinitionsInTurn.{all_readable}
-use Rattle.definitions_asked.specs.Asking.{Bare}
 use Rattle.definitions_asked.specs.Given.{given_of}
-use Rattle.definitions_asked.proofs.Openings.{found_ready, opens_refused, pictures_left, refused_names}
+use Rattle.definitions_asked.proofs.Openings.{found_ready, pictures_left, refused_names}
 use Rattle.definitions_asked.proofs.ask.open_read.Goals as goal
+use Rattle.definitions_asked.proofs.ask.open_read.Goals.{After-ask_pictures}
 
-pub returns-then-not-index : goal.returns-then-not-index
-returns-then-not-index c =
-    let given : List Picture = given_of c.args.first.now c.args.other.now c.args.rest c.args.cards in
+-- what is asked is what `ask_pictures` answers
+left : (c : After-ask_pictures) →
+    definitions_asked c.args.limits c.args.tbox.now (given_of c.args.first.now c.args.rest.now) ≡ c.ask_pictures.result
+left c =
     let a = c.args in
-    let reading = c.requires in
-    opens_refused a.limits a.tbox.now (given) (refusal 26 Definitions)
-    (refused_names a.limits a.tbox.now (given) reading.formed.form reading.reads
-    (sym c.index_of-index.ensures.single ∙ not-true _ c.if-not-index.true))
-    c.bare.result (subst (λ q. Bare (No q) c.bare.result) c.refuse.ensures c.bare.ensures)
+    pictures_left a.limits a.tbox.now (given_of a.first.now a.rest.now) c.requires.formed.form c.requires.reads
+    (MatchOption-at_some _ _ _ c.in-Some.is c.index_of-found.ensures).0
+    ∙ sym c.ask_pictures.ensures
 
-pub ask_pictures-asked-requires : goal.ask_pictures-asked-requires
-ask_pictures-asked-requires c =
+pub returns-in_default : goal.returns-in_default
+returns-in_default c =
     let a = c.args in
-    let indexed = c.index_of-index.ensures in
-    let once = not-false _ c.if-not-index.false in
+    rw c.refuse.ensures
+    (refused_names a.limits a.tbox.now (given_of a.first.now a.rest.now) c.requires.formed.form c.requires.reads
+    (MatchOption-at_none _ _ c.in_default.is c.index_of-found.ensures))
+
+pub invariant_of-opened : goal.invariant_of-opened
+invariant_of-opened c =
+    let a = c.args in
+    let indexes = (MatchOption-at_some _ _ _ c.in-Some.is c.index_of-found.ensures).1 in
     record {
-      reading = c.requires;
-      opened = indexed.opened once a.limits c.requires.given.bounded
+      opened = indexes.opened a.limits c.requires.given.bounded
           (all_readable a.limits a.tbox.now c.requires.reads);
-      agrees = indexed.agrees once;
     }
+
+pub returns-in_err-ask_pictures : goal.returns-in_err-ask_pictures
+returns-in_err-ask_pictures c =
+    rw (exits c.from_residual.result _ c.from_residual.ensures.1)
+    (left (goal.at.returns-in_err-ask_pictures c).After-ask_pictures ∙ c.in_err-ask_pictures.was)
 
 pub returns : goal.returns
 returns c =
-    let given : List Picture = given_of c.args.first.now c.args.other.now c.args.rest c.args.cards in
     let a = c.args in
-    let reading = c.requires in
-    let indexed = c.index_of-index.ensures in
-    let once = not-false _ c.if-not-index.false in
-    let is = c.ask_pictures-asked.ensures
-    ∙ sym (pictures_left a.limits a.tbox.now (given) reading.formed.form reading.reads
-    (sym indexed.single ∙ once)) in
-    record {
-      asked_is = is;
-      found = λ e. found_ready a.limits a.tbox.now (given) reading.given.bounded
-          c.index_of-index.result indexed once (sym is ∙ e);
-    }
+    let all = left (goal.at.returns c).After-ask_pictures ∙ c.in_ok-ask_pictures.was in (
+      all,
+      found_ready a.limits a.tbox.now (given_of a.first.now a.rest.now) c.requires.given.bounded _
+          (MatchOption-at_some _ _ _ c.in-Some.is c.index_of-found.ensures).1 all,
+    )

@@ -24,12 +24,12 @@ pub returns-then-not-wants_defined : goal.returns-then-not-wants_defined
 returns-then-not-wants_defined c =
     let a = c.args in
     let agrees = c.requires.known.agrees in
-    measured_idle a.limits a.tbox.now a.input a.picture.now a.before c.requires.readable
-    (sym (wants_same a.tbox.now a.picture.now a.starts.now (set_of a.defined) agrees)
+    measured_idle a.limits a.tbox.now.bytes.now a.input a.picture.now a.before c.requires.readable
+    (sym (wants_same a.tbox.now.bytes.now a.picture.now a.tbox.now.starts.now (set_of a.tbox.now.defined) agrees)
     ∙ sym c.wants_defined.ensures ∙ c.if-not-wants_defined.true)
 
-pub returns-in-No : goal.returns-in-No
-returns-in-No c =
+pub returns-in-Err : goal.returns-in-Err
+returns-in-Err c =
     let a = c.args in
-    measured_stopped a.limits a.tbox.now a.input a.picture.now a.before
-    c.in-No.field-0 c.in-No.is
+    measured_stopped a.limits a.tbox.now.bytes.now a.input a.picture.now a.before
+    c.in-Err.field-0 c.in-Err.is

@@ -5,24 +5,16 @@ use lib.ListN.{drop, length, length-drop}
 use lib.Seq.{take_all}
 use mathlib.Core.Path.{◌∙◌, ap}
 use Rattle.definitions.specs.Form.{definition_file}
-use Rattle.definitions.proofs.Coverings.{name_byte}
+use Rattle.definitions_form.proofs.NamedDefinitions.{has_name}
 use Rattle.definitions_form.proofs.form.picture_of.Goals as goal
 
 pub slice_bounds-result-count : goal.slice_bounds-result-count
 slice_bounds-result-count c =
-    let has_name : 1 ≤ length c.value-definition.result.now = let formed = c.requires.0 in
-    let has = name_byte c.args.tbox.now formed.form c.args.k
-    (omega (arith, c.requires.1, formed.placed.counted)) in
-    omega (arith, has, ap length c.value-definition.ensures) in
-    omega (arith, has_name)
+    omega (arith, has_name c.args.tbox.now c.value-definition.result.now c.args.fields c.args.k c.requires.0 c.requires.1 c.value-definition.ensures)
 
 pub slice_bounds-result-start : goal.slice_bounds-result-start
 slice_bounds-result-start c =
-    let has_name : 1 ≤ length c.value-definition.result.now = let formed = c.requires.0 in
-    let has = name_byte c.args.tbox.now formed.form c.args.k
-    (omega (arith, c.requires.1, formed.placed.counted)) in
-    omega (arith, has, ap length c.value-definition.ensures) in
-    omega (arith, has_name)
+    omega (arith, has_name c.args.tbox.now c.value-definition.result.now c.args.fields c.args.k c.requires.0 c.requires.1 c.value-definition.ensures)
 
 pub returns : goal.returns
 unfolding definition_file

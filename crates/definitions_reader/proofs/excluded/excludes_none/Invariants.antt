@@ -8,7 +8,6 @@ use Rattle.definitions_reader.specs.Excluded.{excludes_at, excludes_none_of}
 use Rattle.definitions_reader.proofs.excluded.excludes_none.Given as goal
 
 abbrev pub invariant-loop-j : goal.invariant-loop-j
-invariant-loop-j l = excludes_none_of l.picture (set_of l.defined) ≡ each (λ k. not (excludes_at l.picture (set_of l.defined) k)) (l.rows - l.j) l.j
-
-abbrev pub decreases-loop-j : goal.decreases-loop-j
-decreases-loop-j l = l.rows - l.j
+invariant-loop-j l =
+    excludes_none_of l.picture (set_of l.defined)
+    ≡ each (λ k. not (excludes_at l.picture (set_of l.defined) k)) (l.rows - l.j) l.j

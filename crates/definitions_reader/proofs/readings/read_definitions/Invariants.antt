@@ -1,5 +1,4 @@
 -- At the loop's head the definitions below k have passed.
-use Prim.Native.Nat.{◌-◌}
 use Rattle.picture.proofs.ReadInTurn.{ReadTo}
 use Rattle.picture.specs.declared.answer.Input.TheVariants.{Definition}
 use Rattle.definitions.specs.Form.{definition_count, definition_file}
@@ -7,6 +6,3 @@ use Rattle.definitions_reader.proofs.readings.read_definitions.Given as goal
 
 abbrev pub invariant-loop-k : goal.invariant-loop-k
 invariant-loop-k l = ReadTo l.limits Definition (definition_file l.tbox) (definition_count l.tbox) l.k
-
-abbrev pub decreases-loop-k : goal.decreases-loop-k
-decreases-loop-k l = l.fields.count - l.k

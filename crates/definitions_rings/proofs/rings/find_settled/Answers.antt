@@ -9,34 +9,22 @@ use Rattle.definitions_rings.proofs.rings.find_settled.Goals as goal
 pub loop-round-init : goal.loop-round-init
 loop-round-init c =
     let a = c.args in
-    (omega arith, c.none-done.ensures ∙ sym (settled_none (uses_at a.uses) (set_of a.defined)))
+    c.none-done.ensures ∙ sym (settled_none (uses_at a.uses) (set_of a.defined))
 
 pub returns-then-subset : goal.returns-then-subset
 returns-then-subset c =
-    let next = c.settle-next in
-    let l = c.loop-round in
     let a = c.args in
-    round_last (uses_at a.uses) (set_of a.defined) _ _ _ name_count l.invariant.1 next.ensures
-    (sym c.subset.ensures ∙ c.if-subset.true) l.invariant.0
-
-pub overflow_add-round : goal.overflow_add-round
-overflow_add-round c = omega (arith, c.loop-round-test.true)
-
-pub loop-round-smaller : goal.loop-round-smaller
-loop-round-smaller c = omega (arith, c.loop-round-test.true)
+    round_last (uses_at a.uses) (set_of a.defined) _ _ _ name_count c.loop-round.invariant c.settle-next.ensures
+    (sym c.subset.ensures ∙ c.if-subset.true) (omega arith)
 
 pub loop-round-preserved : goal.loop-round-preserved
 loop-round-preserved c =
-    let next = c.settle-next in
-    let l = c.loop-round in
-    let a = c.args in (
-      omega (arith, c.loop-round-test.true),
-      round_more (uses_at a.uses) (set_of a.defined) _ _ _ l.invariant.1 next.ensures,
-    )
+    let a = c.args in
+    round_more (uses_at a.uses) (set_of a.defined) _ _ _ c.loop-round.invariant c.settle-next.ensures
 
 pub returns : goal.returns
 returns c =
     let l = c.loop-round in
     let a = c.args in
-    let all : l.round ≡ name_count = omega (arith, l.invariant.0, c.loop-round-test.false) in
-    l.invariant.1 ∙ ap (settled_set (uses_at a.uses) (set_of a.defined)) all
+    let all : l.round ≡ name_count = omega arith in
+    l.invariant ∙ ap (settled_set (uses_at a.uses) (set_of a.defined)) all

@@ -10,8 +10,8 @@ pub returns : goal.returns
 returns c =
     let a = c.args in
     let found = c.find_uses-uses in
-    let defined = set_of a.defined in
+    let defined = set_of a.tbox.now.defined in
     λ D agrees.
     c.subset.ensures
     ∙ ap (λ (w : ℕ). subset defined w) c.find_settled.ensures
-    ∙ rings_acyclic D a.tbox.now a.starts.now defined agrees found.result found.ensures
+    ∙ rings_acyclic D _ agrees found.result found.ensures

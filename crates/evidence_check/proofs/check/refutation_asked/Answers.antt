@@ -2,9 +2,9 @@
 -- the ways back: from the answer to 21 to the entry, from that to 22 to that to 21, from that to 23 to that to 22
 use mathlib.Core.Bool.{not, true}
 use mathlib.Core.Path.{◌∙◌, ◌≡◌, ap, refl, sym}
+use Rattle.std.proofs.Common.{Err}
 use Rattle.table_rows.proofs.Stores.{blank}
 use Rattle.picture.specs.Asked.{asked}
-use Rattle.picture.specs.declared.answer.Asked.TheVariants.{No}
 use Rattle.meaning.specs.Meaning.{picture_table}
 use Rattle.countermodel.specs.Model.{row_tree}
 use Rattle.evidence.specs.Check.{refutation_asked}
@@ -16,7 +16,7 @@ pub returns-then-not-individuals_ok : goal.returns-then-not-individuals_ok
 returns-then-not-individuals_ok c =
     let a = c.args in
     let individuals = c.individuals_ok in
-    ap No c.refusal_by.ensures
+    ap Err c.refusal_by.ensures
     ∙ sym (asks_individuals a.first.now a.second.now a.e.now a.k individuals.result
     c.requires.1.1.counted individuals.ensures (c.if-not-individuals_ok.true))
 
@@ -25,30 +25,16 @@ fill_links-requires c =
     let ok : c.individuals_ok.result ≡ true = c.if-not-individuals_ok.false in
     (c.requires.1.1, (sym c.individuals_ok.ensures ∙ ok, blank _ _ refl))
 
-pub fits_table-requires : goal.fits_table-requires
-fits_table-requires c =
-    let ok : c.individuals_ok.result ≡ true = c.if-not-individuals_ok.false in
-    let (first, (second, all)) = c.requires in
-    let linked = c.fill_links.ensures in
-    (record { all = all; passed = sym c.individuals_ok.ensures ∙ ok; linked = linked }, first)
-
 pub returns-then-not-fits_table : goal.returns-then-not-fits_table
 returns-then-not-fits_table c =
     let ok : c.individuals_ok.result ≡ true = c.if-not-individuals_ok.false in
     let a = c.args in
     let individuals = c.individuals_ok in
     let first = c.fits_table in
-    ap No c.refusal_by-then-not-fits_table.ensures
+    ap Err c.refusal_by-then-not-fits_table.ensures
     ∙ sym (asks_first a.first.now a.second.now a.e.now a.k individuals.result
     c.requires.1.1.counted individuals.ensures (ok) first.result first.ensures
     (c.if-not-fits_table.true))
-
-pub fits_table-requires-2 : goal.fits_table-requires-2
-fits_table-requires-2 c =
-    let ok : c.individuals_ok.result ≡ true = c.if-not-individuals_ok.false in
-    let (first, (second, all)) = c.requires in
-    let linked = c.fill_links.ensures in
-    (record { all = all; passed = sym c.individuals_ok.ensures ∙ ok; linked = linked }, second)
 
 pub returns-then-fits_table : goal.returns-then-fits_table
 returns-then-fits_table c =
@@ -59,7 +45,7 @@ returns-then-fits_table c =
     asks_second a.first.now a.second.now a.e.now a.k individuals.result
     c.requires.1.1.counted individuals.ensures (ok) first.result first.ensures
     (c.if-not-fits_table.false) c.fits_table-2.result c.fits_table-2.ensures in
-    ap No c.refusal_by-then-fits_table.ensures ∙ sym (second-asked ∙ rw c.if-fits_table.true)
+    ap Err c.refusal_by-then-fits_table.ensures ∙ sym (second-asked ∙ rw c.if-fits_table.true)
 
 pub returns : goal.returns
 returns c =

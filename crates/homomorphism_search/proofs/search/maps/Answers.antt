@@ -1,77 +1,48 @@
 -- The row test of the two roots, as in `row_maps`.
-use borrow.Author.Tests.{eqb-false, eqb-true}
-use mathlib.Core.Bool.{false≢true}
-use mathlib.Core.Path.{◌∙◌, sym}
-use native.Mathlib.Omega.{arith}
-use Rattle.homomorphism_search.proofs.Searches.{checked_has, row_apart, row_deep, row_leaf, row_marked}
-use Rattle.homomorphism_search.proofs.Traces.{found_deep, found_leaf, found_marked, missed_deep, missed_label}
+use mathlib.Core.Path.{◌∙◌, refl, sym}
+use Prim.Native.Nat.{◌-◌}
+use Rattle.homomorphism_search.proofs.Searches.{row_apart, row_deep, row_leaf, row_marked}
+use Rattle.homomorphism_search.proofs.Traces.{found_deep, missed_deep}
+use Rattle.homomorphism_search.proofs.Served.{if_none, none_served, row_missed}
+use Rattle.homomorphism_search.specs.Search.{unserved_row}
 use Rattle.homomorphism_search.proofs.search.maps.Goals as goal
 
-pub impossible-requires : goal.impossible-requires
-impossible-requires c = checked_has c.args.first.now c.args.n 0 c.requires.0.checked c.requires.0.checked.some
-
-pub returns-then-impossible-eq1 : goal.returns-then-impossible-eq1
-returns-then-impossible-eq1 c =
+pub returns-then-impossible-eq1-clause-is : goal.returns-then-impossible-eq1-clause-is
+returns-then-impossible-eq1-clause-is c =
     let a = c.args in
-    let mark = c.impossible in (
-      sym (row_marked a.first.now a.second.now 0 0 a.depth mark.result mark.ensures c.if-impossible-eq1.true),
-      (
-        (λ _. found_marked a.first.now a.second.now a.found.now a.depth 0 0 (sym mark.ensures ∙ c.if-impossible-eq1.true)),
-        λ e. absurd (false≢true (sym e)),
-      ),
-    )
+    sym (row_marked a.first.now.bytes.now a.second.now.bytes.now 0 0 a.depth c.impossible.result c.impossible.ensures c.if-impossible-eq1.true)
 
-pub label_at-requires : goal.label_at-requires
-label_at-requires c = checked_has c.args.second.now c.args.m 0 c.requires.1.0.checked c.requires.1.0.checked.some
-
-pub label_within-requires : goal.label_within-requires
-label_within-requires c = checked_has c.args.first.now c.args.n 0 c.requires.0.checked c.requires.0.checked.some
-
-pub returns-then-not-label_within : goal.returns-then-not-label_within
-returns-then-not-label_within c =
+pub returns-then-not-label_within-clause-is : goal.returns-then-not-label_within-clause-is
+returns-then-not-label_within-clause-is c =
     let a = c.args in
-    let mark = c.impossible in
-    let within = c.label_within in
-    let told = within.ensures a.second.now 0 c.label_at.ensures in
-    let lacks = c.if-not-label_within.true in (
-      sym (row_apart a.first.now a.second.now 0 0 a.depth mark.result mark.ensures c.if-impossible-eq1.false within.result told lacks),
-      ((λ e. absurd (false≢true e)), λ _. missed_label a.first.now a.second.now a.missed.now a.depth 0 0 (sym told ∙ lacks)),
-    )
+    sym (row_apart a.first.now.bytes.now a.second.now.bytes.now 0 0 a.depth c.impossible.result c.impossible.ensures c.if-impossible-eq1.false
+    c.label_within.result (c.label_within.ensures a.second.now.bytes.now 0 c.label_at.ensures) c.if-not-label_within.true)
 
-pub returns-then-depth-eq0 : goal.returns-then-depth-eq0
-returns-then-depth-eq0 c =
+pub returns-then-depth-eq0-clause-is : goal.returns-then-depth-eq0-clause-is
+returns-then-depth-eq0-clause-is c =
     let a = c.args in
-    let mark = c.impossible in
-    let within = c.label_within in
-    let told = within.ensures a.second.now 0 c.label_at.ensures in (
-      sym (row_leaf a.first.now a.second.now 0 0 a.depth mark.result mark.ensures c.if-impossible-eq1.false
-          within.result told (c.if-not-label_within.false) c.if-depth-eq0.true),
-      ((λ _. found_leaf a.first.now a.second.now a.found.now a.depth 0 0 c.if-depth-eq0.true), λ e. absurd (false≢true (sym e))),
-    )
+    sym (row_leaf a.first.now.bytes.now a.second.now.bytes.now 0 0 a.depth c.impossible.result c.impossible.ensures c.if-impossible-eq1.false
+    c.label_within.result (c.label_within.ensures a.second.now.bytes.now 0 c.label_at.ensures) c.if-not-label_within.false c.if-depth-eq0.true)
 
-pub overflow_sub-depth : goal.overflow_sub-depth
-overflow_sub-depth c = omega (arith, c.if-depth-eq0.false)
-
-pub unserved-requires : goal.unserved-requires
-unserved-requires c =
-    let pre = c.requires in
-    (pre.0, (pre.1.0, ((pre.1.0.checked.some, pre.0.checked.some), pre.1.1)))
-
-pub returns : goal.returns
-returns c =
+pub returns-clause-is : goal.returns-clause-is
+returns-clause-is c =
     let a = c.args in
-    let mark = c.impossible in
-    let within = c.label_within in
-    let told = within.ensures a.second.now 0 c.label_at.ensures in
-    let z = c.if-depth-eq0.false in
-    let row = c.unserved in
-    let left = row.ensures.1.1 in (
-      sym (row_deep a.first.now a.second.now 0 0 a.depth mark.result mark.ensures c.if-impossible-eq1.false
-          within.result told row.result (c.if-not-label_within.false) z row.ensures.0.0),
-      (
-        (λ e. found_deep a.first.now a.second.now row.new.found a.depth 0 0 z (left.0 (eqb-true row.result 0 e))),
-        λ e. let kept = left.1 (eqb-false row.result 0 e) in
-            missed_deep a.first.now a.second.now row.new.missed a.depth 0 0
-            row.result z row.ensures.0.0 kept.0 kept.1,
-      ),
-    )
+    let found = unserved_row a.first.now.bytes.now a.second.now.bytes.now (a.depth - 1) 0 0 in
+    none_served found c.unserved.result c.is_none.result c.is_none.ensures c.unserved.ensures.row
+    ∙ sym (row_deep a.first.now.bytes.now a.second.now.bytes.now 0 0 a.depth c.impossible.result c.impossible.ensures c.if-impossible-eq1.false
+    c.label_within.result (c.label_within.ensures a.second.now.bytes.now 0 c.label_at.ensures) found c.if-not-label_within.false
+    c.if-depth-eq0.false refl)
+
+pub returns-clause-found : goal.returns-clause-found
+returns-clause-found c e =
+    let a = c.args in
+    found_deep a.first.now.bytes.now a.second.now.bytes.now c.unserved.new.found a.depth 0 0 c.if-depth-eq0.false
+    (if_none c.unserved.result c.is_none.result c.is_none.ensures e c.unserved.ensures.found)
+
+pub returns-clause-missed : goal.returns-clause-missed
+returns-clause-missed c e =
+    let a = c.args in
+    let found = unserved_row a.first.now.bytes.now a.second.now.bytes.now (a.depth - 1) 0 0 in
+    let kept = row_missed _ found c.unserved.result c.is_none.result c.is_none.ensures e c.unserved.ensures.row c.unserved.ensures.missed in
+    missed_deep a.first.now.bytes.now a.second.now.bytes.now c.unserved.new.missed a.depth 0 0
+    found c.if-depth-eq0.false refl kept.0 kept.1

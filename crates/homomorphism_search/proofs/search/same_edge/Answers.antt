@@ -12,8 +12,7 @@ pub returns-then-kind : goal.returns-then-kind
 returns-then-kind c =
     let by_bytes : let a = c.args in same_edge a.first.now a.second.now a.c a.v ≡ (eqb c.kind.result c.kind-2.result && eqb (role_of a.first.now a.v) (role_of a.second.now a.c)) = let a = c.args in
     edge_bytes a.first.now a.second.now a.c a.v c.kind.result c.kind-2.result
-    (c.requires.0.kinds a.v c.requires.1.1.0.1 c.requires.1.1.0.0)
-    (c.requires.1.0.kinds a.c c.requires.1.1.1.1 c.requires.1.1.1.0)
+    c.requires.0 c.requires.1
     c.kind.ensures c.kind-2.ensures in
     sym (by_bytes ∙ simp (eq-eqb _ _ c.if-kind.true, c.role.ensures, c.role-then-kind.ensures))
 
@@ -21,7 +20,6 @@ pub returns-else-kind : goal.returns-else-kind
 returns-else-kind c =
     let by_bytes : let a = c.args in same_edge a.first.now a.second.now a.c a.v ≡ (eqb c.kind.result c.kind-2.result && eqb (role_of a.first.now a.v) (role_of a.second.now a.c)) = let a = c.args in
     edge_bytes a.first.now a.second.now a.c a.v c.kind.result c.kind-2.result
-    (c.requires.0.kinds a.v c.requires.1.1.0.1 c.requires.1.1.0.0)
-    (c.requires.1.0.kinds a.c c.requires.1.1.1.1 c.requires.1.1.1.0)
+    c.requires.0 c.requires.1
     c.kind.ensures c.kind-2.ensures in
     let apart = ne_eqb _ _ c.if-kind.false in apart ∙ sym (by_bytes ∙ rw apart)

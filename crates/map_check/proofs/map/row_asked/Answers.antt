@@ -3,8 +3,8 @@
 use Prim.Native.Nat.{◌<◌}
 use mathlib.Core.Path.{◌∙◌, ◌≡◌, ap, sym}
 use native.Mathlib.Omega.{arith}
+use Rattle.std.proofs.Common.{Err}
 use Rattle.picture.specs.Asked.{asked}
-use Rattle.picture.specs.declared.answer.Asked.TheVariants.{No}
 use Rattle.meaning.specs.Meaning.{picture_table}
 use Rattle.homomorphism.specs.Layout.{image_of}
 use Rattle.evidence.specs.Map.{refusal_by, row_asked}
@@ -22,7 +22,7 @@ pub returns-then-n-v : goal.returns-then-n-v
 returns-then-n-v c =
     let a = c.args in
     let image = c.image-v in
-    ap No c.refusal_by.ensures
+    ap Err c.refusal_by.ensures
     ∙ sym (row_outside a.first.now a.second.now a.e.now a.n a.i image.result
     c.requires.0.counted image.ensures c.if-n-v.true)
 
@@ -30,7 +30,7 @@ pub returns-then-v-ne0 : goal.returns-then-v-ne0
 returns-then-v-ne0 c =
     let a = c.args in
     let image = c.image-v in
-    ap No c.refusal_by-then-v-ne0.ensures
+    ap Err c.refusal_by-then-v-ne0.ensures
     ∙ sym (row_unrooted a.first.now a.second.now a.e.now a.n a.i image.result
     c.requires.0.counted image.ensures c.if-n-v.false c.if-i-eq0.true c.if-v-ne0.true)
 
@@ -44,7 +44,7 @@ returns-then-not-label_agrees c =
     let a = c.args in
     let image = c.image-v in
     let label = c.label_agrees in
-    ap No c.refusal_by-then-not-label_agrees.ensures
+    ap Err c.refusal_by-then-not-label_agrees.ensures
     ∙ sym (row_unlike a.first.now a.second.now a.e.now a.n a.i image.result
     c.requires.0.counted image.ensures c.if-n-v.false rooted
     label.result label.ensures c.if-not-label_agrees.true)
@@ -83,7 +83,7 @@ returns-then-not-edge_agrees c =
     c.if-i-ne0.true
     c.image.result (c.image.ensures ∙ ap (image_of a.e.now) c.parent.ensures.0)
     c.edge_agrees.result c.edge_agrees.ensures in
-    ap No c.refusal_by-then-not-edge_agrees.ensures
+    ap Err c.refusal_by-then-not-edge_agrees.ensures
     ∙ sym (edge-asked ∙ rw c.if-not-edge_agrees.true)
 
 pub returns-else-not-edge_agrees : goal.returns-else-not-edge_agrees

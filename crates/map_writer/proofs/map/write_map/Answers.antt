@@ -1,24 +1,19 @@
--- Head, images and end field are put one after the other, which is putting the file: `map-put`.
+-- Head, images and end field are put one after the other, which is putting the file: `map_put`.
 use native.Mathlib.Omega.{arith}
-use Rattle.map_writer.proofs.Maps.{image_row, lowest_map_counted}
 use Rattle.homomorphism.proofs.MapFiles.{length_map_file, map_put}
+use Rattle.map_writer.specs.Images.{image_row}
+use Rattle.map_writer.proofs.Maps.{lowest_map_counted}
 use Rattle.map_writer.proofs.map.write_map.Goals as goal
 
-pub write_images-requires : goal.write_images-requires
-write_images-requires c =
-    let pre = c.requires in
-    (pre.0, (pre.1.0, (pre.1.1.0, omega (arith, pre.1.1.1, c.copy_in.auto))))
-
-pub returns : goal.returns
-returns c =
+pub returns-clause-length : goal.returns-clause-length
+returns-clause-length c =
     let a = c.args in
-    let copied = c.copy_in in
-    let written = c.write_images in
-    let end = c.image_place-end in
-    let ended = c.write_end in
-    let images = image_row a.first.now a.second.now in
-    rw (lowest_map_counted a.first.now c.requires.1.0) (
-      omega (arith, end.ensures, length_map_file a.m images),
-      map_put a.m images a.out.now copied.new.dst written.new.out ended.new.out end.result
-          c.requires.1.1.1 end.ensures copied.ensures written.ensures ended.ensures,
-    )
+    rw (lowest_map_counted a.first.now c.requires.second)
+    (omega (arith, length_map_file a.m (image_row a.first.now a.second.now)))
+
+pub returns-clause-bytes : goal.returns-clause-bytes
+returns-clause-bytes c =
+    let a = c.args in
+    rw (lowest_map_counted a.first.now c.requires.second)
+    (map_put a.m (image_row a.first.now a.second.now) a.out.now _ _ _ _
+    c.requires.room c.image_place-end.ensures c.copy_in.ensures c.write_images.ensures c.write_end.ensures)

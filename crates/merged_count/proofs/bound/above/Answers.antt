@@ -16,8 +16,7 @@ last_byte s j at e low =
 pub returns : goal.returns
 returns c =
     let a = c.args in
-    let j = a.j in
-    let before = c.requires.checked.parents j c.requires.later c.requires.inside in
-    let is = c.wide.ensures.0 ∙ last_byte a.s.now j _ (omega (arith, c.place.ensures))
-    (omega (arith, before, c.requires.inside, c.requires.checked.most)) in
+    let before = c.requires.checked.parents a.j c.requires.later c.requires.inside in
+    let low : parent_of a.s.now a.j < 256 = omega (arith, before, c.requires.inside, c.requires.checked.most) in
+    let is = last_byte a.s.now a.j c.place.result (omega (arith, c.place.ensures)) low in
     (is, omega (arith, is, before))

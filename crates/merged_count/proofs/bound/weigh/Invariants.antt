@@ -4,6 +4,3 @@ use Rattle.merged_count.proofs.bound.weigh.Given as goal
 
 abbrev pub invariant-loop-j : goal.invariant-loop-j
 invariant-loop-j l = WeighedFrom l.s l.rows l.keys l.somes l.j l.below
-
-abbrev pub decreases-loop-j : goal.decreases-loop-j
-decreases-loop-j l = l.j

@@ -5,16 +5,14 @@ use Rattle.model_check.proofs.Models.{fits_satisfied, fits_unsatisfied}
 use Rattle.model_check.proofs.model.fits_table.Goals as goal
 
 pub fill_links-requires : goal.fill_links-requires
-fill_links-requires c = (c.requires.1, blank 512 512 refl)
+fill_links-requires c = (c.requires, blank 512 512 refl)
 
 pub returns-then-not-satisfies : goal.returns-then-not-satisfies
 returns-then-not-satisfies c =
     let a = c.args in
-    let s = c.satisfies in
-    sym (fits_unsatisfied a.t.now a.e.now a.reached.now a.n a.rows 0 0 c.requires.0 c.requires.1 s.result (s.ensures a.t.now 0 c.label_at.ensures) (c.if-not-satisfies.true))
+    sym (fits_unsatisfied c.requires a.refutation.now 0 0 (c.satisfies.ensures a.bytes.now 0 c.label_at.ensures) c.if-not-satisfies.true)
 
 pub returns : goal.returns
 returns c =
     let a = c.args in
-    let s = c.satisfies in
-    sym (fits_satisfied a.t.now a.e.now a.reached.now a.n a.rows 0 0 c.requires.0 c.requires.1 s.result c.below.result (s.ensures a.t.now 0 c.label_at.ensures) (c.if-not-satisfies.false) c.below.ensures)
+    sym (fits_satisfied c.requires a.refutation.now 0 0 (c.satisfies.ensures a.bytes.now 0 c.label_at.ensures) c.if-not-satisfies.false c.below.ensures)

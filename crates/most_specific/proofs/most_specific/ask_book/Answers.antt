@@ -1,6 +1,7 @@
 -- The questions in their order.
 use mathlib.Core.Bool.{true}
 use mathlib.Core.Path.{◌∙◌, ◌≡◌, sym}
+use Rattle.picture.proofs.Exits.{exits}
 use Rattle.book.specs.Call.{no_book}
 use Rattle.book.specs.Form.{book_form}
 use Rattle.most_specific.specs.Asking.{after_cards, after_case, word_under}
@@ -23,10 +24,10 @@ ask_definitions-requires c =
     let found = c.find_cards-cards in
     cards_room a.limits a.tbox.now a.case.now a.book.now (formed)
     found.result found.ensures c.read_cards.result c.read_cards.ensures c.requires
-    c.in-Yes.is
+    c.in_ok-read_cards.was
 
-pub returns-in-Yes : goal.returns-in-Yes
-returns-in-Yes c =
+pub returns : goal.returns
+returns c =
     let formed : book_form c.args.book.now ≡ true = sym c.has_book_form.ensures ∙ c.if-not-has_book_form.false in
     let a = c.args in
     let found = c.find_cards-cards in
@@ -36,16 +37,17 @@ returns-in-Yes c =
     (after_cards a.limits a.tbox.now a.case.now a.book.now)
     (cards_passed a.limits a.tbox.now a.case.now a.book.now (formed)
     found.result found.ensures c.read_cards.result c.read_cards.ensures
-    c.in-Yes.is)
+    c.in_ok-read_cards.was)
     left.result _ left.ensures
 
-pub returns-in-No : goal.returns-in-No
-returns-in-No c =
+pub returns-in_err-read_cards : goal.returns-in_err-read_cards
+returns-in_err-read_cards c =
     let formed : book_form c.args.book.now ≡ true = sym c.has_book_form.ensures ∙ c.if-not-has_book_form.false in
     let a = c.args in
     let found = c.find_cards-cards in
-    stopped a.limits (word_under a.limits a.tbox.now a.case.now a.book.now) a.work.now
-    (after_case a.limits a.tbox.now a.case.now a.book.now) c.in-No.refusal
+    rw (exits c.from_residual.result _ c.from_residual.ensures.1)
+    (stopped a.limits (word_under a.limits a.tbox.now a.case.now a.book.now) a.work.now
+    (after_case a.limits a.tbox.now a.case.now a.book.now) _
     (cards_refused a.limits a.tbox.now a.case.now a.book.now (formed)
-    found.result found.ensures c.read_cards.result c.read_cards.ensures c.in-No.refusal
-    c.in-No.is)
+    found.result found.ensures c.read_cards.result c.read_cards.ensures _
+    c.in_err-read_cards.was))

@@ -1,51 +1,48 @@
 -- Once all is answered yes, what was found in both books is what 14 needs.
+use Rattle.std.proofs.lemmas.Result.{MatchResult-at_err, MatchResult-at_ok}
 use Rattle.most_specific.specs.Asking.{after_cards, after_definitions, word_under}
 use Rattle.most_specific.proofs.Calls.{definitions_passed, definitions_prepared, definitions_refused}
 use Rattle.most_specific.proofs.Calls.{left_as, stopped}
 use Rattle.most_specific.proofs.most_specific.ask_definitions.Goals as goal
 
-pub open_definitions-opening-requires : goal.open_definitions-opening-requires
-open_definitions-opening-requires c =
+pub open_definitions-found-requires : goal.open_definitions-found-requires
+open_definitions-found-requires c =
     let pre = c.requires in
     record {
       bounded = pre.book_room.bounded;
       first_read = pre.book_room.readable;
-      rest_read = search (pre.places_are, pre.cards_readable);
+      rest_read = record { there = pre.places_are; readable = pre.cards_readable };
     }
+
+pub invariant_of-opened : goal.invariant_of-opened
+invariant_of-opened c = record { opened = (MatchResult-at_ok _ _ _ c.in-Ok.is c.open_definitions-found.ensures).1.opened }
 
 pub select-requires : goal.select-requires
 select-requires c =
     let a = c.args in
     let pre = c.requires in
-    let opens = c.open_definitions-opening.ensures in
-    let told = c.in-Yes.is in (
+    let (all, ready) = MatchResult-at_ok _ _ _ c.in-Ok.is c.open_definitions-found.ensures in (
       record {
-        ready = opens.found told;
+        ready = ready;
         places_are = pre.places_are;
-        prepared =
-            definitions_prepared a.limits a.tbox.now a.case.now a.book.now a.cards a.work.now
-            pre c.open_definitions-opening.result.asked opens.asked_is told;
+        prepared = definitions_prepared a.limits a.tbox.now a.case.now a.book a.cards a.work.now pre all;
       },
       pre.book_room.room,
     )
 
-pub returns-in-Yes : goal.returns-in-Yes
-returns-in-Yes c =
+pub returns-in-Ok : goal.returns-in-Ok
+returns-in-Ok c =
     let a = c.args in
     let left = c.select in
     left_as a.limits (word_under a.limits a.tbox.now a.case.now a.book.now) a.work.now
     (after_cards a.limits a.tbox.now a.case.now a.book.now)
     (after_definitions a.limits a.tbox.now a.case.now a.book.now)
-    (definitions_passed a.limits a.tbox.now a.case.now a.book.now a.cards a.work.now
-    c.requires c.open_definitions-opening.result.asked c.open_definitions-opening.ensures.asked_is
-    c.in-Yes.is)
+    (definitions_passed a.limits a.tbox.now a.case.now a.book a.cards a.work.now c.requires (MatchResult-at_ok _ _ _ c.in-Ok.is c.open_definitions-found.ensures).0)
     left.result _ left.ensures
 
-pub returns-in-No : goal.returns-in-No
-returns-in-No c =
+pub returns-in-Err : goal.returns-in-Err
+returns-in-Err c =
     let a = c.args in
     stopped a.limits (word_under a.limits a.tbox.now a.case.now a.book.now) a.work.now
-    (after_cards a.limits a.tbox.now a.case.now a.book.now) c.in-No.refusal
-    (definitions_refused a.limits a.tbox.now a.case.now a.book.now a.cards a.work.now
-    c.requires c.open_definitions-opening.result.asked c.open_definitions-opening.ensures.asked_is
-    c.in-No.refusal c.in-No.is)
+    (after_cards a.limits a.tbox.now a.case.now a.book.now) _
+    (definitions_refused a.limits a.tbox.now a.case.now a.book a.cards a.work.now c.requires _ (MatchResult-at_err _ _ _ c.in-Err.is c.open_definitions-found.ensures))

@@ -1,49 +1,29 @@
-use native.Mathlib.Omega.{arith}
 use mathlib.Core.Path.{◌∙◌, ◌≡◌, ap}
-use Rattle.picture.proofs.ReadInTurn.{read_all, read_next, read_refused, read_start}
+use Rattle.picture.proofs.Exits.{exits}
+use Rattle.picture.proofs.ReadInTurn.{read_all, read_next, read_refused}
 use Rattle.picture.specs.Read.{answer_of}
 use Rattle.picture.specs.declared.answer.Input.TheVariants.{Card}
 use Rattle.book.specs.Form.{card}
 use Rattle.most_specific.proofs.most_specific.read_cards.Goals as goal
+use Rattle.most_specific.proofs.most_specific.read_cards.Goals.{After-read}
 
-pub loop-k-init : goal.loop-k-init
-loop-k-init c =
-    let a = c.args in
-    read_start a.limits Card (card a.book.now) a.cards.count
-
-pub card-requires : goal.card-requires
-card-requires c = (c.requires.1, c.loop-k-test.true)
-
-pub overflow_add-k : goal.overflow_add-k
-overflow_add-k c = omega (arith, c.loop-k-test.true, c.requires.1.located.most)
-
-pub loop-k-smaller : goal.loop-k-smaller
-loop-k-smaller c = omega (arith, c.loop-k-test.true)
+says : (c : After-read) → c.read.result ≡ answer_of c.args.limits (Card c.loop-k.k) (card c.args.book.now c.loop-k.k)
+says c = c.read.ensures ∙ ap (answer_of c.args.limits (Card c.loop-k.k)) c.card.ensures
 
 pub loop-k-preserved : goal.loop-k-preserved
 loop-k-preserved c =
-    let says : let a = c.args in let k = c.loop-k.k in c.read.result ≡ answer_of a.limits (Card k) (card a.book.now k) = let a = c.args in
-    let k = c.loop-k.k in
-    c.read.ensures ∙ ap (answer_of a.limits (Card k)) c.card.ensures in
     let args = c.args in
-    let loop = c.loop-k in
-    read_next args.limits Card (card args.book.now) args.cards.count loop.k loop.invariant
-    c.loop-k-test.true c.read.result (says)
-    c.in-Rows.field-0 c.in-Rows.is
+    read_next args.limits Card (card args.book.now) args.cards.count c.loop-k.k c.loop-k.invariant
+    c.loop-k-test.true c.read.result (says (goal.at.loop-k-preserved c).After-read) _ c.in_ok-read.was
 
-pub returns-in-Refused : goal.returns-in-Refused
-returns-in-Refused c =
-    let says : let a = c.args in let k = c.loop-k.k in c.read.result ≡ answer_of a.limits (Card k) (card a.book.now k) = let a = c.args in
-    let k = c.loop-k.k in
-    c.read.ensures ∙ ap (answer_of a.limits (Card k)) c.card.ensures in
+pub returns-in_err-read : goal.returns-in_err-read
+returns-in_err-read c =
     let args = c.args in
-    let loop = c.loop-k in
-    read_refused args.limits Card (card args.book.now) args.cards.count loop.k loop.invariant
-    c.loop-k-test.true c.read.result
-    (says) c.in-Refused.refusal c.in-Refused.is
+    exits c.from_residual.result _ c.from_residual.ensures.1
+    ∙ read_refused args.limits Card (card args.book.now) args.cards.count c.loop-k.k c.loop-k.invariant
+    c.loop-k-test.true c.read.result (says (goal.at.returns-in_err-read c).After-read) _ c.in_err-read.was
 
 pub returns : goal.returns
 returns c =
     let args = c.args in
-    let loop = c.loop-k in
-    read_all args.limits Card (card args.book.now) args.cards.count loop.k loop.invariant c.loop-k-test.false
+    read_all args.limits Card (card args.book.now) args.cards.count c.loop-k.k c.loop-k.invariant c.loop-k-test.false

@@ -1,5 +1,4 @@
 -- At the loop's head the cards below k have passed.
-use Prim.Native.Nat.{◌-◌}
 use Rattle.picture.proofs.ReadInTurn.{ReadTo}
 use Rattle.picture.specs.declared.answer.Input.TheVariants.{Card}
 use Rattle.book.specs.Form.{card}
@@ -7,6 +6,3 @@ use Rattle.most_specific.proofs.most_specific.read_cards.Given as goal
 
 abbrev pub invariant-loop-k : goal.invariant-loop-k
 invariant-loop-k l = ReadTo l.limits Card (card l.book) l.cards.count l.k
-
-abbrev pub decreases-loop-k : goal.decreases-loop-k
-decreases-loop-k l = l.cards.count - l.k

@@ -5,6 +5,7 @@ use lib.ListN.{drop, length, take}
 use lib.Seq.{length-take-le}
 use mathlib.Core.List.{◌++◌}
 use mathlib.Core.Path.{◌∙◌, ◌≡◌, ap, sym}
+use Rattle.picture.proofs.Exits.{exits}
 use Rattle.workspace.specs.Prepare.{work_size}
 use Rattle.most_specific.specs.Asking.{after_definitions, word_under}
 use Rattle.most_specific.proofs.Calls.{cleared_part, done, merged_accepted, merged_passed, merged_refused}
@@ -24,36 +25,37 @@ specific_cards-requires c =
       ready = pre.ready;
       placed = pre.places_are;
       accepted =
-          merged_accepted a.limits a.tbox.now a.case.now a.book.now a.books pre
-          c.ask_merged.result c.ask_merged.ensures c.in-Yes.is;
+          merged_accepted a.limits a.tbox.now a.case.now a.book.now a.cards pre
+          c.ask_merged.result c.ask_merged.ensures c.in_ok-ask_merged.was;
       long = lent ∙ omega (arith, c.half_size-half.ensures);
     }
 
-pub slice_bounds-specific_cards-end-in-Yes : goal.slice_bounds-specific_cards-end-in-Yes
-slice_bounds-specific_cards-end-in-Yes c =
+pub slice_bounds-specific_cards-end-2 : goal.slice_bounds-specific_cards-end-2
+slice_bounds-specific_cards-end-2 c =
     let lent : let size = c.half_size-half.result + c.half_size-half.result in length (take size c.args.work.now) ≡ size = length-take-le (c.half_size-half.result + c.half_size-half.result) c.args.work.now
     (omega (arith, c.half_size-half.ensures, c.requires.1)) in
     sym (lent)
 
-pub returns-in-Yes : goal.returns-in-Yes
-returns-in-Yes c =
+pub returns : goal.returns
+returns c =
     let a = c.args in
     let half = c.half_size-half in
     let chosen = c.specific_cards in
-    done a.limits (word_under a.limits a.tbox.now a.case.now a.book.now) a.work.now
-    (after_definitions a.limits a.tbox.now a.case.now a.book.now)
-    (merged_passed a.limits a.tbox.now a.case.now a.book.now a.books
+    done a.limits (word_under a.limits a.tbox.now.bytes.now a.case.now a.book.now) a.work.now
+    (after_definitions a.limits a.tbox.now.bytes.now a.case.now a.book.now)
+    (merged_passed a.limits a.tbox.now a.case.now a.book.now a.cards
     c.requires.0 c.ask_merged.result c.ask_merged.ensures
-    c.in-Yes.is)
+    c.in_ok-ask_merged.was)
     chosen.result _ chosen.ensures.0
     (ap (λ l. l ++ drop (half.result + half.result) a.work.now) chosen.ensures.1
     ∙ cleared_part a.work.now (work_size a.limits) (half.result + half.result) (omega (arith, half.ensures)))
 
-pub returns-in-No : goal.returns-in-No
-returns-in-No c =
+pub returns-in_err-ask_merged : goal.returns-in_err-ask_merged
+returns-in_err-ask_merged c =
     let a = c.args in
-    stopped a.limits (word_under a.limits a.tbox.now a.case.now a.book.now) a.work.now
-    (after_definitions a.limits a.tbox.now a.case.now a.book.now) c.in-No.refusal
-    (merged_refused a.limits a.tbox.now a.case.now a.book.now a.books
-    c.requires.0 c.ask_merged.result c.ask_merged.ensures c.in-No.refusal
-    c.in-No.is)
+    rw (exits c.from_residual.result _ c.from_residual.ensures.1)
+    (stopped a.limits (word_under a.limits a.tbox.now.bytes.now a.case.now a.book.now) a.work.now
+    (after_definitions a.limits a.tbox.now.bytes.now a.case.now a.book.now) _
+    (merged_refused a.limits a.tbox.now a.case.now a.book.now a.cards
+    c.requires.0 c.ask_merged.result c.ask_merged.ensures _
+    c.in_err-ask_merged.was))

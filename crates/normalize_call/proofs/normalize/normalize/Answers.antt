@@ -2,6 +2,7 @@
 use mathlib.Core.Path.{◌∙◌, sym}
 use native.Mathlib.Omega.{arith}
 use lib.ListN.{length}
+use Rattle.picture.proofs.Exits.{exits}
 use Rattle.picture.proofs.Orders.{refused_no, rows_yes}
 use Rattle.picture.proofs.Readables.{answer_reading}
 use Rattle.picture.specs.declared.answer.Input.TheVariants.{First}
@@ -22,26 +23,27 @@ write_under-requires c =
     record {
       bounded = c.requires;
       readable = record {
-        rows = c.in-Rows.field-0;
-        reads = answer_reading a.limits a.picture.now First c.in-Rows.field-0
-            (sym c.read.ensures ∙ c.in-Rows.is);
+        rows = _;
+        reads = answer_reading a.limits a.picture.now First _
+            (sym c.read.ensures ∙ c.in_ok-read.was);
       };
       space = omega (arith, c.if-res-place.false, c.place.ensures);
     }
 
-pub returns-in-Rows : goal.returns-in-Rows
-returns-in-Rows c =
+pub returns : goal.returns
+returns c =
     let a = c.args in
     let asks = one_read a.limits a.tbox.now a.picture.now (length a.res.now)
     (omega (arith, c.if-res-place.false, c.place.ensures))
-    (rows_yes a.limits First a.picture.now c.in-Rows.field-0 (sym c.read.ensures ∙ c.in-Rows.is)) in
+    (rows_yes a.limits First a.picture.now _ (sym c.read.ensures ∙ c.in_ok-read.was)) in
     under_by a.limits c.requires a.tbox.now a.picture.now a.res.now _ _ _ asks
     c.write_under.ensures
 
-pub returns-in-Refused : goal.returns-in-Refused
-returns-in-Refused c =
+pub returns-in_err-read : goal.returns-in_err-read
+returns-in_err-read c =
     let a = c.args in
     let asks = one_unread a.limits a.tbox.now a.picture.now (length a.res.now)
-    (omega (arith, c.if-res-place.false, c.place.ensures)) c.in-Refused.refusal
-    (refused_no a.limits First a.picture.now c.in-Refused.refusal (sym c.read.ensures ∙ c.in-Refused.is)) in
-    under_no a.limits c.requires a.tbox.now a.picture.now a.res.now _ asks
+    (omega (arith, c.if-res-place.false, c.place.ensures)) _
+    (refused_no a.limits First a.picture.now _ (sym c.read.ensures ∙ c.in_err-read.was)) in
+    rw (exits c.from_residual.result _ c.from_residual.ensures.1)
+    (under_no a.limits c.requires a.tbox.now a.picture.now a.res.now _ asks)

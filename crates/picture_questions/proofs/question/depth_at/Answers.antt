@@ -21,4 +21,4 @@ returns c =
     let pre = c.requires in
     let a = c.args in
     let below : parent_of a.s.now a.n < a.n = parent_below a.n (parent_of a.s.now a.n) c.if-n-eq0.false pre.1.1 in
-    rw (c.wide.ensures.0, c.parent-parent.ensures.0) (sym (depth_known a.s.now a.depths.now a.n pre.1.0 below))
+    rw (c.from.ensures, c.parent-parent.ensures.0) (sym (depth_known a.s.now a.depths.now a.n pre.1.0 below))

@@ -2,7 +2,6 @@
 use mathlib.Core.Path.{sym}
 use Rattle.picture.proofs.Keeping.{kept_no}
 use Rattle.picture.proofs.Orders.{on_no}
-use Rattle.prepare_pair.specs.declared.prepare.Prepared.TheVariants.{Refused}
 use Rattle.prepare_pair.proofs.TabledPairs.{long_asked, short_asked}
 use Rattle.prepare_pair.proofs.prepare.prepare.Goals as goal
 
@@ -11,7 +10,7 @@ returns-then-not-enough c =
     let a = c.args in
     let short = c.if-not-enough.true in
     let no-is = short_asked a.limits a.tbox.now a.first.now a.second.now a.enough short in
-    rw c.short_buffer.ensures (sym (on_no Refused _ _ _ no-is), sym (kept_no _ _ _ _ no-is))
+    rw c.short_buffer.ensures (sym (on_no _ _ _ no-is), sym (kept_no _ _ _ _ no-is))
 
 pub read_pair-requires : goal.read_pair-requires
 read_pair-requires c = (c.requires.0, c.requires.1 (c.if-not-enough.false))

@@ -2,11 +2,11 @@
 use Prim.Native.Nat.{◌≤◌}
 use borrow.Author.Tests.{leb-true}
 use mathlib.Core.Path.{◌∙◌, ap, sym}
+use Rattle.std.proofs.Common.{Ok}
 use Rattle.meaning.specs.NormalTable.{merged_count}
 use Rattle.picture.proofs.Orders.{on_no, on_yes}
 use Rattle.picture.proofs.Keeping.{kept_no, kept_yes}
 use Rattle.workspace.specs.Prepare.{Acceptable}
-use Rattle.prepare_pair.specs.declared.prepare.Prepared.TheVariants.{Refused, Tables}
 use Rattle.prepare_pair.proofs.TabledPairs.{both_few, many_first, many_second}
 use Rattle.prepare_pair.proofs.prepare.write_pair.Goals as goal
 
@@ -15,7 +15,7 @@ returns-then-not-is_within c =
     let a = c.args in
     let many = sym c.is_within.ensures ∙ c.if-not-is_within.true in
     let no-is = many_first a.limits a.first.now a.second.now many in
-    rw c.too_many.ensures (sym (on_no Refused _ _ _ no-is), sym (kept_no _ _ _ _ no-is))
+    rw c.too_many.ensures (sym (on_no _ _ _ no-is), sym (kept_no _ _ _ _ no-is))
 
 pub returns-then-not-is_within-2 : goal.returns-then-not-is_within-2
 returns-then-not-is_within-2 c =
@@ -23,7 +23,7 @@ returns-then-not-is_within-2 c =
     let a = c.args in
     let many = sym c.is_within-2.ensures ∙ c.if-not-is_within-2.true in
     let no-is = many_second a.limits a.first.now a.second.now (first_few) many in
-    rw c.too_many-then-not-is_within-2.ensures (sym (on_no Refused _ _ _ no-is), sym (kept_no _ _ _ _ no-is))
+    rw c.too_many-then-not-is_within-2.ensures (sym (on_no _ _ _ no-is), sym (kept_no _ _ _ _ no-is))
 
 pub build_halves-requires : goal.build_halves-requires
 build_halves-requires c =
@@ -52,6 +52,6 @@ returns c =
     let a = c.args in
     let built = c.build_halves in
     let all = both_few a.limits a.first.now a.second.now yes_both.first_few yes_both.second_few in (
-      ap Tables built.ensures.0 ∙ sym (on_yes Refused _ _ all),
+      ap Ok built.ensures.0 ∙ sym (on_yes _ _ all),
       built.ensures.1 ∙ sym (kept_yes _ _ _ all),
     )

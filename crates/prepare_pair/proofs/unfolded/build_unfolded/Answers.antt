@@ -11,23 +11,23 @@ use Rattle.prepare_pair.proofs.TabledPairs.{half_long, halves_built}
 use Rattle.prepare_pair.proofs.unfolded.build_unfolded.Goals as goal
 
 pub half_size-half-requires : goal.half_size-half-requires
-half_size-half-requires c = c.requires.first_ready.ready.bounded
+half_size-half-requires c = c.requires.pair.first_ready.ready.bounded
 
 pub overflow_add-end : goal.overflow_add-end
-overflow_add-end c = omega (arith, c.half_size-half.ensures, c.requires.space)
+overflow_add-end c = omega (arith, c.half_size-half.ensures, c.requires.pair.space)
 
 pub slice_bounds-unfolded_half-end-2 : goal.slice_bounds-unfolded_half-end-2
 slice_bounds-unfolded_half-end-2 c =
     let half = c.half_size-half in
-    sym (length-take-le half.result c.args.work.now (omega (arith, half.ensures, c.requires.space)))
+    sym (length-take-le half.result c.args.work.now (omega (arith, half.ensures, c.requires.pair.space)))
 
 pub unfolded_half-n-requires : goal.unfolded_half-n-requires
 unfolded_half-n-requires c =
     let half = c.half_size-half in
     record {
-      ready = c.requires.first_ready;
+      ready = c.requires.pair.first_ready;
       few = c.requires.first_few;
-      long = length-take-le half.result c.args.work.now (omega (arith, half.ensures, c.requires.space))
+      long = length-take-le half.result c.args.work.now (omega (arith, half.ensures, c.requires.pair.space))
           ∙ half.ensures;
     }
 
@@ -41,7 +41,7 @@ unfolded_half-m-requires c =
       few = search rules;
       long = length_upper half.result a.work.now lower.new.half (half.result + half.result)
           (half_long a.limits _ _ c.requires.first_few lower.ensures.1 ∙ sym half.ensures) refl
-          (omega (arith, half.ensures, c.requires.space))
+          (omega (arith, half.ensures, c.requires.pair.space))
           ∙ half.ensures;
     }
 

@@ -1,69 +1,33 @@
-use mathlib.Core.Logic.{inl, inr}
-use mathlib.Core.Path.{◌∙◌, sym}
-use native.Mathlib.Omega.{arith}
-use Rattle.homomorphism_search.proofs.Searches.{checked_has}
-use Rattle.refutation_writer.proofs.RefutingTurns.{value_end, value_found, value_less, value_next, value_start}
+use borrow.Author.Tests.{eq-eqb, ne_eqb}
+use mathlib.Core.Bool.{and-false, false, true}
+use mathlib.Core.Path.{◌≡◌, ◌∙◌, ap, subst, sym}
+use Rattle.homomorphism_search.proofs.Walks.{WalkAt, walk_found, walk_next}
+use Rattle.row_sets.proofs.Walks.{turned}
+use Rattle.refutation_writer.proofs.RefutingTurns.{is_value, value_start}
 use Rattle.refutation_writer.proofs.refute.value_row.Goals as goal
-use Rattle.refutation_writer.proofs.refute.value_row.Goals.{then-kind-eq-KIND_FOR_ALL+else-role, else-kind-eq-KIND_FOR_ALL}
-
-pub bounds-links-u : goal.bounds-links-u
-bounds-links-u c = omega (arith, c.requires.1, c.requires.0.checked.most)
+use Rattle.refutation_writer.proofs.refute.value_row.Goals.{else-kind-eq-KIND_FOR_ALL-via-then-kind-eq-KIND_FOR_ALL+else-role, else-kind-eq-KIND_FOR_ALL-via-else-kind-eq-KIND_FOR_ALL}
 
 pub loop-v-init : goal.loop-v-init
 loop-v-init c =
-    let a = c.args in
-    value_start a.first.now a.links.now a.n a.u a.role c.requires.0 c.wide-v.result c.requires.1 c.wide-v.ensures.0
-
-pub kind-requires : goal.kind-requires
-kind-requires c =
-    let l = c.loop-v in
-    checked_has c.args.first.now c.args.n l.v c.requires.0.checked (l.invariant.on c.loop-v-test.true).0
-
-pub role-requires : goal.role-requires
-role-requires c =
-    let l = c.loop-v in
-    checked_has c.args.first.now c.args.n l.v c.requires.0.checked (l.invariant.on c.loop-v-test.true).0
+    let same = c.into_iter-v-iterator.ensures.into_iter_gives in
+    let first = c.below-v-items.ensures in
+    (ap (λ b. b.table.now) same ∙ first.table, value_start c.args.first.now c.args.role c.requires (ap (λ b. b.next) same ∙ first.next))
 
 pub returns-then-role : goal.returns-then-role
 returns-then-role c =
-    let a = c.args in
-    let l = c.loop-v in
-    let z = c.loop-v-test.true in
-    let k = c.kind in
-    let r = c.role in (
-      sym
-          (value_found a.first.now a.links.now a.n a.u a.role c.requires.0 l.v z l.invariant k.result r.result k.ensures r.ensures c.if-kind-eq-KIND_FOR_ALL.true
-          c.if-role.true),
-      (l.invariant.on z).0,
-    )
-
-pub overflow_add-v : goal.overflow_add-v
-overflow_add-v c = omega (arith, (c.loop-v.invariant.on c.loop-v-test.true).0, c.requires.0.checked.most)
-
-pub bounds-links-v : goal.bounds-links-v
-bounds-links-v c = omega (arith, (c.loop-v.invariant.on c.loop-v-test.true).0, c.requires.0.checked.most)
-
-pub loop-v-smaller : goal.loop-v-smaller
-loop-v-smaller c =
-    let a = c.args in
-    let l = c.loop-v in
-    let z = c.loop-v-test.true in
-    value_less a.first.now a.links.now a.n a.u a.role c.requires.0 l.v z l.invariant c.wide-v-in-loop-v.result c.wide-v-in-loop-v.ensures.0
+    let turn = turned c.loop-v.v-iterator c.next.new.self c.loop-v.invariant.0 c.in-Some.ensures.steps in
+    let at = subst (WalkAt _ _ _ _ _ _) turn.is c.loop-v.invariant.1 in
+    let passes : is_value c.args.first.now.bytes.now c.args.role c.in-Some.v ≡ true =
+    rw (eq-eqb _ _ (sym c.kind.ensures ∙ c.if-kind-eq-KIND_FOR_ALL.true), eq-eqb _ _ (sym c.role.ensures ∙ c.if-role.true)) in
+    (walk_found c.args.first.now.linked.linked turn.there at passes, turn.there, (at.on turn.there).0)
 
 pub loop-v-preserved : goal.loop-v-preserved
 loop-v-preserved c =
-    let a = c.args in
-    let l = c.loop-v in
-    let z = c.loop-v-test.true in
-    let k = c.kind in
-    value_next a.first.now a.links.now a.n a.u a.role c.requires.0 l.v z l.invariant c.wide-v-in-loop-v.result c.wide-v-in-loop-v.ensures.0
-    (elim c.if-kind-eq-KIND_FOR_ALL.branch [
-      | then-kind-eq-KIND_FOR_ALL+else-role w ↦ inr (λ e. w.if-role.false (w.role.ensures ∙ e))
-      | else-kind-eq-KIND_FOR_ALL w ↦ inl (λ e. w.if-kind-eq-KIND_FOR_ALL.false (k.ensures ∙ e))
-    ])
-
-pub returns : goal.returns
-returns c =
-    let a = c.args in
-    let l = c.loop-v in
-    (sym (value_end a.first.now a.n a.u a.role l.v l.invariant c.loop-v-test.false), c.requires.0.checked.some)
+    let turn = turned c.loop-v.v-iterator c.next.new.self c.loop-v.invariant.0 c.in-Some.ensures.steps in
+    let at = subst (WalkAt _ _ _ _ _ _) turn.is c.loop-v.invariant.1 in
+    let other : is_value c.args.first.now.bytes.now c.args.role c.in-Some.v ≡ false = elim c.else-kind-eq-KIND_FOR_ALL.branch [
+      | else-kind-eq-KIND_FOR_ALL-via-then-kind-eq-KIND_FOR_ALL+else-role w ↦
+          rw (ne_eqb _ _ (λ e. w.if-role.false (w.role.ensures ∙ e))) (and-false _)
+      | else-kind-eq-KIND_FOR_ALL-via-else-kind-eq-KIND_FOR_ALL w ↦ rw (ne_eqb _ _ (λ e. w.if-kind-eq-KIND_FOR_ALL.false (c.kind.ensures ∙ e)))
+    ] in
+    (turn.table, walk_next c.args.first.now.linked.linked turn.there at c.next.new.self.next turn.next other)

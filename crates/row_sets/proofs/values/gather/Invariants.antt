@@ -1,13 +1,11 @@
--- At the loop's head the rows of the set before j have been collected; j is the next of them, or past the rows.
-use mathlib.Core.Bool.{true}
-use mathlib.Core.Path.{◌≡◌}
-use Prim.Native.Nat.{◌-◌, ◌<◌}
+-- At the loop's head the rows of the set before those that are left have been collected.
 use Rattle.row_sets.specs.Rows.{holds}
 use Rattle.row_sets.proofs.Gathers.{Gathered}
+use Rattle.row_sets.proofs.MemberWalks.{Over}
 use Rattle.row_sets.proofs.values.gather.Given as goal
 
 abbrev pub invariant-loop-j : goal.invariant-loop-j
-invariant-loop-j l = (Gathered l.s l.rows (holds l.set) l.j l.values) × (l.j < l.rows → holds l.set l.j ≡ true)
-
-abbrev pub decreases-loop-j : goal.decreases-loop-j
-decreases-loop-j l = l.rows - l.j
+invariant-loop-j l = record {
+  over : Over l.fn.set l.table.rows l.j-iterator;
+  gathered : Gathered l.table.bytes.now l.table.rows (holds l.fn.set) l.j-iterator.from l.values;
+}

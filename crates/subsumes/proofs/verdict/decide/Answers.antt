@@ -11,48 +11,28 @@ fill_links-requires c = (c.requires.0, blank 512 512 refl)
 pub fill_links-requires-2 : goal.fill_links-requires-2
 fill_links-requires-2 c = (c.requires.1.0, blank 512 512 refl)
 
-pub maps-requires : goal.maps-requires
-maps-requires c = (
-  record { checked = c.requires.0; linked = c.fill_links.ensures },
-  (record { checked = c.requires.1.0; linked = c.fill_links-2.ensures }, ((blank 256 256 refl).size, (blank 256 256 refl).size)),
-)
-
 pub write_map-requires : goal.write_map-requires
 write_map-requires c =
     let a = c.args in
     let settled = c.requires.1.1 in
-    let maps = c.maps in (
-      c.requires.0,
-      (
-        c.requires.1.0,
-        (
-          mapped a.first.now a.second.now a.depth maps.result maps.ensures.0 (length a.out.now) _ settled maps.ensures.1.0 c.if-maps.true,
-          map_fits a.first.now a.second.now a.depth a.m (length a.out.now) c.requires.1.0 settled,
-        ),
-      ),
-    )
+    record {
+      first = c.requires.0;
+      second = c.requires.1.0;
+      mapped = mapped a.first.now a.second.now a.depth c.maps.result c.maps.ensures.is (length a.out.now) _ settled c.maps.ensures.found c.if-maps.true;
+      room = map_fits a.first.now a.second.now a.depth a.m (length a.out.now) c.requires.1.0 settled;
+    }
 
 pub returns-then-maps : goal.returns-then-maps
 returns-then-maps c =
     let a = c.args in
-    let write = c.write_map in
-    let maps = c.maps in
-    decided_yes a.first.now a.second.now a.depth maps.result maps.ensures.0 write.result a.out.now write.new.out
-    c.if-maps.true write.ensures.0 write.ensures.1
+    decided_yes a.first.now a.second.now a.depth c.maps.result c.maps.ensures.is c.write_map.result a.out.now c.write_map.new.out
+    c.if-maps.true c.write_map.ensures.length c.write_map.ensures.bytes
 
 pub write_refutation-requires : goal.write_refutation-requires
-write_refutation-requires c = (
-  record { checked = c.requires.0; linked = c.fill_links.ensures },
-  (
-    record { checked = c.requires.1.0; linked = c.fill_links-2.ensures },
-    (c.maps.ensures.1.1 c.if-maps.false, c.requires.1.1.refutation_room),
-  ),
-)
+write_refutation-requires c = record { missed = c.maps.ensures.missed c.if-maps.false; room = c.requires.1.1.refutation_room }
 
 pub returns : goal.returns
 returns c =
     let a = c.args in
-    let write = c.write_refutation in
-    let maps = c.maps in
-    decided_no a.first.now a.second.now a.depth maps.result maps.ensures.0 write.result a.out.now write.new.out
-    c.if-maps.false write.ensures.0 write.ensures.1
+    decided_no a.first.now a.second.now a.depth c.maps.result c.maps.ensures.is c.write_refutation.result a.out.now c.write_refutation.new.out
+    c.if-maps.false c.write_refutation.ensures.length c.write_refutation.ensures.bytes

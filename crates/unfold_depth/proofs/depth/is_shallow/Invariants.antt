@@ -1,7 +1,6 @@
--- At the loop's head the depths of the rows before row n are noted, n is not 0, and what is left to ask is the test
--- from row n on.
+-- At the loop's head the depths of the rows before row n are noted, and what is left to ask is the test from row n on.
 use mathlib.Core.Path.{◌≡◌}
-use Prim.Native.Nat.{◌-◌, ◌≤◌}
+use Prim.Native.Nat.{◌-◌}
 use lib.ListN.{length}
 use Rattle.table.specs.Bounds.{max_rows}
 use Rattle.table.specs.Range.{each}
@@ -11,9 +10,8 @@ use Rattle.unfold_depth.proofs.ShallowRows.{shallow_at}
 use Rattle.unfold_depth.proofs.depth.is_shallow.Given as goal
 
 abbrev pub invariant-loop-n : goal.invariant-loop-n
-invariant-loop-n l =
-    (1 ≤ l.n) × (length l.depths ≡ max_rows) × Known l.table l.n l.depths
-    × (shallow l.table l.rows l.limit ≡ each (shallow_at l.table l.limit) (l.rows - l.n) l.n)
-
-abbrev pub decreases-loop-n : goal.decreases-loop-n
-decreases-loop-n l = l.rows - l.n
+invariant-loop-n l = record {
+  size : length l.depths ≡ max_rows;
+  known : Known l.table l.n l.depths;
+  rest : shallow l.table l.rows l.limit ≡ each (shallow_at l.table l.limit) (l.rows - l.n) l.n;
+}

@@ -29,8 +29,6 @@ pub loop-k-init : goal.loop-k-init
 unfolding row_count
 loop-k-init c = (
   omega arith,
-  omega arith,
-  c.requires.source.some,
   added_none c.args.out.now c.args.s.now
       (parent_in picture_signature c.args.i c.args.table.rows) 1 c.args.table.rows,
 )
@@ -39,14 +37,14 @@ pub parent-requires : goal.parent-requires
 unfolding row_count
 parent-requires c =
     let p = c.requires.source in
-    (omega (arith, p.most, c.loop-k-test.true), omega (arith, p.whole, c.loop-k-test.true))
+    (omega (arith, p.most), omega (arith, p.whole))
 
 pub hung_from-above-requires : goal.hung_from-above-requires
 unfolding row_count
 hung_from-above-requires c =
     let l = c.loop-k in
     let t = c.loop-k-test.true in (
-      omega (arith, c.parent.ensures.0, c.requires.source.parents l.k l.invariant.1 t, c.requires.source.most),
+      omega (arith, c.parent.ensures.0, c.requires.source.parents l.k (omega arith) (omega arith), c.requires.source.most),
       omega (arith, c.requires.started, c.requires.small),
     )
 
@@ -54,7 +52,6 @@ pub copied-requires : goal.copied-requires
 unfolding row_count
 copied-requires c =
     let p = c.requires.source in
-    let t = c.loop-k-test.true in
     (omega (arith, p.most), omega (arith, p.whole))
 
 pub push-grown-requires : goal.push-grown-requires
@@ -62,34 +59,22 @@ unfolding row_count
 push-grown-requires c =
     let p = c.requires in
     let l = c.loop-k in
-    let t = c.loop-k-test.true in
     let fits = c.if-limit-first.false in
-    (omega (arith, p.small, l.invariant.0), omega (arith, p.room, l.invariant.0, l.invariant.3.same_length))
-
-pub overflow_add-k : goal.overflow_add-k
-unfolding row_count
-overflow_add-k c = omega (arith, c.requires.source.most, c.loop-k-test.true)
-
-pub loop-k-smaller : goal.loop-k-smaller
-unfolding row_count
-loop-k-smaller c = omega (arith, c.loop-k-test.true)
+    (omega (arith, p.small, l.invariant.0), omega (arith, p.room, l.invariant.0, l.invariant.1.same_length))
 
 pub loop-k-preserved : goal.loop-k-preserved
 unfolding row_count
 loop-k-preserved c =
     let l = c.loop-k in
-    let t = c.loop-k-test.true in
     let fits = c.if-limit-first.false in
     let push = c.push-grown in
     let copied = c.copied in
     let above = c.hung_from-above in
     let parent = c.parent in (
       omega (arith, push.ensures.0, l.invariant.0),
-      omega arith,
-      omega arith,
       added_hung c.args.out.now l.out _ c.args.s.now c.args.i l.k
           c.args.table.rows l.grown.rows above.result _
-          l.invariant.1 l.invariant.3 l.invariant.0 (omega (arith, c.requires.room, l.invariant.0))
+          (omega arith) l.invariant.1 l.invariant.0 (omega (arith, c.requires.room, l.invariant.0))
           (above.ensures ∙ ap (parent_in picture_signature c.args.i c.args.table.rows)
           parent.ensures.0) copied.ensures push.ensures.1,
     )
@@ -98,15 +83,15 @@ pub returns : goal.returns
 unfolding row_count
 returns c =
     let l = c.loop-k in
-    let e : l.k - 1 ≡ row_count c.args.s.now - 1 = omega (arith, c.loop-k-test.false, l.invariant.2) in
+    let e : l.k - 1 ≡ row_count c.args.s.now - 1 = omega (arith, c.requires.source.some) in
     record {
-      same_length = l.invariant.3.same_length;
+      same_length = l.invariant.1.same_length;
       fitted = λ h. (
-        omega (arith, l.invariant.0, l.invariant.1, l.invariant.2, c.loop-k-test.false),
+        omega (arith, l.invariant.0, c.requires.source.some),
         subst (λ n. Added c.args.out.now l.out
             (copy_bytes c.args.s.now (parent_in picture_signature c.args.i c.args.table.rows) 1
             n)
-            c.args.table.rows n) e l.invariant.3,
+            c.args.table.rows n) e l.invariant.1,
       );
       stopped = λ h. absurd (omega (arith, c.if-limit-first.false, c.requires.source.some));
     }

@@ -1,5 +1,5 @@
 -- At the loop's head rows 1 to k - 1 of the definition have been pushed.
-use Prim.Native.Nat.{◌+◌, ◌-◌, ◌<◌, ◌≤◌}
+use Prim.Native.Nat.{◌+◌, ◌-◌}
 use mathlib.Core.Path.{◌≡◌}
 use Rattle.ale.specs.PictureSignature.{picture_signature}
 use Rattle.tbox.specs.Unfold.{parent_in}
@@ -8,8 +8,5 @@ use Rattle.unfold_rows.proofs.copy.hang.Given as goal
 
 abbrev pub invariant-loop-k : goal.invariant-loop-k
 invariant-loop-k l =
-    (l.grown.rows + 1 ≡ l.first + l.k) × (0 < l.k) × (l.k ≤ l.rows)
+    (l.grown.rows + 1 ≡ l.first + l.k)
     × Added l.initial.out l.out (copy_bytes l.s (parent_in picture_signature l.i l.first) 1 (l.k - 1)) l.first (l.k - 1)
-
-abbrev pub decreases-loop-k : goal.decreases-loop-k
-decreases-loop-k l = l.rows - l.k

@@ -1,7 +1,6 @@
 use lib.ListN.{length}
 use native.Mathlib.Omega.{arith}
 use mathlib.Core.Path.{◌∙◌, ◌≡◌, refl, subst, sym}
-use Rattle.table.specs.NameValues.{set_of}
 use Rattle.unfold_rows.specs.Copies.{Source}
 use Rattle.unfold_rows.proofs.Attaching.{readable_source}
 use Rattle.unfold_rows.proofs.Unfolding.{grows_end, grows_next, grows_start, grows_stop}
@@ -22,7 +21,7 @@ loop-i-init c =
     let copy = c.copy_rows-table in (
       omega arith,
       refl,
-      grows_start a.picture.now a.tbox.now a.starts.now (set_of a.defined) a.limit pre.limits
+      grows_start a.picture.now a.tbox.now a.limit pre.limits
           pre.readable a.rows copy.result.rows a.out.now _ pre.counted copy.ensures.0
           copy.ensures.1 pre.within,
     )
@@ -32,7 +31,7 @@ returns-then-limit-table c =
     let kept : length c.loop-i.out ≡ length c.args.out.now = c.loop-i.invariant.1 ∙ c.copy_rows-table.ensures.1.same_length in
     let l = c.loop-i in
     let a = c.args in
-    grows_stop a.picture.now a.tbox.now a.starts.now (set_of a.defined) a.limit l.table.rows
+    grows_stop a.picture.now a.tbox.now a.limit l.table.rows
     l.i
     a.out.now l.out l.invariant.2 (kept) l.invariant.0 c.if-limit-table.true
 
@@ -41,7 +40,6 @@ come_up-table-requires c =
     let l = c.loop-i in
     let pre = c.requires in
     record {
-      opened = pre.opened;
       here = c.loop-i-test.true;
       within = omega (arith, c.if-limit-table.false);
       small = pre.small;
@@ -62,7 +60,7 @@ loop-i-preserved c =
     let up = c.come_up-table in (
       omega (arith, c.loop-i-test.true, few),
       up.ensures.same_length ∙ l.invariant.1,
-      grows_next a.picture.now a.tbox.now a.starts.now (set_of a.defined) a.limit l.table.rows
+      grows_next a.picture.now a.tbox.now a.limit l.table.rows
           up.result.rows l.i l.out _ l.invariant.2 (omega (arith, few)) up.ensures,
     )
 
@@ -71,6 +69,6 @@ returns c =
     let kept : length c.loop-i.out ≡ length c.args.out.now = c.loop-i.invariant.1 ∙ c.copy_rows-table.ensures.1.same_length in
     let l = c.loop-i in
     let a = c.args in
-    grows_end a.picture.now a.tbox.now a.starts.now (set_of a.defined) a.limit l.table.rows
+    grows_end a.picture.now a.tbox.now a.limit l.table.rows
     l.i
     a.out.now l.out l.invariant.2 (kept) l.invariant.0 (omega (arith, c.loop-i-test.false))

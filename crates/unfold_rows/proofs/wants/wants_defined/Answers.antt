@@ -1,63 +1,27 @@
-use Prim.Native.Nat.{◌<◌}
-use native.Mathlib.Nat.{eq-or-lt_of_le}
+use Prim.Native.Nat.{◌<◌, ℕ}
 use native.Mathlib.Omega.{arith}
-use mathlib.Core.Bool.{false}
-use mathlib.Core.Logic.{⊎_elim}
-use mathlib.Core.Path.{◌∙◌, ◌≡◌, subst, sym}
+use mathlib.Core.Path.{◌∙◌, ap, refl}
+use Rattle.std.proofs.Common.{rules}
+use Rattle.std.proofs.iter.Serving.{serving}
+use Rattle.std.proofs.lemmas.Iterator.{YieldsList-from_range}
+use Rattle.std.proofs.lemmas.Iterator.Search.{any_from_yields_List}
 use Rattle.table.specs.NameValues.{set_of}
+use Rattle.table.specs.Range.{some}
+use Rattle.table_rows.specs.Rows.{HasRow}
 use Rattle.picture.specs.Readable.{row_count}
-use Rattle.unfold_rows.proofs.Wanting.{asks, asks_read, wants_found, wants_none}
+use Rattle.unfold_rows.proofs.Wanting.{asks, asks_read, some_list}
 use Rattle.unfold_rows.proofs.wants.wants_defined.Goals as goal
 
-pub loop-j-init : goal.loop-j-init
-loop-j-init c = (omega arith, λ k l. absurd (omega arith))
-
-pub wanted-names-requires : goal.wanted-names-requires
+pub any-requires-clause-callable : goal.any-requires-clause-callable
 unfolding row_count
-wanted-names-requires c =
-    let pre = c.requires in
-    (omega (arith, pre.1, c.loop-j-test.true), omega (arith, pre.0, c.loop-j-test.true))
-
-pub returns-then-overlaps : goal.returns-then-overlaps
-returns-then-overlaps c =
-    let here : let a = c.args in asks a.picture.now (set_of a.defined) c.loop-j.j ≡ c.overlaps.result = let a = c.args in
-    let wanted = c.wanted-names in
-    asks_read a.picture.now (set_of a.defined) c.loop-j.j (set_of wanted.result)
-    c.overlaps.result wanted.ensures.0 wanted.ensures.1 c.overlaps.ensures in
-    let a = c.args in
-    wants_found a.picture.now (set_of a.defined) c.loop-j.j
-    (omega (arith, c.requires.0, c.loop-j-test.true)) (here ∙ c.if-overlaps.true)
-
-pub overflow_add-j : goal.overflow_add-j
-overflow_add-j c =
-    omega (
-      arith,
-      c.loop-j-test.true,
-      c.requires.1,
-    )
-
-pub loop-j-smaller : goal.loop-j-smaller
-loop-j-smaller c = omega (arith, c.loop-j-test.true)
-
-pub loop-j-preserved : goal.loop-j-preserved
-loop-j-preserved c =
-    let here : let a = c.args in asks a.picture.now (set_of a.defined) c.loop-j.j ≡ c.overlaps.result = let a = c.args in
-    let wanted = c.wanted-names in
-    asks_read a.picture.now (set_of a.defined) c.loop-j.j (set_of wanted.result)
-    c.overlaps.result wanted.ensures.0 wanted.ensures.1 c.overlaps.ensures in
-    let a = c.args in
-    let l = c.loop-j in (
-      omega (arith, c.loop-j-test.true),
-      λ k b.
-          ⊎_elim
-          (λ (e : k ≡ l.j). subst (λ z. asks a.picture.now (set_of a.defined) z ≡ false) (sym e)
-          (here ∙ c.if-overlaps.false))
-          (λ (e : k < l.j). l.invariant.1 k e)
-          (eq-or-lt_of_le {n = k} {m = l.j} (omega arith)),
-    )
+any-requires-clause-callable c =
+    let has_row : (j : ℕ) → j < c.args.rows → HasRow c.args.picture.now j = λ j l. (omega (arith, c.requires.1), omega (arith, c.requires.0)) in
+    grind (serving, has_row)
 
 pub returns : goal.returns
 returns c =
-    let l = c.loop-j in
-    wants_none c.args.picture.now (set_of c.args.defined)
-    (λ k b. l.invariant.1 k (omega (arith, c.requires.0, c.loop-j-test.false)))
+    let asked = asks c.args.picture.now (set_of c.args.defined) in
+    any_from_yields_List asked _ _ _ c.any.ensures.ran (YieldsList-from_range 0 c.args.rows c.args.rows refl (omega arith))
+    (λ x b q called. (search rules, search (rules, asks_read)))
+    ∙ some_list asked c.args.rows 0
+    ∙ ap (λ n. some asked n 0) c.requires.0

@@ -1,7 +1,7 @@
 -- What `io::decimal` leaves are the digits of the definition, and the byte is put after them.
-use lib.ListN.{length, take}
+use lib.ListN.{length}
 use mathlib.Core.List.{[], ◌∷◌}
-use mathlib.Core.Path.{◌∙◌, ◌≡◌, ap, subst}
+use mathlib.Core.Path.{ap, subst}
 use native.Mathlib.Omega.{arith}
 use Rattle.verdict_lines.specs.Gathering.{Added}
 use Rattle.verdict_lines.specs.Lines.{decimal}
@@ -12,15 +12,13 @@ use Rattle.verdict_lines.proofs.text.put_number.Goals as goal
 pub put_text-end-requires : goal.put_text-end-requires
 put_text-end-requires c =
     let made = c.decimal-k in
-    let spelled : take made.result made.new.out ≡ decimal c.args.n =
-    made.ensures.digits ∙ decimal_digits made.result c.args.n c.ranges.n.fits made.ensures.len in
+    let spelled = decimal_digits made.result c.args.n c.ranges.n.fits made.ensures.len made.ensures.digits in
     omega (arith, ap length spelled)
 
 pub put_text-requires : goal.put_text-requires
 put_text-requires c =
     let made = c.decimal-k in
-    let spelled : take made.result made.new.out ≡ decimal c.args.n =
-    made.ensures.digits ∙ decimal_digits made.result c.args.n c.ranges.n.fits made.ensures.len in
+    let spelled = decimal_digits made.result c.args.n c.ranges.n.fits made.ensures.len made.ensures.digits in
     omega (arith, ap length spelled, c.put_text-end.ensures.place, c.put_text-end.auto, c.requires)
 
 pub returns : goal.returns
@@ -29,9 +27,7 @@ returns c =
     let made = c.decimal-k in
     let digits = c.put_text-end in
     let last = c.put_text in
-    let spelled : take made.result made.new.out ≡ decimal a.n =
-    made.ensures.digits ∙ decimal_digits made.result a.n c.ranges.n.fits made.ensures.len in
-    let put : Added a.out.now a.at (decimal a.n) digits.result digits.new.out =
-    subst (λ s. Added a.out.now a.at s digits.result digits.new.out) spelled digits.ensures in
+    let spelled = decimal_digits made.result a.n c.ranges.n.fits made.ensures.len made.ensures.digits in
+    let put = subst (λ s. Added a.out.now a.at s digits.result digits.new.out) spelled digits.ensures in
     added_on a.out.now digits.new.out last.new.out a.at digits.result last.result (decimal a.n) (a.after ∷ [])
     (omega (arith, c.requires)) put last.ensures

@@ -1,4 +1,3 @@
-use mathlib.Core.Bool.{false}
 use native.Mathlib.Omega.{arith}
 use Rattle.row_sets.proofs.Words.{at_word, before_word}
 use Rattle.row_sets.proofs.rows.RowSet.next.Goals as goal

@@ -1,0 +1,2 @@
+-- What the map file is written from.
+pub mod Images
