@@ -30,7 +30,7 @@ use Rattle.definitions.specs.Asked.{Picture, asked_of, definitions_asked, defini
 use Rattle.definitions.specs.Form.{definition_count, definitions_form}
 use Rattle.definitions.specs.Refusals.{AllOf}
 use Rattle.definitions.specs.Unfolded.{named_once}
-use Rattle.definitions_reader.proofs.Indexes.{index_all, index_start}
+use Rattle.definitions_reader.proofs.Indexes.{index_all, index_start, indexes_once}
 use Rattle.definitions_reader.specs.Index.{Indexes}
 use Rattle.definitions_reader.specs.declared.index.Index.{Index}
 use Rattle.unfold_tables.specs.Ready.{Ready}
@@ -119,6 +119,6 @@ module _ (tbox : List ℕ) (ends : ends_at tbox 0 ≡ true) where
         all_listed (Readable limits) (picture_of rest) (count_of rest) 0
             (λ j a b. read.readable j (omega arith)),
       ) in
-      let indexed = index_all tbox has_form index true 0 (sym none_there)
-      (index_start tbox index.starts (set_of index.defined) empty size) refl in
+      let indexed = indexes_once tbox index true (index_all tbox has_form index true 0 (sym none_there)
+      (index_start tbox index.starts (set_of index.defined) empty size)) refl in
       (all, found_ready limits tbox (given_of first rest) given.bounded index indexed all)

@@ -76,7 +76,7 @@ fn open_read(
     ensures { Opens limits tbox.now (given_of first.now rest.now) result }
 {
     let found = index_of(tbox, fields);
-    let Some(index) = &found else {
+    let Ok(index) = &found else {
         return Err(refuse(26, Input::Definitions));
     };
     let opened = Tbox {

@@ -6,7 +6,9 @@
 --   at_most, at_counted,
 --   at_place, at_inside,
 --   at_name                    definition k, where the code finds it
---   is_once, index_all         all of them: 26, and, where that is answered yes, the index
+--   is_once,
+--   IndexedAll, index_all      all of them: the defined names, 26, and, where that is answered yes, where each begins
+--   indexes_once               that is the index then
 --   index_there                that there is one
 use Prim.Native.Nat.{◌+◌, ◌-◌, ◌<◌, ◌^◌, ◌≤◌, suc, zero, ℕ}
 use borrow.Author.Count.{below_more}
@@ -20,7 +22,7 @@ use mathlib.Core.Logic.{⊎_elim}
 use mathlib.Core.Path.{◌∙◌, ◌≡◌, ap, refl, subst, sym}
 use native.Mathlib.Decide.{dec_lt, ℕ_discrete}
 use native.Mathlib.Omega.{arith}
-use Rattle.std.proofs.Common.{None, Option, Some, is_some}
+use Rattle.std.proofs.Common.{Err, Ok, Result, is_ok}
 use Rattle.table.proofs.Bools.{both, by_test, either}
 use Rattle.table.proofs.NameSets.{has_none, has_power, has_union, subset_power}
 use Rattle.table.proofs.Ranges.{at_each, at_some, some_at}
@@ -33,6 +35,7 @@ use Rattle.table.specs.NameValues.{set_of}
 use Rattle.table.specs.Number.{be}
 use Rattle.table.specs.Range.{each}
 use Rattle.table.specs.declared.layout.Limits.{Limits}
+use Rattle.table.specs.declared.names.Names.{Names}
 use Rattle.picture.specs.Readable.{Readable}
 use Rattle.meaning.specs.Meaning.{picture_table}
 use Rattle.fields.proofs.Forms.{field_whole, fields_before, length_value}
@@ -171,6 +174,13 @@ module _ (tbox : List ℕ) (fields : Fields) (formed : Formed tbox fields) (k : 
 
 -- ---- all of them
 
+pub record IndexedAll (tbox : List ℕ) (index : Index) (once : Bool) : Type 0 where
+  pub names : set_of index.defined ≡ defined_word tbox
+  pub single : once ≡ named_once tbox
+  pub agrees : once ≡ true → Agrees (tbox_of tbox) tbox index.starts (set_of index.defined)
+  pub opened : once ≡ true → (limits : Limits) → Bounded limits → AllReadable limits tbox →
+      Opened tbox index.starts (set_of index.defined)
+
 module _ (tbox : List ℕ) (form : definitions_form tbox ≡ true) (index : Index) (once : Bool) (k : ℕ)
     (whole : k ≡ definition_count tbox) (to : IndexedTo tbox index.starts (set_of index.defined) once k) where
   so : IndexedTo tbox index.starts (set_of index.defined) once (definition_count tbox)
@@ -249,9 +259,13 @@ module _ (tbox : List ℕ) (form : definitions_form tbox ≡ true) (index : Inde
         (subst (Readable limits) (sym (ap (part_at tbox) (starts_at e n j l same) ∙ part_file tbox j)) (readable j l));
   }
 
-  pub index_all : once ≡ true → Indexes tbox index
-  index_all e = record { names = is_defined; agrees = agrees e; opened = opened e }
+  pub index_all : IndexedAll tbox index once
+  index_all = record { names = is_defined; single = is_once; agrees = agrees; opened = opened }
 
-pub index_there : (tbox : List ℕ) (r : Option Index) → Indexed tbox r → named_once tbox ≡ true → is_some r ≡ true
-index_there tbox (Some index) found once = refl
-index_there tbox None none once = absurd (true≢false (sym once ∙ none))
+pub indexes_once : (tbox : List ℕ) (index : Index) (once : Bool) → IndexedAll tbox index once → once ≡ true →
+    Indexes tbox index
+indexes_once tbox index once all e = record { names = all.names; agrees = all.agrees e; opened = all.opened e }
+
+pub index_there : (tbox : List ℕ) (r : Result Index Names) → Indexed tbox r → named_once tbox ≡ true → is_ok r ≡ true
+index_there tbox (Ok index) found once = refl
+index_there tbox (Err names) found once = absurd (true≢false (sym once ∙ found.0))

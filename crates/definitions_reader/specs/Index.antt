@@ -2,12 +2,13 @@
 --   picture_start   where the picture of definition k begins: after its field's head and its name byte
 --   AllReadable    2 to 13 of every definition are answered yes
 --   Indexes        the defined names, and where each name's picture begins
---   Indexed        26 is answered no, or yes with those
-use Rattle.std.specs.Prelude.{◌+◌, ◌<◌, ℕ, false, true, List, MatchOption, Option, ◌≡◌}
+--   Indexed        26 is answered yes with those, or no with the defined names
+use Rattle.std.specs.Prelude.{◌+◌, ◌<◌, ℕ, false, true, List, MatchResult, Result, ◌≡◌}
 use Rattle.table.specs.Bounds.{Bounded}
 use Rattle.table.specs.Layout.{head_size}
 use Rattle.table.specs.NameValues.{set_of}
 use Rattle.table.specs.declared.layout.Limits.{Limits}
+use Rattle.table.specs.declared.names.Names.{Names}
 use Rattle.picture.specs.Readable.{Readable}
 use Rattle.fields.specs.Form.{field_place}
 use Rattle.definitions.specs.Form.{definition_count, definition_file}
@@ -28,6 +29,8 @@ pub record Indexes (tbox : List ℕ) (index : Index) : Type 0 where
   pub opened : (limits : Limits) → Bounded limits → AllReadable limits tbox →
       Opened tbox index.starts (set_of index.defined)
 
-abbrev pub Indexed : List ℕ → Option Index → Type 0
+abbrev pub Indexed : List ℕ → Result Index Names → Type 0
 Indexed tbox r =
-    MatchOption r (named_once tbox ≡ false) (λ index. (named_once tbox ≡ true) × Indexes tbox index)
+    MatchResult r
+    (λ index. (named_once tbox ≡ true) × Indexes tbox index)
+    (λ names. (named_once tbox ≡ false) × (set_of names ≡ defined_word tbox))

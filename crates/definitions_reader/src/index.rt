@@ -24,8 +24,8 @@ fn still_once(once: bool, defined: Names, name: Names) -> bool
     once && !name.subset(defined)
 }
 
-// One pass over the fields; none if a name is defined twice, where 26 is answered no.
-pub fn index_of(tbox: &[u8], fields: Fields) -> Option<Index>
+// One pass over the fields. Of a book that defines a name twice, where 26 is answered no, the defined names alone.
+pub fn index_of(tbox: &[u8], fields: Fields) -> Result<Index, Names>
     requires { Formed tbox.now fields }
     ensures { Indexed tbox.now result }
 {
@@ -40,7 +40,7 @@ pub fn index_of(tbox: &[u8], fields: Fields) -> Option<Index>
         starts[name] = fields.places[k] + HEAD_SIZE + NAME_SIZE;
     }
     if !once {
-        return None;
+        return Err(defined);
     }
-    Some(Index { starts, defined })
+    Ok(Index { starts, defined })
 }

@@ -1,6 +1,6 @@
 -- The card is the part of the book that is looked up; what is found in the definitions book is what unfolding needs.
-use Rattle.std.proofs.lemmas.Option.{MatchOption-at_some}
-use Rattle.std.specs.Option.{option_copied}
+use Rattle.std.proofs.lemmas.Result.{MatchResult-at_ok}
+use Rattle.std.specs.Result.{result_copied}
 use mathlib.Core.Path.{◌∙◌, ap, sym}
 use Rattle.definitions_reader.proofs.Indexes.{index_there}
 use Rattle.definitions_reader.specs.Index.{Indexes}
@@ -14,7 +14,7 @@ unwrap-index-requires c =
 
 found : (c : After-unwrap-index) → Indexes c.args.tbox.now c.unwrap-index.result.now
 found c =
-    (MatchOption-at_some _ _ _ (sym c.as_ref.ensures.value ∙ ap option_copied c.unwrap-index.ensures)
+    (MatchResult-at_ok _ _ _ (sym c.as_ref.ensures.value ∙ ap result_copied c.unwrap-index.ensures)
     c.index_of-found.ensures).1
 
 pub invariant_of-opened : goal.invariant_of-opened

@@ -1,6 +1,6 @@
 -- A no of 26, or what is left to ask of the pictures; where all is yes, the index is what was looked for.
 use mathlib.Core.Path.{◌∙◌, ◌≡◌, sym}
-use Rattle.std.proofs.lemmas.Option.{MatchOption-at_none, MatchOption-at_some}
+use Rattle.std.proofs.lemmas.Result.{MatchResult-at_err, MatchResult-at_ok}
 use Rattle.picture.proofs.Exits.{exits}
 use Rattle.definitions.specs.Asked.{definitions_asked}
 use Rattle.definitions_reader.proofs.DefinitionsInTurn.{all_readable}
@@ -15,7 +15,7 @@ left : (c : After-ask_pictures) →
 left c =
     let a = c.args in
     pictures_left a.limits a.tbox.now (given_of a.first.now a.rest.now) c.requires.formed.form c.requires.reads
-    (MatchOption-at_some _ _ _ c.in-Some.is c.index_of-found.ensures).0
+    (MatchResult-at_ok _ _ _ c.in-Ok.is c.index_of-found.ensures).0
     ∙ sym c.ask_pictures.ensures
 
 pub returns-in_default : goal.returns-in_default
@@ -23,12 +23,12 @@ returns-in_default c =
     let a = c.args in
     rw c.refuse.ensures
     (refused_names a.limits a.tbox.now (given_of a.first.now a.rest.now) c.requires.formed.form c.requires.reads
-    (MatchOption-at_none _ _ c.in_default.is c.index_of-found.ensures))
+    (MatchResult-at_err _ _ _ c.in_default.is c.index_of-found.ensures).0)
 
 pub invariant_of-opened : goal.invariant_of-opened
 invariant_of-opened c =
     let a = c.args in
-    let indexes = (MatchOption-at_some _ _ _ c.in-Some.is c.index_of-found.ensures).1 in
+    let indexes = (MatchResult-at_ok _ _ _ c.in-Ok.is c.index_of-found.ensures).1 in
     record {
       opened = indexes.opened a.limits c.requires.given.bounded
           (all_readable a.limits a.tbox.now c.requires.reads);
@@ -45,5 +45,5 @@ returns c =
     let all = left (goal.at.returns c).After-ask_pictures ∙ c.in_ok-ask_pictures.was in (
       all,
       found_ready a.limits a.tbox.now (given_of a.first.now a.rest.now) c.requires.given.bounded _
-          (MatchOption-at_some _ _ _ c.in-Some.is c.index_of-found.ensures).1 all,
+          (MatchResult-at_ok _ _ _ c.in-Ok.is c.index_of-found.ensures).1 all,
     )

@@ -1,11 +1,11 @@
 use Prim.Native.Nat.{◌+◌}
 use native.Mathlib.Omega.{arith}
-use mathlib.Core.Path.{◌∙◌, ◌≡◌, ap, refl, sym}
+use mathlib.Core.Path.{◌∙◌, ap, refl, sym}
 use Rattle.table.specs.Layout.{head_size}
 use Rattle.table.specs.NameValues.{set_of}
-use Rattle.definitions.specs.Form.{definition_count}
 use Rattle.definitions_reader.specs.declared.index.Index.{Index}
 use Rattle.definitions_reader.proofs.Indexes.{
+  IndexedAll,
   at_counted,
   at_inside,
   at_most,
@@ -14,9 +14,20 @@ use Rattle.definitions_reader.proofs.Indexes.{
   index_all,
   index_next,
   index_start,
-  is_once,
+  indexes_once,
 }
 use Rattle.definitions_reader.proofs.index.index_of.Goals as goal
+use Rattle.definitions_reader.proofs.index.index_of.Goals.{After-loop-k}
+
+abbrev index : (c : After-loop-k) → Index
+index c = record { starts = c.loop-k.starts; defined = c.loop-k.defined }
+
+-- every definition is met
+all : (c : After-loop-k) → IndexedAll c.args.tbox.now (index c) c.loop-k.once
+all c =
+    let l = c.loop-k in
+    index_all _ c.requires.form (index c) l.once l.k (omega (arith, l.invariant.most, c.requires.placed.counted))
+    l.invariant
 
 pub loop-k-init : goal.loop-k-init
 loop-k-init c = index_start c.args.tbox.now _ (set_of c.none-defined.result) c.none-defined.ensures refl
@@ -68,17 +79,11 @@ loop-k-preserved c =
 
 pub returns-then-not-once : goal.returns-then-not-once
 returns-then-not-once c =
-    let l = c.loop-k in
-    let whole : l.k ≡ definition_count c.args.tbox.now = omega (arith, l.invariant.most, c.requires.placed.counted) in
-    let index : Index = record { starts = l.starts; defined = l.defined } in
-    sym (is_once _ c.requires.form index l.once l.k whole l.invariant) ∙ c.if-not-once.true
+    let found = all (goal.at.returns-then-not-once c).After-loop-k in
+    (sym found.single ∙ c.if-not-once.true, found.names)
 
 pub returns : goal.returns
 returns c =
-    let l = c.loop-k in
-    let whole : l.k ≡ definition_count c.args.tbox.now = omega (arith, l.invariant.most, c.requires.placed.counted) in
-    let index : Index = record { starts = l.starts; defined = l.defined } in
-    let once = c.if-not-once.false in (
-      sym (is_once _ c.requires.form index l.once l.k whole l.invariant) ∙ once,
-      index_all _ c.requires.form index l.once l.k whole l.invariant once,
-    )
+    let found = all (goal.at.returns c).After-loop-k in
+    let once = c.if-not-once.false in
+    (sym found.single ∙ once, indexes_once _ _ _ found once)
