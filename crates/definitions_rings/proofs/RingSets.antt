@@ -6,12 +6,12 @@ use Prim.Native.Nat.{◌<◌, suc, zero, ℕ}
 use native.Mathlib.Omega.{arith}
 use lib.Dec.{ltb}
 use borrow.Author.Tests.{ltb-true}
+use lib.ListN.{get_or}
 use mathlib.Core.Bool.{Bool, ◌&&◌, ◌||◌, false, false≢true, not, true}
 use mathlib.Core.List.{List}
 use mathlib.Core.Path.{◌∙◌, ◌≡◌, ap, refl, sym}
 use Rattle.table.specs.Layout.{name_count}
 use Rattle.table.specs.NameSet.{has, subset}
-use Rattle.table.specs.NameValues.{set_of}
 use Rattle.table.specs.Range.{each}
 use Rattle.table.specs.declared.names.Names.{Names}
 use Rattle.table.proofs.Bools.{both, true_is}
@@ -23,8 +23,7 @@ use Rattle.ale.specs.Rows.{member}
 use Rattle.tbox.specs.Definitions.{Definitions, wants_in}
 use Rattle.tbox.specs.Acyclic.{acyclic, settle, settled, uses}
 use Rattle.meaning.specs.Meaning.{picture_table}
-use Rattle.definition_parts.specs.Tboxes.{Agreeing, picture_of}
-use Rattle.definition_parts.specs.declared.opened.Tbox.{Tbox}
+use Rattle.definition_parts.specs.Parts.{Agrees, part_at}
 use Rattle.definition_parts.proofs.NameWalks.{member_filter, same_test}
 use Rattle.definitions_rings.specs.Rings.{Uses, settle_set, settled_set, uses_at}
 use Rattle.definitions_rings.proofs.SettledSets.{settle_has, settled_none, settled_suc}
@@ -48,11 +47,8 @@ subset_each a b f g low p q =
     let l = low m t in
     q m ∙ implied (f m) (g m) (each_at (λ m. not (f m) || g m) name_count 0 h m (omega arith) (omega arith)) t))
 
-module _ (D : Definitions picture_signature) (tbox : Tbox) (agrees : Agreeing D tbox) (sets : List Names)
-    (found : Uses tbox sets) where
-  abbrev defined : ℕ
-  defined = set_of tbox.defined
-
+module _ (D : Definitions picture_signature) (tbox starts : List ℕ) (defined : ℕ) (agrees : Agrees D tbox starts defined)
+    (sets : List Names) (found : Uses tbox starts defined sets) where
   abbrev words_at : ℕ → ℕ
   words_at k = settled_set (uses_at sets) defined k
 
@@ -66,7 +62,7 @@ module _ (D : Definitions picture_signature) (tbox : Tbox) (agrees : Agreeing D 
       (m : ℕ) → has (uses_at sets n) m ≡ uses picture_signature D n m
   uses_same n l d m =
       found.right n l d m
-      ∙ ap (λ (b : Bool). b && wants_in picture_signature (picture_table (picture_of tbox n)) m)
+      ∙ ap (λ (b : Bool). b && wants_in picture_signature (picture_table (part_at tbox (get_or starts n 0))) m)
       (defined_same m)
       ∙ ap (λ q. has D.defined.set m && wants_in picture_signature q m)
       (sym (agrees.pictures n (true_is (has D.defined.set n) (sym (defined_same n) ∙ d))))

@@ -12,8 +12,7 @@ use Rattle.table.specs.declared.names.Names.{Names}
 use Rattle.ale.specs.PictureSignature.{picture_signature}
 use Rattle.meaning.specs.Meaning.{picture_table}
 use Rattle.tbox.specs.Definitions.{wants_in}
-use Rattle.definition_parts.specs.declared.opened.Tbox.{Tbox}
-use Rattle.definition_parts.specs.Tboxes.{picture_of}
+use Rattle.definition_parts.specs.Parts.{part_at}
 
 abbrev pub used_in : List ℕ → ℕ → ℕ → Bool
 used_in s defined m = has defined m && wants_in picture_signature (picture_table s) m
@@ -21,9 +20,9 @@ used_in s defined m = has defined m && wants_in picture_signature (picture_table
 abbrev pub uses_at : List Names → ℕ → ℕ
 uses_at uses n = set_of (get_or uses n (record { word = none }))
 
-pub record Uses (tbox : Tbox) (uses : List Names) : Type 0 where
-  pub right : (n : ℕ) → n < name_count → has (set_of tbox.defined) n ≡ true →
-      (m : ℕ) → has (uses_at uses n) m ≡ used_in (picture_of tbox n) (set_of tbox.defined) m
+pub record Uses (tbox starts : List ℕ) (defined : ℕ) (uses : List Names) : Type 0 where
+  pub right : (n : ℕ) → n < name_count → has defined n ≡ true →
+      (m : ℕ) → has (uses_at uses n) m ≡ used_in (part_at tbox (get_or starts n 0)) defined m
 
 abbrev pub settle_set : (ℕ → ℕ) → ℕ → ℕ → ℕ
 settle_set uses defined done = set_below (λ n. has defined n && subset (uses n) done) name_count

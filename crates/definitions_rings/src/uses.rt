@@ -27,7 +27,7 @@ fn used_names(picture: &[u8], defined: Names) -> Names
 
 // Those of each defined name.
 pub fn find_uses(tbox: &Tbox<'_>) -> [Names; NAMES]
-    ensures { Uses tbox.now result }
+    ensures { Uses tbox.now.bytes.now tbox.now.starts.now (set_of tbox.now.defined) result }
 {
     let mut uses = [Names::none(); NAMES];
     for name in NameWalk::over(tbox.defined) {

@@ -14,4 +14,4 @@ returns c =
     λ D agrees.
     c.subset.ensures
     ∙ ap (λ (w : ℕ). subset defined w) c.find_settled.ensures
-    ∙ rings_acyclic D _ agrees found.result found.ensures
+    ∙ rings_acyclic D _ _ _ agrees found.result found.ensures
