@@ -14,7 +14,7 @@ use lib.Seq.{length-take-le}
 use mathlib.Core.Bool.{true}
 use mathlib.Core.List.{List}
 use mathlib.Core.Path.{◌∙◌, ◌≡◌, ap, sym}
-use Rattle.table.specs.Bounds.{Bounded, bench_limits, max_rows}
+use Rattle.table.specs.Bounds.{Bounded, max_rows}
 use Rattle.table.specs.Fields.{parent_of}
 use Rattle.table.specs.Layout.{end_size, row_size, «place»}
 use Rattle.table.specs.NameSet.{has}
@@ -35,24 +35,24 @@ use Rattle.picture.proofs.Readables.{
   reading_formed,
 }
 use Rattle.definition_parts.specs.declared.opened.Tbox.{Tbox}
-use Rattle.definition_parts.specs.Parts.{Opened, Part, part_at, part_length_of}
+use Rattle.definition_parts.specs.Parts.{Opened, Part, part_at, part_length_of, widest_limits}
 use Rattle.definition_parts.specs.Tboxes.{picture_of}
 
 pub part_length : (tbox : List ℕ) (at : ℕ) → Part tbox at → length (part_at tbox at) ≡ part_length_of tbox at
 part_length tbox at p = length-take-le (part_length_of tbox at) (drop at tbox) (rw length-drop (omega (arith, p.whole)))
 
 pub readable_widest : (limits : Limits) (s : List ℕ) → Bounded limits → Readable limits s →
-    reading_of bench_limits s ≡ Ok (row_count s)
+    reading_of widest_limits s ≡ Ok (row_count s)
 readable_widest limits s bounded r =
     let formed = reading_formed limits s r.rows r.reads in
-    formed_reading bench_limits s r.rows
+    formed_reading widest_limits s r.rows
     (record {
       rows = λ k l. row_widest k (formed.rows k l);
       end = formed.end;
     })
     ∙ ap Ok (sym (readable_count limits s r))
   where
-    row_widest : (k : ℕ) → RowOk limits s k → RowOk bench_limits s k
+    row_widest : (k : ℕ) → RowOk limits s k → RowOk widest_limits s k
     row_widest k ok = record {
       tag = ok.tag;
       row_length_is = ok.row_length_is;
@@ -61,7 +61,7 @@ readable_widest limits s bounded r =
       kind = ok.kind;
       role = ok.role;
       parent = ok.parent;
-      shallow = ok_depth bench_limits (depth (parent_of s) k)
+      shallow = ok_depth widest_limits (depth (parent_of s) k)
           (omega (arith, bounded.1, depth_most limits (depth (parent_of s) k) ok.shallow));
       impossible = ok.impossible;
     }
@@ -71,24 +71,24 @@ module _ (tbox starts : List ℕ) (defined n : ℕ) (opened : Opened tbox starts
   abbrev picture : List ℕ
   picture = part_at tbox (get_or starts n 0)
 
-  pub opened_readable : Readable bench_limits picture
+  pub opened_readable : Readable widest_limits picture
   opened_readable = record { rows = row_count picture; reads = opened.readings n member }
 
   pub opened_some : 0 < row_count picture
-  opened_some = readable_some bench_limits picture opened_readable
+  opened_some = readable_some widest_limits picture opened_readable
 
   pub opened_most : row_count picture ≤ max_rows
-  opened_most = readable_most bench_limits picture opened_readable
+  opened_most = readable_most widest_limits picture opened_readable
 
   pub opened_has : (k : ℕ) → k < row_count picture →
       (k < max_rows) × (place k row_size ≤ length picture)
-  opened_has = readable_has bench_limits picture opened_readable (omega arith, omega arith)
+  opened_has = readable_has widest_limits picture opened_readable (omega arith, omega arith)
 
   pub opened_length : length picture ≡ place (row_count picture) end_size
-  opened_length = readable_length bench_limits picture opened_readable
+  opened_length = readable_length widest_limits picture opened_readable
 
 module _ (tbox : Tbox) (n : ℕ) (member : has (set_of tbox.defined) n ≡ true) where
-  pub tbox_readable : Readable bench_limits (picture_of tbox n)
+  pub tbox_readable : Readable widest_limits (picture_of tbox n)
   tbox_readable = opened_readable tbox.bytes.now tbox.starts.now (set_of tbox.defined) n tbox.opened member
 
   pub tbox_some : 0 < row_count (picture_of tbox n)

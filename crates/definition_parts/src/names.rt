@@ -19,7 +19,7 @@ pub fn without(set: Names, name: usize) -> Names
 }
 
 // The names that are left.
-#[derive(Drop)]
+#[derive(Clone, Copy)]
 pub struct NameWalk {
     pub left: Names,
 }
