@@ -13,17 +13,12 @@ use Rattle.table.proofs.Puts.{length_put}
 use Rattle.table.proofs.Rows.{length_end_bytes}
 use Rattle.table_rows.proofs.Prefixes.{take_before, take_put}
 use Rattle.table_rows.specs.Rows.{prefix}
-use Rattle.table.specs.NameValues.{set_of}
-use Rattle.definition_parts.specs.declared.opened.Tbox.{Tbox}
 use Rattle.unfold_rows.specs.Growing.{Filed, Unfolded}
 
-module _ (picture : List ℕ) (tbox : Tbox) (limit r : ℕ) (d e : List ℕ)
-    (unfolded : Unfolded picture tbox limit r d e) where
-  abbrev FileOf : List ℕ → Type 0
-  FileOf f = Filed picture tbox.bytes.now tbox.starts.now (set_of tbox.defined) limit r d f
-
+module _ (picture tbox starts : List ℕ) (defined limit r : ℕ) (d e : List ℕ)
+    (unfolded : Unfolded picture tbox starts defined limit r d e) where
   pub filed : (f : List ℕ) → place r end_size ≤ length e → f ≡ put e (place r 0) end_bytes →
-      FileOf f
+      Filed picture tbox starts defined limit r d f
   filed f room at = record {
     same_length =
         ap length at ∙ length_put e (place r 0) end_bytes (omega (arith, length_end_bytes)) ∙ unfolded.same_length;
@@ -38,7 +33,7 @@ module _ (picture : List ℕ) (tbox : Tbox) (limit r : ℕ) (d e : List ℕ)
     many = unfolded.many;
   }
 
-  pub filed_large : limit < r → FileOf e
+  pub filed_large : limit < r → Filed picture tbox starts defined limit r d e
   filed_large l = record {
     same_length = unfolded.same_length;
     few = λ D agrees few. absurd (omega (arith, (unfolded.few D agrees few).0));

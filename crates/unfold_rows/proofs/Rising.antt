@@ -45,9 +45,8 @@ use Rattle.tbox.specs.Unfold as Theory
 use Rattle.tbox.specs.Unfold.{Origin, attach, origin_at, taken_by, taking, unfolded_row, visit}
 use Rattle.tbox.proofs.UnfoldedTables.{WantsNone, taken_idle, taking_idle}
 use Rattle.meaning.specs.File.{code_at, mark_code, row_at, rows_from}
+use Rattle.definition_parts.specs.Parts.{Agrees}
 use Rattle.table_rows.specs.Rows.{prefix}
-use Rattle.definition_parts.specs.Tboxes.{Agreeing}
-use Rattle.definition_parts.specs.declared.opened.Tbox.{Tbox}
 use Rattle.unfold_rows.specs.Growing.{Attached, Capped, Pictures, Rising, Standing, mixed, raw_row}
 use Rattle.unfold_rows.specs.Labels.{LabelRead, relabelled}
 use Rattle.unfold_rows.specs.Takings.{Shows, TakenIn}
@@ -77,12 +76,10 @@ row_again s n p k r m w x m' w' x' h =
 
 -- ---- names that were taken in
 
-module _ (D : Definitions picture_signature) (tbox : Tbox) (agrees : Agreeing D tbox) where
-  abbrev defined : ℕ
-  defined = set_of tbox.defined
-
+module _ (D : Definitions picture_signature) (tbox starts : List ℕ) (defined : ℕ)
+    (agrees : Agrees D tbox starts defined) where
   pub taken_pictures : (taken : ℕ) → ((n : ℕ) → has taken n ≡ true → has defined n ≡ true) →
-      Pictures D tbox taken
+      Pictures D tbox starts taken
   taken_pictures taken known n h =
       agrees.pictures n (true_is (has D.defined.set n) (ap (λ z. has z n) agrees.names ∙ known n h))
 
@@ -140,9 +137,9 @@ module _ (D : Definitions picture_signature) (tbox : Tbox) (agrees : Agreeing D 
         (lt-ltb i (length v) (omega (arith, standing.count)))
 
     -- the row takes in definitions
-    pub risen_anew : (start t : Taking) → rows ≤ limit → LabelRead d i start → TakenIn start tbox t →
+    pub risen_anew : (start t : Taking) → rows ≤ limit → LabelRead d i start → TakenIn start tbox starts defined t →
         (row m e : List ℕ) (r : ℕ) → row ≡ relabelled d i t defined → m ≡ put d (place i 0) row →
-        Attached tbox (set_of t.taken) i limit rows m r e →
+        Attached tbox starts (set_of t.taken) i limit rows m r e →
         Capped D limit (suc i) (visit picture_signature D p v i) r e
     risen_anew start t small read taken row m e r is at a =
         let h = taken.shows D (record { label = l; taken = [] }) agrees (label_shown start read) in

@@ -5,14 +5,17 @@
 --   round_none, round_one     the rounds of the theory: nothing left to take in, one more taken in
 --   taken_below               the names taken in are a set of names
 --   known_none, known_next    and defined
---   name_found                the name that is found is a defined one
+--   name_below, name_defined  the name that is found is one
+--   name_found                both
 --   Onward                    once the rounds that are left are over, all is taken in
 --   onward_stop, onward_next, onward_done
 use Prim.Native.Nat.{ℕ, zero, suc, ◌+◌, ◌-◌, ◌<◌, ◌^◌, ◌≤◌}
 use borrow.Author.Tests.{eqb-true, le-ltb, lt-ltb}
+use lib.ListN.{get_or}
 use lib.Pow.{pow_mono}
 use lib.Dec.{T, eqb, ltb, lt→ltb}
 use mathlib.Core.Bool.{Bool, ◌&&◌, ◌||◌, false, false≢true, not, true}
+use mathlib.Core.List.{List}
 use mathlib.Core.Logic.{⊎_elim}
 use mathlib.Core.Path.{◌∙◌, ◌≡◌, ap, ap₂, refl, subst, sym}
 use native.Mathlib.Nat.{eq-or-lt_of_le, mod-eq_of_lt}
@@ -32,8 +35,7 @@ use Rattle.tbox.specs.Definitions.{Definitions, root_label}
 use Rattle.tbox.specs.Unfold as Theory
 use Rattle.tbox.specs.Unfold.{next_wanted, take_in, take_one, wanting}
 use Rattle.meaning.specs.File.{mark_code}
-use Rattle.definition_parts.specs.Tboxes.{Agreeing, picture_of}
-use Rattle.definition_parts.specs.declared.opened.Tbox.{Tbox}
+use Rattle.definition_parts.specs.Parts.{Agrees, part_at}
 use Rattle.unfold_rows.specs.Takings.{Shows, Took, wanting_in}
 use Rattle.unfold_rows.specs.declared.take.Taking.{Taking}
 
@@ -80,10 +82,8 @@ first_same : (q r : ℕ → Bool) (o n : ℕ) → ((k : ℕ) → q k ≡ r k) �
 first_same q r o zero h = refl
 first_same q r o (suc n) h = ap₂ (λ x y. pick x o y) (h o) (first_same q r (suc o) n h)
 
-module _ (D : Definitions picture_signature) (tbox : Tbox) (agrees : Agreeing D tbox) where
-  abbrev defined : ℕ
-  defined = set_of tbox.defined
-
+module _ (D : Definitions picture_signature) (tbox starts : List ℕ) (defined : ℕ)
+    (agrees : Agrees D tbox starts defined) where
   pub next_shown : (t : Taking) (s : Theory.Taking picture_signature) → Shows t s →
       first_from (wanting_in t defined) 0 name_count ≡ next_wanted picture_signature D s
   next_shown t s h =
@@ -96,11 +96,11 @@ module _ (D : Definitions picture_signature) (tbox : Tbox) (agrees : Agreeing D 
   defined_shown n e = true_is (has D.defined.set n) (ap (λ z. has z n) agrees.names ∙ e)
 
   root_shown : (n : ℕ) → T (picture_signature.has D.defined n) →
-      (wanted_of (picture_of tbox n) 0 < 2 ^ name_count →
-      (root_label picture_signature D n).wanted.set ≡ wanted_of (picture_of tbox n) 0)
-      × (excluded_of (picture_of tbox n) 0 < 2 ^ name_count →
-      (root_label picture_signature D n).excluded.set ≡ excluded_of (picture_of tbox n) 0)
-      × ((root_label picture_signature D n).bottom ≡ eqb (impossible_of (picture_of tbox n) 0) 1)
+      (wanted_of (part_at tbox (get_or starts n 0)) 0 < 2 ^ name_count →
+      (root_label picture_signature D n).wanted.set ≡ wanted_of (part_at tbox (get_or starts n 0)) 0)
+      × (excluded_of (part_at tbox (get_or starts n 0)) 0 < 2 ^ name_count →
+      (root_label picture_signature D n).excluded.set ≡ excluded_of (part_at tbox (get_or starts n 0)) 0)
+      × ((root_label picture_signature D n).bottom ≡ eqb (impossible_of (part_at tbox (get_or starts n 0)) 0) 1)
   root_shown n d =
       let e = agrees.pictures n d in (
         λ l. ap (λ p. (p.label 0).wanted.set) e ∙ mod-eq_of_lt l,
@@ -109,16 +109,16 @@ module _ (D : Definitions picture_signature) (tbox : Tbox) (agrees : Agreeing D 
       )
 
   pub one_shown : (t r : Taking) (s : Theory.Taking picture_signature) (n : ℕ) → has defined n ≡ true → Shows t s →
-      Took t (picture_of tbox n) n r →
+      Took t (part_at tbox (get_or starts n 0)) n r →
       Shows r (take_one picture_signature D s n)
   one_shown t r s n e h w =
       let (a, b, c) = root_shown n (defined_shown n e) in
       record {
         wanted = w.wanted ∙ ap₂ union h.wanted (sym (a w.wanted_below));
         excluded = w.excluded ∙ ap₂ union h.excluded (sym (b w.excluded_below));
-        impossible = w.impossible ∙ ap (λ z. pick (eqb (impossible_of (picture_of tbox n) 0) 1) 1 z)
+        impossible = w.impossible ∙ ap (λ z. pick (eqb (impossible_of (part_at tbox (get_or starts n 0)) 0) 1) 1 z)
             h.impossible
-            ∙ marks s.label.bottom (eqb (impossible_of (picture_of tbox n) 0) 1)
+            ∙ marks s.label.bottom (eqb (impossible_of (part_at tbox (get_or starts n 0)) 0) 1)
             ∙ ap (λ z. mark_code (s.label.bottom || z)) (sym c);
         taken = λ k.
             ap (λ z. has z k) w.taken ∙ has_union (set_of t.taken) (2 ^ n) k
@@ -161,7 +161,7 @@ taken_below a n r l b e =
 
 -- only defined names are taken in
 pub known_none : (defined a : ℕ) → a ≡ none → (k : ℕ) → has a k ≡ true → has defined k ≡ true
-known_none names a e k h = absurd (false≢true (sym (has_none k) ∙ ap (λ z. has z k) (sym e) ∙ h))
+known_none defined a e k h = absurd (false≢true (sym (has_none k) ∙ ap (λ z. has z k) (sym e) ∙ h))
 
 pub known_next : (defined a n r : ℕ) → r ≡ union a (2 ^ n) → ((k : ℕ) → has a k ≡ true → has defined k ≡ true) →
     has defined n ≡ true → (k : ℕ) → has r k ≡ true → has defined k ≡ true
@@ -181,11 +181,11 @@ first_most q o zero = omega arith
 first_most q o (suc n) = chosen (λ z. z ≤ o + suc n) (q o) o (first_from q (suc o) n) (λ t. omega arith)
     (λ t. omega (arith, first_most q (suc o) n))
 
-name_below : (s : Taking) (defined r : ℕ) → r ≡ first_from (wanting_in s defined) 0 name_count →
+pub name_below : (s : Taking) (defined r : ℕ) → r ≡ first_from (wanting_in s defined) 0 name_count →
     (r ≡ name_count → ⊥) → r < name_count
 name_below s defined r e z = omega (arith, z, first_most (wanting_in s defined) 0 name_count)
 
-name_defined : (s : Taking) (defined r : ℕ) → r ≡ first_from (wanting_in s defined) 0 name_count → r < name_count →
+pub name_defined : (s : Taking) (defined r : ℕ) → r ≡ first_from (wanting_in s defined) 0 name_count → r < name_count →
     has defined r ≡ true
 name_defined s defined r e l =
     let t : T (wanting_in s defined r) =
@@ -200,38 +200,42 @@ name_found s defined r e z =
 
 -- ---- the loop
 
--- what has been taken in after k rounds is, once the others are over, all that is taken in
-abbrev pub Onward : Tbox → Taking → Taking → ℕ → Type 0
-Onward tbox start s k =
-    (D : Definitions picture_signature) (t : Theory.Taking picture_signature) → Agreeing D tbox → Shows start t →
+-- what has been taken in so far is, once the rounds that are left are over, all that is taken in
+abbrev pub Onward : List ℕ → List ℕ → ℕ → Taking → Taking → ℕ → Type 0
+Onward tbox starts defined start s left =
+    (D : Definitions picture_signature) (t : Theory.Taking picture_signature) → Agrees D tbox starts defined →
+    Shows start t →
     (u : Theory.Taking picture_signature) × Shows s u
-    × (take_in picture_signature D (name_count - k) u ≡ take_in picture_signature D name_count t)
+    × (take_in picture_signature D left u ≡ take_in picture_signature D name_count t)
 
-module _ (tbox : Tbox) (start s : Taking) (k : ℕ) (on : Onward tbox start s k) where
-  pub onward_stop : (r : ℕ) → r ≡ first_from (wanting_in s (set_of tbox.defined)) 0 name_count → r ≡ name_count →
-      (D : Definitions picture_signature) (t : Theory.Taking picture_signature) → Agreeing D tbox →
-      Shows start t → Shows s (take_in picture_signature D name_count t)
-  onward_stop r e z D t a h =
-      let (u, w, x) = on D t a h in
-      subst (λ v. Shows s v)
-      (sym (round_none D u (name_count - k) (sym (next_shown D tbox a s u w) ∙ sym e ∙ z)) ∙ x) w
+pub onward_stop : (tbox starts : List ℕ) (defined : ℕ) (start s : Taking) (left r : ℕ) →
+    Onward tbox starts defined start s left →
+    r ≡ first_from (wanting_in s defined) 0 name_count → r ≡ name_count →
+    (D : Definitions picture_signature) (t : Theory.Taking picture_signature) → Agrees D tbox starts defined →
+    Shows start t → Shows s (take_in picture_signature D name_count t)
+onward_stop tbox starts defined start s left r on e z D t a h =
+    let (u, w, x) = on D t a h in
+    subst (λ k. Shows s k)
+    (sym (round_none D u left (sym (next_shown D tbox starts defined a s u w) ∙ sym e ∙ z)) ∙ x) w
 
-  pub onward_next : (f : Taking) (n : ℕ) → k < name_count →
-      n ≡ first_from (wanting_in s (set_of tbox.defined)) 0 name_count → n < name_count →
-      Took s (picture_of tbox n) n f → Onward tbox start f (k + 1)
-  onward_next f n more e l took D t a h =
-      let (u, w, x) = on D t a h in
-      let left : suc (name_count - (k + 1)) ≡ name_count - k = omega arith in (
-        take_one picture_signature D u n,
-        one_shown D tbox a s f u n (name_defined s (set_of tbox.defined) n e l) w took,
-        sym (round_one D u (name_count - (k + 1)) n (e ∙ next_shown D tbox a s u w) l)
-            ∙ ap (λ j. take_in picture_signature D j u) left ∙ x,
-      )
+pub onward_next : (tbox starts : List ℕ) (defined : ℕ) (start s f : Taking) (left n : ℕ) →
+    Onward tbox starts defined start s left → 0 < left →
+    n ≡ first_from (wanting_in s defined) 0 name_count → n < name_count →
+    Took s (part_at tbox (get_or starts n 0)) n f →
+    Onward tbox starts defined start f (left - 1)
+onward_next tbox starts defined start s f left n on pos e l took D t a h =
+    let (u, w, x) = on D t a h in
+    let more : suc (left - 1) ≡ left = omega arith in (
+      take_one picture_signature D u n,
+      one_shown D tbox starts defined a s f u n (name_defined s defined n e l) w took,
+      sym (round_one D u (left - 1) n (e ∙ next_shown D tbox starts defined a s u w) l)
+          ∙ ap (λ k. take_in picture_signature D k u) more ∙ x,
+    )
 
-  pub onward_done : name_count ≤ k →
-      (D : Definitions picture_signature) (t : Theory.Taking picture_signature) → Agreeing D tbox →
-      Shows start t → Shows s (take_in picture_signature D name_count t)
-  onward_done z D t a h =
-      let (u, w, x) = on D t a h in
-      let none : name_count - k ≡ 0 = omega arith in
-      subst (λ v. Shows s v) (sym (ap (λ j. take_in picture_signature D j u) none) ∙ x) w
+pub onward_done : (tbox starts : List ℕ) (defined : ℕ) (start s : Taking) (left : ℕ) →
+    Onward tbox starts defined start s left → left ≡ 0 →
+    (D : Definitions picture_signature) (t : Theory.Taking picture_signature) → Agrees D tbox starts defined →
+    Shows start t → Shows s (take_in picture_signature D name_count t)
+onward_done tbox starts defined start s left on z D t a h =
+    let (u, w, x) = on D t a h in
+    subst (λ k. Shows s k) (sym (ap (λ k. take_in picture_signature D k u) z) ∙ x) w

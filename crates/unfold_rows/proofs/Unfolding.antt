@@ -22,9 +22,8 @@ use Rattle.picture.specs.Readable.{Readable, row_count}
 use Rattle.picture.proofs.Readables.{readable_impossible, readable_root}
 use Rattle.meaning.specs.File.{rows_from}
 use Rattle.meaning.specs.Meaning.{picture_table}
+use Rattle.definition_parts.specs.Parts.{Agrees}
 use Rattle.table_rows.specs.Rows.{prefix}
-use Rattle.definition_parts.specs.Tboxes.{Agreeing}
-use Rattle.definition_parts.specs.declared.opened.Tbox.{Tbox}
 use Rattle.unfold_rows.specs.Copies.{Added, copy_bytes}
 use Rattle.unfold_rows.specs.Growing.{Capped, Risen, Standing, Unfolded, mixed}
 use Rattle.unfold_rows.proofs.Attaching.{readable_copies}
@@ -52,10 +51,10 @@ capped_large D limit i rows v d c l =
     by_test (ltb limit (length v)) (λ t. ltb-true limit (length v) t)
     (λ f. let b = ltb-false limit (length v) f in absurd (omega (arith, (c.few b).count)))
 
-module _ (picture : List ℕ) (tbox : Tbox) (limit : ℕ) where
+module _ (picture tbox starts : List ℕ) (defined limit : ℕ) where
   abbrev pub Grows : ℕ → List ℕ → ℕ → Type 0
   Grows rows out i =
-      (D : Definitions picture_signature) → Agreeing D tbox →
+      (D : Definitions picture_signature) → Agrees D tbox starts defined →
       Capped D limit i (grown picture_signature D (picture_table picture) i) rows out
 
   pub grows_start : (limits : Limits) → Readable limits picture → (rows r : ℕ) (d e : List ℕ) →
@@ -77,7 +76,7 @@ module _ (picture : List ℕ) (tbox : Tbox) (limit : ℕ) where
       }
 
   pub grows_next : (rows r i : ℕ) (d e : List ℕ) → Grows rows d i → rows ≤ limit →
-      Risen tbox i limit rows d r e → Grows r e (i + 1)
+      Risen tbox starts defined i limit rows d r e → Grows r e (i + 1)
   grows_next rows r i d e g l risen D agrees =
       let v = grown picture_signature D (picture_table picture) i in
       subst (λ n. Capped D limit n (grown picture_signature D (picture_table picture) n) r e)
@@ -85,9 +84,9 @@ module _ (picture : List ℕ) (tbox : Tbox) (limit : ℕ) where
       (risen.capped D (picture_table picture) v agrees (capped_stands D limit i rows v d (g D agrees) l))
 
   pub grows_stop : (rows i : ℕ) (out₀ out : List ℕ) → Grows rows out i → length out ≡ length out₀ → i ≤ limit →
-      limit < rows → Unfolded picture tbox limit rows out₀ out
+      limit < rows → Unfolded picture tbox starts defined limit rows out₀ out
   grows_stop rows i out₀ out g same b l =
-      let large : (D : Definitions picture_signature) → Agreeing D tbox →
+      let large : (D : Definitions picture_signature) → Agrees D tbox starts defined →
       limit < length (grown picture_signature D (picture_table picture) limit) =
       λ D agrees.
       subst (λ n. limit < length (grown picture_signature D (picture_table picture) n))
@@ -102,13 +101,13 @@ module _ (picture : List ℕ) (tbox : Tbox) (limit : ℕ) where
       }
 
   pub grows_end : (rows i : ℕ) (out₀ out : List ℕ) → Grows rows out i → length out ≡ length out₀ → i ≤ limit →
-      rows ≤ i → Unfolded picture tbox limit rows out₀ out
+      rows ≤ i → Unfolded picture tbox starts defined limit rows out₀ out
   grows_end rows i out₀ out g same b l =
       let v : Definitions picture_signature → List (Origin picture_signature) =
       λ D. grown picture_signature D (picture_table picture) i in
-      let stands : (D : Definitions picture_signature) → Agreeing D tbox → Standing D i (v D) rows out =
+      let stands : (D : Definitions picture_signature) → Agrees D tbox starts defined → Standing D i (v D) rows out =
       λ D agrees. capped_stands D limit i rows (v D) out (g D agrees) (omega arith) in
-      let still : (D : Definitions picture_signature) → Agreeing D tbox →
+      let still : (D : Definitions picture_signature) → Agrees D tbox starts defined →
       v D ≡ grown picture_signature D (picture_table picture) limit =
       λ D agrees.
       sym (grown_more picture_signature D (picture_table picture) i (omega (arith, (stands D agrees).count)) (limit - i))

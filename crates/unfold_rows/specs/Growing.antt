@@ -9,11 +9,10 @@
 --   Rising, Risen          the same of row i coming up
 --   Growable, Unfolded     the same of the whole picture
 --   Filed                  the same with the end field behind the rows: a picture file
-use Rattle.std.specs.Prelude.{◌+◌, ◌<◌, ◌≤◌, suc, zero, ℕ, length, take, true, List, [], ◌∷◌, ◌≡◌}
+use Rattle.std.specs.Prelude.{◌+◌, ◌<◌, ◌≤◌, suc, zero, ℕ, get_or, length, take, true, List, [], ◌∷◌, ◌≡◌}
 use Rattle.table.specs.Bounds.{Bounded, max_rows}
 use Rattle.table.specs.Layout.{end_size, name_count, «place»}
 use Rattle.table.specs.NameSet.{has}
-use Rattle.table.specs.NameValues.{set_of}
 use Rattle.table.specs.declared.layout.Limits.{Limits}
 use Rattle.ale.specs.Encoding.{Row}
 use Rattle.ale.specs.PictureSignature.{picture_signature}
@@ -24,9 +23,7 @@ use Rattle.tbox.specs.Unfold.{Origin, attach, grown, unfold_rows, unfolded_row, 
 use Rattle.picture.specs.Readable.{Readable, row_count}
 use Rattle.meaning.specs.File.{file_of, rows_from}
 use Rattle.meaning.specs.Meaning.{picture_table}
-use Rattle.definition_parts.specs.Parts.{Agrees}
-use Rattle.definition_parts.specs.Tboxes.{Agreeing, picture_of}
-use Rattle.definition_parts.specs.declared.opened.Tbox.{Tbox}
+use Rattle.definition_parts.specs.Parts.{Agrees, part_at}
 use Rattle.table_rows.specs.Rows.{prefix}
 
 abbrev pub raw_row : Origin picture_signature → Row picture_signature
@@ -51,19 +48,20 @@ module _ (D : Definitions picture_signature) where
     pub few : length v ≤ limit → Standing i v rows out
     pub many : limit < length v → limit < rows
 
-  abbrev pub Pictures : Tbox → ℕ → Type 0
-  Pictures tbox names = (n : ℕ) → has names n ≡ true → D.picture n ≡ picture_table (picture_of tbox n)
+  abbrev pub Pictures : List ℕ → List ℕ → ℕ → Type 0
+  Pictures tbox starts names =
+      (n : ℕ) → has names n ≡ true → D.picture n ≡ picture_table (part_at tbox (get_or starts n 0))
 
-pub record Attachable (tbox : Tbox) (taken limit rows : ℕ) (out : List ℕ) : Type 0 where
-  pub known : (n : ℕ) → has taken n ≡ true → has (set_of tbox.defined) n ≡ true
+pub record Attachable (defined taken limit rows : ℕ) (out : List ℕ) : Type 0 where
+  pub known : (n : ℕ) → has taken n ≡ true → has defined n ≡ true
   pub started : rows ≤ limit + 1
   pub small : limit ≤ max_rows
   pub room : place limit 0 ≤ length out
 
-pub record Attached (tbox : Tbox) (taken i limit rows : ℕ) (d : List ℕ) (r : ℕ) (e : List ℕ) : Type 0 where
+pub record Attached (tbox starts : List ℕ) (taken i limit rows : ℕ) (d : List ℕ) (r : ℕ) (e : List ℕ) : Type 0 where
   pub same_length : length e ≡ length d
   pub capped : (D : Definitions picture_signature) (v : List (Origin picture_signature)) →
-      Pictures D tbox taken → i < length v → Capped D limit (suc i) v rows d →
+      Pictures D tbox starts taken → i < length v → Capped D limit (suc i) v rows d →
       Capped D limit (suc i) (attach picture_signature D v i (filter_below (has taken) name_count)) r e
 
 pub record Rising (i limit rows : ℕ) (out : List ℕ) : Type 0 where
@@ -72,10 +70,10 @@ pub record Rising (i limit rows : ℕ) (out : List ℕ) : Type 0 where
   pub small : limit ≤ max_rows
   pub room : place limit 0 ≤ length out
 
-pub record Risen (tbox : Tbox) (i limit rows : ℕ) (d : List ℕ) (r : ℕ) (e : List ℕ) : Type 0 where
+pub record Risen (tbox starts : List ℕ) (defined i limit rows : ℕ) (d : List ℕ) (r : ℕ) (e : List ℕ) : Type 0 where
   pub same_length : length e ≡ length d
   pub capped : (D : Definitions picture_signature) (p : Table picture_signature) (v : List (Origin picture_signature)) →
-      Agreeing D tbox → Standing D i v rows d →
+      Agrees D tbox starts defined → Standing D i v rows d →
       Capped D limit (suc i) (visit picture_signature D p v i) r e
 
 pub record Growable (picture : List ℕ) (rows limit : ℕ) (out : List ℕ) : Type 0 where
@@ -87,13 +85,13 @@ pub record Growable (picture : List ℕ) (rows limit : ℕ) (out : List ℕ) : T
   pub small : limit ≤ max_rows
   pub room : place limit 0 ≤ length out
 
-pub record Unfolded (picture : List ℕ) (tbox : Tbox) (limit r : ℕ) (d e : List ℕ) : Type 0 where
+pub record Unfolded (picture tbox starts : List ℕ) (defined limit r : ℕ) (d e : List ℕ) : Type 0 where
   pub same_length : length e ≡ length d
-  pub few : (D : Definitions picture_signature) → Agreeing D tbox →
+  pub few : (D : Definitions picture_signature) → Agrees D tbox starts defined →
       length (grown picture_signature D (picture_table picture) limit) ≤ limit →
       (r ≡ length (grown picture_signature D (picture_table picture) limit))
       × (prefix r e ≡ rows_from 0 (unfold_rows picture_signature D limit (picture_table picture)))
-  pub many : (D : Definitions picture_signature) → Agreeing D tbox →
+  pub many : (D : Definitions picture_signature) → Agrees D tbox starts defined →
       limit < length (grown picture_signature D (picture_table picture) limit) → limit < r
 
 pub record Filed (picture tbox starts : List ℕ) (defined limit r : ℕ) (d e : List ℕ) : Type 0 where

@@ -18,8 +18,7 @@ use Rattle.tbox.specs.Definitions.{Definitions}
 use Rattle.tbox.specs.Unfold as Theory
 use Rattle.meaning.specs.File.{mark_code}
 use Rattle.meaning.specs.Meaning.{picture_table}
-use Rattle.definition_parts.specs.Tboxes.{Agreeing}
-use Rattle.definition_parts.specs.declared.opened.Tbox.{Tbox}
+use Rattle.definition_parts.specs.Parts.{Agrees}
 use Rattle.unfold_rows.specs.declared.take.Taking.{Taking}
 
 abbrev pub wants_names : List ℕ → ℕ → Bool
@@ -42,7 +41,7 @@ pub record Shows (t : Taking) (s : Theory.Taking picture_signature) : Type 0 whe
   pub impossible : t.impossible ≡ mark_code s.label.bottom
   pub taken : (n : ℕ) → has (set_of t.taken) n ≡ member n s.taken
 
-pub record TakenIn (start : Taking) (tbox : Tbox) (r : Taking) : Type 0 where
-  pub known : (n : ℕ) → has (set_of r.taken) n ≡ true → has (set_of tbox.defined) n ≡ true
-  pub shows : (D : Definitions picture_signature) (s : Theory.Taking picture_signature) → Agreeing D tbox →
+pub record TakenIn (start : Taking) (tbox starts : List ℕ) (defined : ℕ) (r : Taking) : Type 0 where
+  pub known : (n : ℕ) → has (set_of r.taken) n ≡ true → has defined n ≡ true
+  pub shows : (D : Definitions picture_signature) (s : Theory.Taking picture_signature) → Agrees D tbox starts defined →
       Shows start s → Shows r (Theory.take_in picture_signature D name_count s)

@@ -61,7 +61,7 @@ fn take_one(s: Taking, picture: &[u8], name: usize) -> Taking
 // The lowest defined name that is still wanted is taken in, again and again.
 pub fn take_in(start: Taking, tbox: &Tbox<'_>) -> Taking
     requires { set_of start.taken ≡ none }
-    ensures { TakenIn start tbox.now result }
+    ensures { TakenIn start tbox.now.bytes.now tbox.now.starts.now (set_of tbox.now.defined) result }
 {
     let mut s = start;
     for _round in 0..NAMES {

@@ -20,8 +20,9 @@ fn hang_all(
     out: &mut [u8],
     table: Builder,
 ) -> Builder
-    requires { Attachable tbox.now (set_of taken) limit table.rows out.old }
-    ensures { Attached tbox.now (set_of taken) i limit table.rows out.old result.rows out.new }
+    requires { Attachable (set_of tbox.now.defined) (set_of taken) limit table.rows out.old }
+    ensures { Attached tbox.now.bytes.now tbox.now.starts.now (set_of taken) i limit table.rows
+        out.old result.rows out.new }
 {
     let mut grown = table;
     for name in NameWalk::over(taken) {
@@ -33,7 +34,8 @@ fn hang_all(
 // Row i comes up.
 fn come_up(i: usize, tbox: &Tbox<'_>, limit: usize, out: &mut [u8], table: Builder) -> Builder
     requires { Rising i limit table.rows out.old }
-    ensures { Risen tbox.now i limit table.rows out.old result.rows out.new }
+    ensures { Risen tbox.now.bytes.now tbox.now.starts.now (set_of tbox.now.defined) i limit table.rows
+        out.old result.rows out.new }
 {
     let names = wanted(out, i);
     if !names.overlaps(tbox.defined) {
@@ -47,7 +49,8 @@ fn come_up(i: usize, tbox: &Tbox<'_>, limit: usize, out: &mut [u8], table: Build
 // The unfolded rows of a picture, and how many they are; more than the limit if they are too many.
 pub fn unfold(picture: &[u8], rows: usize, tbox: &Tbox<'_>, limit: usize, out: &mut [u8]) -> usize
     requires { Growable picture.now rows limit out.old }
-    ensures { Unfolded picture.now tbox.now limit result out.old out.new }
+    ensures { Unfolded picture.now tbox.now.bytes.now tbox.now.starts.now (set_of tbox.now.defined) limit
+        result out.old out.new }
 {
     let mut table = copy_rows(picture, rows, out);
     let mut i = 0;

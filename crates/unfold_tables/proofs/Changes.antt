@@ -4,22 +4,19 @@
 --   part_file       a part that is the unfolded picture can be read
 --   changing        a picture that wants a defined name, as the code asks it
 --   own_file        one that wants none is its own unfolded picture
---   Made, made_file the file that is written is the unfolded picture
+--   made_file       the file that is written is the unfolded picture
 use Prim.Native.Nat.{◌≤◌, ℕ}
 use lib.Bits.{and_zero_r}
 use lib.Dec.{eqb}
-use lib.ListN.{length, take}
-use mathlib.Core.Bool.{false, false≢true, not, true}
+use lib.ListN.{length}
+use mathlib.Core.Bool.{false, not, true}
 use mathlib.Core.List.{List}
 use mathlib.Core.Path.{◌∙◌, ◌≡◌, ap, subst, sym}
 use native.Mathlib.Omega.{arith}
 use borrow.Author.Tests.{leb-true}
 use Rattle.table.specs.Bounds.{max_rows, picture_size}
-use Rattle.table.specs.Layout.{end_size, «place»}
 use Rattle.table.specs.NameSet.{none}
 use Rattle.table.specs.declared.layout.Limits.{Limits}
-use Rattle.table.proofs.Ranges.{some_at}
-use Rattle.table.proofs.Tests.{refuted}
 use Rattle.picture.proofs.Readables.{readable_most}
 use Rattle.picture.specs.Readable.{Readable, row_count}
 use Rattle.meaning.specs.Meaning.{picture_table}
@@ -27,23 +24,14 @@ use Rattle.definitions.proofs.Idle.{file_own}
 use Rattle.definitions.proofs.Unfolds.{unfolded_readable}
 use Rattle.definitions.specs.Unfolded.{unfolded_count, unfolded_few, unfolded_file}
 use Rattle.unfold_rows.proofs.UnfoldedFiles.{unfolded_count_is, unfolded_file_is, wants_same}
-use Rattle.unfold_rows.proofs.Wanting.{asks}
+use Rattle.unfold_rows.proofs.Wanting.{wants_none}
 use Rattle.unfold_rows.specs.Growing.{Filed}
 use Rattle.unfold_rows.specs.Takings.{wants_names}
-use Rattle.unfold_tables.specs.Ready.{Changing, Unfolding}
-
-pub record Made (limits : Limits) (tbox picture : List ℕ) (r : ℕ) (out : List ℕ) : Type 0 where
-  pub few : r ≤ max_rows
-  pub there : place r end_size ≤ length out
-  pub file : take (place r end_size) out ≡ unfolded_file limits tbox picture
+use Rattle.unfold_tables.specs.Ready.{Changing, Made, Unfolding}
 
 pub wants_no_name : (s : List ℕ) → false ≡ wants_names s none
 wants_no_name s =
-    sym (refuted (wants_names s none) (λ t.
-    let (k, a, b, wants) = some_at (asks s none) (row_count s) 0 t in
-    let none_there : asks s none k ≡ false =
-    ap (λ z. not (eqb z none)) (and_zero_r ((picture_table s).label k).wanted.set) in
-    false≢true (sym none_there ∙ wants)))
+    wants_none s none (λ k l. ap (λ z. not (eqb z none)) (and_zero_r ((picture_table s).label k).wanted.set))
 
 module _ (limits : Limits) (tbox starts : List ℕ) (defined : ℕ) (picture : List ℕ) where
   pub rows_most : Unfolding limits tbox starts defined picture → row_count picture ≤ max_rows
@@ -69,13 +57,14 @@ module _ (limits : Limits) (tbox starts : List ℕ) (defined : ℕ) (picture : L
 
   pub made_file : Changing limits tbox starts defined picture → (r : ℕ) (d e : List ℕ) →
       picture_size limits ≤ length d → Filed picture tbox starts defined limits.rows r d e →
-      Made limits tbox picture r e
+      Made limits tbox picture r d e
   unfolding unfolded_few
   made_file c r d e room filed =
       let u = c.ready in
       let count = unfolded_count_is tbox picture starts defined u.ready.agrees limits r d e filed u.unfolds.few in
       let few = leb-true (unfolded_count limits tbox picture) limits.rows u.unfolds.few in
       record {
+        same = filed.same_length;
         few = omega (arith, count, few, u.ready.bounded.0);
         there = omega (arith, count, few, filed.same_length, room);
         file = unfolded_file_is tbox picture starts defined u.ready.agrees limits r d e filed u.unfolds.few

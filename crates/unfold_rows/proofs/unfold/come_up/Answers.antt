@@ -21,8 +21,8 @@ returns-then-not-overlaps c =
     record {
       same_length = refl;
       capped = λ D p v agrees standing.
-          risen_idle D a.tbox.now agrees a.i a.table.rows a.limit
-          a.out.now v p standing c.requires.here c.requires.within none;
+          risen_idle D a.tbox.now.bytes.now a.tbox.now.starts.now (set_of a.tbox.now.defined) agrees a.i
+          a.table.rows a.limit a.out.now v p standing c.requires.here c.requires.within none;
     }
 
 pub label_of-requires : goal.label_of-requires
@@ -56,8 +56,8 @@ returns c =
     record {
       same_length = c.hang_all.ensures.same_length ∙ anew_length a.out.now _ a.i take_in.result (set_of a.tbox.now.defined) (has_row _ _ _ _ c.requires) c.relabel.ensures;
       capped = λ D p v agrees standing.
-          risen_anew D a.tbox.now agrees a.i a.table.rows a.limit
-          a.out.now v p standing c.requires.here label.result take_in.result c.requires.within
+          risen_anew D a.tbox.now.bytes.now a.tbox.now.starts.now (set_of a.tbox.now.defined) agrees a.i
+          a.table.rows a.limit a.out.now v p standing c.requires.here label.result take_in.result c.requires.within
           label.ensures take_in.ensures _ _ _ _ refl c.relabel.ensures
           c.hang_all.ensures;
     }

@@ -13,6 +13,6 @@ invariant-loop-name l = record {
   few : l.grown.rows ≤ l.limit + 1;
   same_length : length l.out ≡ length l.initial.out;
   walk : Walk (set_of l.fn.taken) (names_of (set_of l.name-iterator.left));
-  onward : Onward l.tbox (set_of l.fn.taken) l.i l.limit l.initial.grown.rows l.initial.out l.grown.rows l.out
-      (names_of (set_of l.name-iterator.left));
+  onward : Onward l.tbox.bytes.now l.tbox.starts.now (set_of l.fn.taken) l.i l.limit l.initial.grown.rows l.initial.out
+      l.grown.rows l.out (names_of (set_of l.name-iterator.left));
 }

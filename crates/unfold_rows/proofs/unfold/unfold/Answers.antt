@@ -1,6 +1,7 @@
 use lib.ListN.{length}
 use native.Mathlib.Omega.{arith}
 use mathlib.Core.Path.{◌∙◌, ◌≡◌, refl, subst, sym}
+use Rattle.table.specs.NameValues.{set_of}
 use Rattle.unfold_rows.specs.Copies.{Source}
 use Rattle.unfold_rows.proofs.Attaching.{readable_source}
 use Rattle.unfold_rows.proofs.Unfolding.{grows_end, grows_next, grows_start, grows_stop}
@@ -21,8 +22,8 @@ loop-i-init c =
     let copy = c.copy_rows-table in (
       omega arith,
       refl,
-      grows_start a.picture.now a.tbox.now a.limit pre.limits
-          pre.readable a.rows copy.result.rows a.out.now _ pre.counted copy.ensures.0
+      grows_start a.picture.now a.tbox.now.bytes.now a.tbox.now.starts.now (set_of a.tbox.now.defined) a.limit
+          pre.limits pre.readable a.rows copy.result.rows a.out.now _ pre.counted copy.ensures.0
           copy.ensures.1 pre.within,
     )
 
@@ -31,9 +32,8 @@ returns-then-limit-table c =
     let kept : length c.loop-i.out ≡ length c.args.out.now = c.loop-i.invariant.1 ∙ c.copy_rows-table.ensures.1.same_length in
     let l = c.loop-i in
     let a = c.args in
-    grows_stop a.picture.now a.tbox.now a.limit l.table.rows
-    l.i
-    a.out.now l.out l.invariant.2 (kept) l.invariant.0 c.if-limit-table.true
+    grows_stop a.picture.now a.tbox.now.bytes.now a.tbox.now.starts.now (set_of a.tbox.now.defined) a.limit
+    l.table.rows l.i a.out.now l.out l.invariant.2 (kept) l.invariant.0 c.if-limit-table.true
 
 pub come_up-table-requires : goal.come_up-table-requires
 come_up-table-requires c =
@@ -60,8 +60,8 @@ loop-i-preserved c =
     let up = c.come_up-table in (
       omega (arith, c.loop-i-test.true, few),
       up.ensures.same_length ∙ l.invariant.1,
-      grows_next a.picture.now a.tbox.now a.limit l.table.rows
-          up.result.rows l.i l.out _ l.invariant.2 (omega (arith, few)) up.ensures,
+      grows_next a.picture.now a.tbox.now.bytes.now a.tbox.now.starts.now (set_of a.tbox.now.defined) a.limit
+          l.table.rows up.result.rows l.i l.out _ l.invariant.2 (omega (arith, few)) up.ensures,
     )
 
 pub returns : goal.returns
@@ -69,6 +69,5 @@ returns c =
     let kept : length c.loop-i.out ≡ length c.args.out.now = c.loop-i.invariant.1 ∙ c.copy_rows-table.ensures.1.same_length in
     let l = c.loop-i in
     let a = c.args in
-    grows_end a.picture.now a.tbox.now a.limit l.table.rows
-    l.i
-    a.out.now l.out l.invariant.2 (kept) l.invariant.0 (omega (arith, c.loop-i-test.false))
+    grows_end a.picture.now a.tbox.now.bytes.now a.tbox.now.starts.now (set_of a.tbox.now.defined) a.limit
+    l.table.rows l.i a.out.now l.out l.invariant.2 (kept) l.invariant.0 (omega (arith, c.loop-i-test.false))
