@@ -2,7 +2,7 @@
 --   none_compared     no pair yet
 --   cards_left        cards that do not cover the case
 --   earlier_skipped   card m: cards that are redundant, or do not cover the case, are left out
---   earlier_there     the next card to compare it with
+--   earlier_there, earlier_next   the next card to compare it with
 --   earlier_ended     with all earlier ones
 --   paired            the word that has the one of two cards that covers the other strictly
 --   pair_compared     one pair more
@@ -30,11 +30,11 @@ use Rattle.table.specs.declared.layout.Limits.{Limits}
 use Rattle.order.proofs.Minima.{is_strict, minimal_is, over_passed, over_strict, strict_minimal, strict_not, strict_under}
 use Rattle.order.specs.Preorder.{Preorder, is_passed_over, strict}
 use Rattle.workspace.proofs.Halves.{put_whole}
-use Rattle.book.specs.Form.{card_count}
+use Rattle.book.specs.Form.{card_count, most_cards}
 use Rattle.book.specs.Selection.{card_covers}
 use Rattle.book_form.specs.Words.{WithEach}
 use Rattle.book_selection.specs.Comparing.{Compared, ComparedTo, Earlier, Ordered, Paired}
-use Rattle.book_selection.specs.Next.{NoneMet}
+use Rattle.book_selection.specs.Next.{NextCard, NoneMet}
 use Rattle.book_selection.specs.declared.compare.Order.{Order}
 
 or_left : (a b : Bool) → a ≡ true → (a || b) ≡ true
@@ -145,6 +145,16 @@ module _ (limits : Limits) (book : List ℕ) (covering : ℕ) where
       earlier_there next later below there =
           let (a, b) = both (has covering next) (not (has redundant next)) (sym (is next later below) ∙ there) in
           (a, not-true (has redundant next) b)
+
+    pub earlier_next : (left n next : ℕ) → ((k : ℕ) → has left k ≡ (has covering k && not (has redundant k))) →
+        NextCard left n next →
+        m < most_cards → ComparedTo limits book covering m n redundant →
+        (next < m → (has covering next ≡ true) × (has redundant next ≡ false))
+        × ComparedTo limits book covering m next redundant
+    earlier_next left n next is found small so = (
+      λ l. earlier_there left n (λ k a b. is k) so next found.later l (found.there (omega (arith, l, small))),
+      earlier_skipped left n (λ k a b. is k) so next found.none,
+    )
 
     module _ (n r : ℕ) (so : ComparedTo limits book covering m n redundant) (before : n < m)
         (inside : m < card_count book)

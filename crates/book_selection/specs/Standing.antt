@@ -1,10 +1,11 @@
 -- Where the tables of cards are while they are compared. Nobody has to believe these.
 --   Comparable   the cards of a book have passed 2 to 14, unfolded, and tables are kept where the cache says
---   Stands       at a spot is the table of a picture
+--   Inside       a spot has few rows and lies where it says
+--   Stands       and the table of a picture is there
 --   bytes_at     the bytes that are there
 --   Checkable    they have all that a search needs
 use Rattle.std.specs.Prelude.{ℕ, ◌+◌, ◌≤◌, length, List}
-use Rattle.table.specs.Bounds.{Bounded}
+use Rattle.table.specs.Bounds.{Bounded, max_rows}
 use Rattle.table.specs.Layout.{end_size, «place»}
 use Rattle.table.specs.declared.layout.Limits.{Limits}
 use Rattle.row_sets.specs.Rows.{Checked}
@@ -21,9 +22,13 @@ pub record Comparable (limits : Limits) (tbox book : List ℕ) (cache : Cache) :
   pub taken : TakenUnder limits tbox book
   pub cached : Cached limits (unfolded_book limits tbox book) cache
 
+abbrev pub Inside : Cache → List ℕ → Spot → Type 0
+Inside cache part (Kept span) = (span.rows ≤ max_rows) × (span.start + place span.rows end_size ≤ length cache.tables)
+Inside cache part (Made rows) = (rows ≤ max_rows) × (place rows end_size ≤ length part)
+
 abbrev pub Stands : Limits → List ℕ → Cache → List ℕ → Spot → Type 0
-Stands limits s cache part (Kept span) = CachedAt limits s cache.tables span cache.end
-Stands limits s cache part (Made rows) = TableAt limits s part rows
+Stands limits s cache part (Kept span) = Inside cache part (Kept span) × CachedAt limits s cache.tables span cache.end
+Stands limits s cache part (Made rows) = Inside cache part (Made rows) × TableAt limits s part rows
 
 abbrev pub bytes_at : Cache → List ℕ → Spot → List ℕ
 bytes_at cache part (Kept span) = table_in cache.tables span.start span.rows

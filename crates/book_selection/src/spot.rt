@@ -2,12 +2,13 @@
 // for it, made anew in a part of the work space.
 ghost use Rattle.std.specs.Prelude.{List, ◌≡◌, ◌+◌, ◌≤◌, ◌<◌, ℕ, length};
 ghost use Rattle.table.specs.Bounds.{Bounded, max_rows, picture_size};
+ghost use Rattle.table.specs.Layout.{end_size, «place»};
 ghost use Rattle.table_rows.specs.Links.{Zeros};
 ghost use Rattle.book.specs.Form.{«card», card_count, most_cards};
 ghost use Rattle.under.specs.Book.{unfolded_book};
 ghost use Rattle.book_tables.specs.Cache.{Cached, TableAt};
 ghost use Rattle.book_tables.specs.Tables.{TakenUnder};
-ghost use Rattle.book_selection.specs.Standing.{Checkable, Comparable, Stands, bytes_at};
+ghost use Rattle.book_selection.specs.Standing.{Checkable, Comparable, Inside, Stands, bytes_at};
 
 use book_form::form::{card, find_cards};
 use book_tables::cache::{Cache, Span};
@@ -27,6 +28,17 @@ pub enum Spot {
     Made(usize),
 }
 
+// The bytes of the table there.
+pub fn spot_table<'a>(cache: &'a Cache, part: &'a [u8], spot: Spot) -> &'a [u8]
+    requires { Inside cache.now part.now spot }
+    ensures { result.now ≡ bytes_at cache.now part.now spot }
+{
+    match spot {
+        Spot::Kept(span) => table_at(&cache.tables, span.start, span.rows),
+        Spot::Made(rows) => table_at(part, 0, rows),
+    }
+}
+
 // The table there, with its links.
 pub fn table_of<'a>(
     cache: &'a Cache,
@@ -38,15 +50,10 @@ pub fn table_of<'a>(
     requires empty { Zeros (max_rows + max_rows) links.old }
     ensures { result.bytes.now ≡ bytes_at cache.now part.now spot }
 {
+    let table = spot_table(cache, part, spot);
     match spot {
-        Spot::Kept(span) => {
-            let table = table_at(&cache.tables, span.start, span.rows);
-            Table::new(table, span.rows, links)
-        }
-        Spot::Made(rows) => {
-            let table = table_at(part, 0, rows);
-            Table::new(table, rows, links)
-        }
+        Spot::Kept(span) => Table::new(table, span.rows, links),
+        Spot::Made(rows) => Table::new(table, rows, links),
     }
 }
 
@@ -95,8 +102,9 @@ pub fn find_table(
 pub fn keep_made(cache: &mut Cache, k: usize, part: &[u8], spot: Spot)
     requires below { k < most_cards }
     requires inside { cache.old.end ≤ length cache.old.tables }
-    requires checkable { Checkable cache.old part.now spot }
-    ensures { (limits : Limits) (book : List ℕ) → Cached limits book cache.old
+    requires whole { (rows : ℕ) → spot ≡ Spot.Made rows → (rows ≤ max_rows) × («place» rows end_size ≤ length part.now) }
+    ensures same { (span : Span) → spot ≡ Spot.Kept span → cache.new ≡ cache.old }
+    ensures cached { (limits : Limits) (book : List ℕ) → Cached limits book cache.old
         → Stands limits («card» book k) cache.old part.now spot
         → Cached limits book cache.new × Stands limits («card» book k) cache.new part.now spot }
 {

@@ -1,11 +1,14 @@
 -- Laws of the tables that are kept.
 --   tabled_at                    a table at the start of a part
 --   table_few, table_checked     it has as many rows as it may, and all that a search needs
+--   made_same, made_table, made_ends    one that was made in the part from a byte on
 --   none_cached                  none is kept
---   cached_more                  one more is put behind those that are there
-use Prim.Native.Nat.{◌+◌, ◌<◌, ◌≤◌, suc, zero, ℕ}
+--   cached_same                  those that end before a place stay when only bytes from there on change
+--   cached_within                they end before any later place
+--   cached_more, cached_stored   one more is put behind those that are there
+use Prim.Native.Nat.{◌+◌, ◌-◌, ◌<◌, ◌≤◌, suc, zero, ℕ}
 use borrow.Author.Tests.{le-leb}
-use borrow.Rule.Slice.PartMut.{put_mid, take_put}
+use borrow.Rule.Slice.PartMut.{mid_of, put_mid, take_put}
 use lib.ListN.{drop, get_or, length, replicate, set, take}
 use lib.Seq.{get_or-set_other, get_or-set_same, length-take-le, take_all}
 use mathlib.Core.Bool.{Bool}
@@ -20,16 +23,16 @@ use Rattle.row_sets.proofs.Checks.{readable_checked}
 use Rattle.row_sets.specs.Rows.{Checked}
 use Rattle.normal_writer.specs.Tables.{Tabled, table_rows}
 use Rattle.table.proofs.Puts.{length_put}
-use Rattle.table.specs.Bounds.{Bounded, picture_size}
+use Rattle.table.specs.Bounds.{Bounded, max_rows, picture_size}
 use Rattle.table.specs.Layout.{end_size, «place»}
 use Rattle.table.specs.Pick.{pick}
 use Rattle.table.specs.Put.{put}
 use Rattle.table.specs.declared.layout.Limits.{Limits}
 use Rattle.book.specs.Form.{card}
-use Rattle.book_tables.specs.Cache.{Cached, CachedAt, TableAt}
+use Rattle.book_tables.specs.Cache.{Cached, CachedAt, TableAt, with_span}
 use Rattle.book_tables.specs.declared.cache.Cache.{Cache}
 use Rattle.book_tables.specs.declared.cache.Span.{Span}
-use Rattle.book_tables.proofs.Parts.{front_same, part_there, put_part}
+use Rattle.book_tables.proofs.Parts.{front_same, made_long, made_part, part_long, part_there, put_part, with_upper}
 
 pub tabled_at : (limits : Limits) (s out : List ℕ) (r : ℕ) (end : List ℕ) → Tabled limits s out r end → merged_count limits s ≤ limits.rows → TableAt limits s end r
 tabled_at limits s out r end tabled few =
@@ -54,6 +57,23 @@ table_checked {limits} {s} {part} {rows} bounded so =
     (normal_reads limits s so.few bounded) bounded in
     subst (λ t. Checked t rows) (sym so.is)
     (subst (λ n. Checked (normal_file limits s) n) (sym so.rows_are) whole)
+
+-- ---- a table that was made in the part from a byte on
+
+module _ (limits : Limits) (s work : List ℕ) (from r : ℕ) (end : List ℕ) (bounded : Bounded limits)
+    (few : merged_count limits s ≤ limits.rows) (room : from + picture_size limits ≤ length work)
+    (tabled : Tabled limits s (mid_of from (length work - from) work) r end) where
+  pub made_same : length (with_upper work from end) ≡ length work
+  made_same = made_long work from end (omega (arith, room)) (tabled.same ∙ part_long work from)
+
+  pub made_table : TableAt limits s (drop from (with_upper work from end)) r
+  made_table =
+      subst (λ d. TableAt limits s d r) (sym (made_part work from end (omega (arith, room))))
+      (tabled_at limits s (mid_of from (length work - from) work) r end tabled few)
+
+  pub made_ends : (r ≤ max_rows) × (from + place r end_size ≤ length (with_upper work from end))
+  made_ends =
+      let fits = table_few made_table in (omega (arith, fits, bounded.0), omega (arith, fits, made_same, room))
 
 -- ---- those that are kept
 
@@ -84,6 +104,31 @@ kept_at {tables = tables} {span} {end} so tables₂ inside inside₂ same =
 kept_within : {limits : Limits} {s tables : List ℕ} {span : Span} {end : ℕ} → CachedAt limits s tables span end →
     {end₂ : ℕ} → end ≤ end₂ → CachedAt limits s tables span end₂
 kept_within so later = record { ends = omega (arith, so.ends); table = so.table }
+
+module _ (limits : Limits) (book : List ℕ) (cache cache₂ : Cache) (so : Cached limits book cache)
+    (spans : cache₂.spans ≡ cache.spans) where
+  old_at : (j : ℕ) (span : Span) → get_or cache₂.spans j None ≡ Some span →
+      CachedAt limits (card book j) cache.tables span cache.end
+  old_at j span at = so.each j span (ap (λ s. get_or s j None) (sym spans) ∙ at)
+
+  pub cached_same : cache₂.end ≡ cache.end → cache.end ≤ length cache₂.tables →
+      take cache.end cache₂.tables ≡ take cache.end cache.tables → Cached limits book cache₂
+  cached_same ends inside same =
+      record {
+        inside = omega (arith, ends, inside);
+        each = λ j span at.
+            subst (λ e. CachedAt limits (card book j) cache₂.tables span e) (sym ends)
+            (kept_at (old_at j span at) cache₂.tables so.inside inside same);
+      }
+
+  pub cached_within : cache₂.tables ≡ cache.tables → cache.end ≤ cache₂.end → cache₂.end ≤ length cache₂.tables →
+      Cached limits book cache₂
+  cached_within same later inside =
+      record {
+        inside = inside;
+        each = λ j span at.
+            subst (λ t. CachedAt limits (card book j) t span cache₂.end) (sym same) (kept_within (old_at j span at) later);
+      }
 
 -- a table of n bytes that was put behind those that are kept
 module _ (limits : Limits) (book : List ℕ) (cache : Cache) (so : Cached limits book cache) (part : List ℕ)
@@ -143,3 +188,7 @@ module _ (limits : Limits) (book : List ℕ) (cache : Cache) (so : Cached limits
             (here s (subst (λ i. get_or spans₂ i None ≡ Some s) e at))
         | no u ↦ earlier j s (sym (get_or-set_other cache.spans k j (Some span) None u) ∙ at)
       ]
+
+  pub cached_stored : k < length cache.spans →
+      Cached limits book (record { tables = tables₂; spans = with_span cache.spans k cache.end rows; end = cache.end + n })
+  cached_stored = cached_more

@@ -1,8 +1,8 @@
 -- Laws of testing the cards: whether each covers the case, over the case's table t.
---   test_start     none is tested
---   word_room      a word has room for one card more
---   test_next      one more is tested, whose table is kept or not
---   case_tested    where the table is the case's
+--   test_start, test_all   none is tested; all are
+--   word_room              a word has room for one card more
+--   test_next              one more is tested, whose table is kept or not
+--   case_tested            where the table is the case's
 use Prim.Native.Nat.{◌+◌, ◌*◌, ◌^◌, ◌<◌, ◌≤◌, ℕ}
 use lib.Pow.{pow-add, pow_mono}
 use mathlib.Core.Bool.{Bool}
@@ -48,6 +48,11 @@ module _ {limits : Limits} {t book : List ℕ} where
               ∙ sym (set_below_suc (covers_table limits t book) k);
           cached = cached;
         }
+
+  pub test_all : {word k count : ℕ} {cache : Cache} → SubsumersBelow limits t book word cache k → k ≤ count → count ≤ k →
+      word ≡ set_below (covers_table limits t book) count
+  test_all {k = k} {count} so most done =
+      let end : k ≡ count = omega (arith, most) in so.word_is ∙ ap (set_below (covers_table limits t book)) end
 
 pub case_tested : (limits : Limits) (case book : List ℕ) (count : ℕ) → Bounded limits →
     merged_count limits case ≤ limits.rows → BookTaken limits book → count ≡ card_count book → {t : List ℕ} →

@@ -2,11 +2,12 @@
 --   TableAt          the normal table of a picture, of so many rows, at the start of a part
 --   CachedAt         one that is kept, at a span, before another
 --   Cached           each card with a span has its table there, before where all end
+--   with_span        the spans with that of card k
 --   Findable         what finding the subsumers needs: 14 is answered yes for all, and the work space is there
 --   CardsTestable    what testing all cards needs
 --   SubsumersBelow   the cards below k are tested, the word has those that cover the case, and tables are kept where the
 --                    spans say
-use Rattle.std.specs.Prelude.{ℕ, ◌+◌, ◌≤◌, drop, get_or, length, take, List, ◌≡◌, None, Some}
+use Rattle.std.specs.Prelude.{ℕ, ◌+◌, ◌≤◌, drop, get_or, length, set, take, List, ◌≡◌, None, Option, Some}
 use Rattle.table.specs.Bounds.{picture_size}
 use Rattle.table.specs.Layout.{end_size, «place»}
 use Rattle.table.specs.declared.layout.Limits.{Limits}
@@ -38,6 +39,9 @@ pub record Cached (limits : Limits) (book : List ℕ) (cache : Cache) : Type 0 w
   pub inside : cache.end ≤ length cache.tables
   pub each : (j : ℕ) (span : Span) → get_or cache.spans j None ≡ Some span →
       CachedAt limits (card book j) cache.tables span cache.end
+
+abbrev pub with_span : List (Option Span) → ℕ → ℕ → ℕ → List (Option Span)
+with_span spans k start rows = set spans k (Some (record { start = start; rows = rows }))
 
 pub record Findable (limits : Limits) (tbox : Tbox) (case book : List ℕ) (cards : Fields) (work : List ℕ) : Type 0 where
   pub ready : Ready limits tbox.bytes.now tbox.starts.now (set_of tbox.defined)

@@ -1,10 +1,11 @@
 // The tables of covering cards, one after the other, so that they need not be made again.
-ghost use Rattle.std.specs.Prelude.{List, ◌≡◌, ◌≤◌, ◌<◌, ℕ, get_or, length};
+ghost use Rattle.std.specs.Prelude.{List, ◌≡◌, ◌+◌, ◌≤◌, ◌<◌, ℕ, get_or, length, take};
 ghost use Rattle.table.specs.Bounds.{max_rows};
 ghost use Rattle.table.specs.Layout.{end_size, «place»};
+ghost use Rattle.table.specs.Put.{put};
 ghost use Rattle.table.specs.declared.layout.Limits.{Limits};
 ghost use Rattle.book.specs.Form.{«card», most_cards};
-ghost use Rattle.book_tables.specs.Cache.{Cached, TableAt};
+ghost use Rattle.book_tables.specs.Cache.{Cached, TableAt, with_span};
 
 use book_form::form::MAX_CARDS;
 use normal_writer::write::TABLE;
@@ -54,7 +55,12 @@ impl Cache {
         requires whole { «place» rows end_size ≤ length part.now }
         requires below { k < most_cards }
         requires inside { self.old.end ≤ length self.old.tables }
-        ensures { (limits : Limits) (book : List ℕ) → Cached limits book self.old → TableAt limits («card» book k) part.now rows
+        ensures kept { self.old.end + «place» rows end_size ≤ length self.old.tables →
+            (self.new.tables ≡ put self.old.tables self.old.end (take («place» rows end_size) part.now))
+            × (self.new.spans ≡ with_span self.old.spans k self.old.end rows)
+            × (self.new.end ≡ self.old.end + «place» rows end_size) }
+        ensures full { length self.old.tables < self.old.end + «place» rows end_size → self.new ≡ self.old }
+        ensures cached { (limits : Limits) (book : List ℕ) → Cached limits book self.old → TableAt limits («card» book k) part.now rows
             → Cached limits book self.new }
     {
         let size = place(rows, END_SIZE);

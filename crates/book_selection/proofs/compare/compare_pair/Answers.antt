@@ -8,7 +8,7 @@ pub compare_spots-requires : goal.compare_spots-requires
 compare_spots-requires c =
     let known = c.requires.known in
     let found = c.find_table-spot in
-    stands_checkable _ _ c.args.cache.now found.new.part known.bounded known.cached.inside (omega arith) found.result found.ensures
+    stands_checkable _ _ c.args.cache.now found.new.part known.bounded found.result found.ensures
 
 pub returns : goal.returns
 returns c m l own =

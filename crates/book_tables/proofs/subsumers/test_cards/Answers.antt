@@ -45,7 +45,7 @@ loop-k-preserved c =
     elim c.if-covers.branch [
       | then-covers w ↦
           test_next so made c.covers_case-covers.ensures (w.word-is ∙ rw (w.if-covers.true, w.bit-word.ensures))
-          (rw w.cache-is (w.keep.ensures _ _ so.cached made))
+          (rw w.cache-is (w.keep.ensures.cached _ _ so.cached made))
       | else-covers w ↦
           test_next so made c.covers_case-covers.ensures (w.word-is ∙ rw w.if-covers.false (omega arith))
           (rw w.cache-is so.cached)

@@ -3,8 +3,8 @@ use native.Mathlib.Omega.{arith}
 use Rattle.book_tables.proofs.Caches.{cached_more}
 use Rattle.book_tables.proofs.cache.Cache.keep.Goals as goal
 
-pub returns : goal.returns
-returns c limits book so table =
+pub returns-clause-cached : goal.returns-clause-cached
+returns-clause-cached c limits book so table =
     let a = c.args in
     let size = c.place-size in
     cached_more limits book a.self.now so a.part.now a.k a.rows size.result table size.ensures (omega arith) (omega arith)
