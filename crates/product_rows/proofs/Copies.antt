@@ -1,16 +1,18 @@
 -- A row of a table with what hangs from it, as it is copied.
 --   tree_node                a row's tree is its label and what hangs from it
+--   tree_some                it has a row at least
 --   copy_row                 a row, and then what hangs from it, is the row's tree
 --   rows_parts               of rows in turn the first's tree, and then theirs
 --   made_by                  what is made by an edge is made by what that edge is
 use Prim.Native.Nat.{◌<◌, suc, zero, ℕ}
 use mathlib.Core.List.{List}
 use mathlib.Core.Path.{◌≡◌, ap, refl, subst, sym}
+use native.Mathlib.Omega.{arith}
 use Rattle.table.specs.Fields.{kind_of, role_of}
 use Rattle.table_rows.specs.declared.builder.Builder.{Builder}
 use Rattle.ale.specs.Forest.{append}
 use Rattle.ale.specs.PictureSignature.{picture_signature}
-use Rattle.ale.specs.Tree.{Forest, Kind, cons, nil, node, successors_of}
+use Rattle.ale.specs.Tree.{Forest, Kind, Tree, cons, nil, node, size, successors_of}
 use Rattle.meaning.specs.File.{code_at}
 use Rattle.meaning.specs.Meaning.{kind_at, picture_table}
 use Rattle.row_sets.specs.declared.label.Label.{Label}
@@ -26,6 +28,9 @@ pub tree_node : (t : List ℕ) (depth u : ℕ) → tree_at t depth u
     ≡ node ((picture_table t).label u) (successors_of picture_signature (tree_at t depth u))
 tree_node t zero u = refl
 tree_node t (suc depth) u = refl
+
+pub tree_some : (x : Tree picture_signature) → 0 < size picture_signature x
+tree_some (node l f) = omega arith
 
 pub copy_row : (t : List ℕ) (depth v : ℕ) (edge : Edge) {limit : ℕ} {b : Builder} {out : List ℕ} {label : Label} →
     RowLabel t v label →

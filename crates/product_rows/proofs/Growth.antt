@@ -8,21 +8,23 @@
 --   Onward          a loop that makes a forest part by part: once what is left is made, all of it is
 --   onward_start, onward_next, onward_full, onward_end   before the first part; one part more, within the limit and
 --                                                        beyond it; nothing is left
+--   built_root      what is grown of a root alone is built
 use Prim.Native.Nat.{◌+◌, ◌<◌, ◌≤◌, ℕ}
 use lib.ListN.{length}
 use mathlib.Core.List.{List, ◌++◌, append_assoc, append-nil}
 use mathlib.Core.Path.{◌∙◌, ◌≡◌, ap, refl, subst, sym}
 use native.Mathlib.Omega.{arith}
 use Rattle.ale.proofs.Appends.{sizes_append}
-use Rattle.ale.specs.Encoding.{encode_forest}
+use Rattle.ale.specs.Encoding.{encode, encode_forest}
 use Rattle.ale.specs.Forest.{append}
 use Rattle.ale.specs.PictureSignature.{picture_signature}
-use Rattle.ale.specs.Tree.{Forest, nil, sizes}
+use Rattle.ale.specs.Tree.{Forest, Tree, cons, exists, nil, sizes}
 use Rattle.meaning.specs.File.{rows_from}
 use Rattle.normal_writer.proofs.Growth.{rows_append}
 use Rattle.table_rows.specs.Rows.{prefix}
 use Rattle.table_rows.specs.declared.builder.Builder.{Builder}
-use Rattle.product_rows.specs.Grown.{Grown, Room}
+use Rattle.product_rows.specs.Grown.{Built, Grown, Room}
+use Rattle.table.specs.declared.layout.Limits.{Limits}
 
 module _ (limit parent : ℕ) where
   pub grown_nil : (b : Builder) (out : List ℕ) → Room limit b out → Grown limit parent b out nil b out
@@ -133,3 +135,15 @@ module _ {limit parent : ℕ} {start : Builder} {first : List ℕ} {whole : Fore
   onward_end {left} {grown} {out} none at =
       at.rest grown out (grown_same limit parent grown grown out out nil left (sym none)
       (grown_nil limit parent grown out at.room))
+
+-- the pair of the two roots is all of it
+pub built_root : (limits : Limits) (t : Tree picture_signature) (b r : Builder) (out end : List ℕ) → b.rows ≡ 0 →
+    Grown limits.rows 0 b out (cons exists 0 t nil) r end → Built limits t out r end
+built_root limits t b r out end z g = record {
+  count = omega (arith, g.count);
+  same = g.same;
+  bytes_are = λ h.
+      g.written (omega arith)
+      ∙ ap (λ (n : ℕ). prefix n out ++ rows_from n (encode_forest picture_signature (cons exists 0 t nil) 0 n)) z
+      ∙ ap (rows_from 0) (append-nil (encode picture_signature t));
+}

@@ -3,11 +3,12 @@
 --   pushed_length, pushed_room   once a row is written the lent part is as long, and there is room for what hangs from
 --                                the row
 --   entered_length, entered_room   the same if there was room for the row, or none
+--   entered_some    there is a row then
 --   grown_row       a row, and then what hangs from it, is one successor more
 --   grown_node      once it is left: one successor more, or none, if it is dropped
 --   grown_stays     one that stays where the table is full
 use Prim.Native.Nat.{◌+◌, ◌<◌, ◌≤◌, suc, ℕ}
-use borrow.Author.Tests.{eq-eqb, le-ltb, lt-ltb, ne_eqb, ltb-true, ltb-false}
+use borrow.Author.Tests.{eq-eqb, eqb-true, le-ltb, lt-ltb, ne_eqb, ltb-true, ltb-false}
 use lib.Dec.{eqb, ltb}
 use lib.ListN.{length}
 use mathlib.Core.Bool.{Bool, ◌&&◌, false, not, true}
@@ -19,7 +20,7 @@ use Rattle.table.proofs.Bools.{by_test}
 use Rattle.table.proofs.Puts.{length_put}
 use Rattle.table.proofs.Rows.{length_row_of}
 use Rattle.table.specs.Fields.{row_of}
-use Rattle.table.specs.Layout.{kind_for_all, «place», row_size}
+use Rattle.table.specs.Layout.{kind_for_all, kind_root, «place», row_size}
 use Rattle.table.specs.NameSet.{intersection}
 use Rattle.table.specs.NameValues.{set_of}
 use Rattle.table.specs.Pick.{pick}
@@ -266,3 +267,21 @@ module _ {limit : ℕ} {b : Builder} {out : List ℕ} (edge : Edge) {label : Lab
           by_test (ltb at limit)
           (λ c. when_pushed (ltb-true at limit c) (stays edge label) f refl gr)
           (λ c. when_full (ltb-false at limit c) f gr)
+
+  module _ {entered : Builder} {first : List ℕ} (en : Entered limit b out edge label entered first) where
+    -- the root stays: so there is a row, written before or now
+    pub entered_some : (limit ≤ at → stays edge label ≡ false) → 0 < entered.rows
+    entered_some room-or =
+        by_test (ltb at limit)
+        (λ c. omega (arith, (en.pushed (ltb-true at limit c)).one_more))
+        (λ c.
+        let full = ltb-false at limit c in
+        let all : edge.kind ≡ kind_for_all = eqb-true edge.kind kind_for_all
+        (left_true (eqb edge.kind kind_for_all) (bare label) (room-or full)) in
+        let hung : ¬ (at ≡ 0) = (λ z. let root : kind_root ≡ edge.kind = sym (rw (eq-eqb at 0 z)) ∙ code in
+        omega arith) in
+        omega (arith, (en.full full).0, hung))
+      where
+        left_true : (x y : Bool) → not (x && y) ≡ false → x ≡ true
+        left_true true y e = refl
+        left_true false y e = sym e

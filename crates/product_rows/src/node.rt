@@ -39,8 +39,22 @@ pub fn common_label(a: Label, b: Label) -> Label
     }
 }
 
-// Whether neither of two rows is marked, and one of them has no first successor: then nothing hangs from the pair.
-pub fn is_leaf(first: &Table, u: usize, second: &Table, w: usize) -> bool
+// Whether neither of two labels is marked, and one of their rows has no first successor: then nothing hangs from the
+// pair.
+pub fn is_leaf(a: Label, b: Label, first: u8, second: u8) -> bool
+    ensures { result ≡ (not (eqb a.bottom 1) && (not (eqb b.bottom 1) && (eqb first 0 || eqb second 0))) }
+{
+    if a.bottom == 1 {
+        return false;
+    }
+    if b.bottom == 1 {
+        return false;
+    }
+    first == 0 || second == 0
+}
+
+// The same of a row of each of two tables: of a pair that has successors no label is read.
+pub fn is_pair_leaf(first: &Table, u: usize, second: &Table, w: usize) -> bool
     requires { (u < first.now.rows) × (w < second.now.rows) }
     ensures { result ≡ (not (eqb (impossible_of first.now.bytes.now u) 1)
         && (not (eqb (impossible_of second.now.bytes.now w) 1)

@@ -2,8 +2,8 @@
 --   pair_first, pair_second   one side is marked: the pair is the other side, whole
 --   pair_node                 neither is: the names in common, and the pairs of successors
 --   pairs_leaf                at depth 0 there are none
---   leaf_tests                what `is_leaf` has asked
---   pairs_nil                nor where one of the two rows has no first link
+--   leaf_tests                what `is_pair_leaf` has asked
+--   pairs_none                nor where one of the two rows has no first link
 --   graft_leaf                then the pair is a leaf
 --   graft_full                a pair that stays where the table is full
 --   graft_left                a pair as it is left once what hangs from it is there
@@ -110,11 +110,11 @@ module _ (s t : List ℕ) (depth u w : ℕ) where
       (sym (rw (trees_leaf s depth u z) (pair_forest_walk picture_signature picture_equal nil g tt tt)))
       (grown_nil limit parent b out room)
 
-  pub pairs_nil : {links others : List ℕ} {n o : ℕ} → LinkedTable s n links → LinkedTable t o others → u < n → w < o →
+  pub pairs_none : {links others : List ℕ} {n o : ℕ} → LinkedTable s n links → LinkedTable t o others → u < n → w < o →
       Trim (tree_at s depth u) →
       (eqb (get_or links u 0) 0 || eqb (get_or others w 0) 0) ≡ true → pairs_below s t depth u w ≡ nil
   unfolding pairs_below
-  pairs_nil {links} {others} one other l k trim none =
+  pairs_none {links} {others} one other l k trim none =
       let below = trim_below ((picture_table s).label u) f (subst Trim (tree_node s depth u) trim) in
       pair_forest_walk picture_signature picture_equal f g below.ordered below.known
       ∙ ⊎_elim {C = pair_walk picture_signature f g ≡ nil}

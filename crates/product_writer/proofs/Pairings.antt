@@ -6,7 +6,7 @@
 --   pairs_start                         before the first turn
 --   pairs_paired                        what may be asked of the first row of the second that does not stand before row
 --                                       c
---   pairs_none                          there is no such row
+--   pairs_over                          there is no such row
 --   pairs_next, pairs_full, pairs_end   once row c's pairs are made: within the limit, beyond it; no row is left
 --   EachAt                              the pairs of row c: row v of the second and those after it are left
 --   each_kept, each_next, each_full     a row by the same edge, and once it is paired
@@ -150,8 +150,8 @@ module _ {s t : List ℕ} {m depth limit parent : ℕ} {start : Builder} {first 
       pub pairs_full : limit < r.rows → Grown limit parent start first whole r end
       pairs_full over = onward_full _ walk_parts sought_onward more over
 
-    pub pairs_none : v ≡ 0 → Grown limit parent start first whole grown out
-    pairs_none z =
+    pub pairs_over : v ≡ 0 → Grown limit parent start first whole grown out
+    pairs_over z =
         onward_end
         (ap (λ es. pair_walk picture_signature (forest_from s n depth from) (forest_of t depth es))
         (siblings_none t m v z)

@@ -20,7 +20,7 @@ use homomorphism_search::label::label_at;
 use normal_writer::node::Edge;
 use product_rows::copy::copy_tree;
 use product_rows::edge::{edge_at, edge_key, seek};
-use product_rows::node::{beyond, common_label, enter, graft_leaf, is_kept, is_leaf, leave};
+use product_rows::node::{beyond, common_label, enter, graft_leaf, is_kept, is_pair_leaf, leave};
 use row_sets::below::Below;
 use row_sets::linked::Table;
 use row_sets::rows::LINKS;
@@ -91,7 +91,7 @@ fn graft_pair<'a>(
         (product_at first.now.bytes.now second.now.bytes.now depth c v) nil)
         result out.new }
 {
-    if is_leaf(first, c, second, v) {
+    if is_pair_leaf(first, c, second, v) {
         let leaf = edge_at(first.bytes, c, parent);
         let label = common_label(label_at(first.bytes, c), label_at(second.bytes, v));
         return graft_leaf(out, table, &leaf, label, limit);

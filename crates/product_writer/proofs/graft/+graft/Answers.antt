@@ -23,8 +23,8 @@ use Rattle.product_rows.proofs.Growth.{grown_same}
 use Rattle.product_rows.proofs.Nodes.{common_is}
 use Rattle.product_rows.proofs.SiblingRows.{headed}
 use Rattle.product_writer.specs.Tables.{Hung, Paired, pairs_from, product_at}
-use Rattle.product_writer.proofs.Grafts.{graft_full, graft_leaf, graft_left, leaf_tests, pair_first, pair_second, pairs_leaf, pairs_nil}
-use Rattle.product_writer.proofs.Pairings.{each_end, each_full, each_kept, each_next, each_other, pairs_end, pairs_full, pairs_next, pairs_none, pairs_paired, pairs_start}
+use Rattle.product_writer.proofs.Grafts.{graft_full, graft_leaf, graft_left, leaf_tests, pair_first, pair_second, pairs_leaf, pairs_none}
+use Rattle.product_writer.proofs.Pairings.{each_end, each_full, each_kept, each_next, each_other, pairs_end, pairs_full, pairs_next, pairs_over, pairs_paired, pairs_start}
 use Rattle.product_writer.proofs.graft.+graft.Goals as goal
 use Rattle.product_writer.proofs.graft.+graft.Goals.{graft-else-limit-table-via-then-limit-table+else-is_kept, graft-else-limit-table-via-else-limit-table}
 
@@ -144,19 +144,19 @@ graft_pair-graft_leaf-requires-clause-code t c =
     coded c.args.c c.args.parent c.args.first.now.linked.checked c.requires.rows.0 c.edge_at-leaf.ensures
     c.requires.some
 
-pub graft_pair-returns-then-is_leaf : goal.graft_pair-returns-then-is_leaf
-graft_pair-returns-then-is_leaf t c =
+pub graft_pair-returns-then-is_pair_leaf : goal.graft_pair-returns-then-is_pair_leaf
+graft_pair-returns-then-is_pair_leaf t c =
     let a = c.args in
     let s = a.first.now in
     let t = a.second.now in
     let both = c.common_label-label.ensures in
-    let tests = leaf_tests _ _ _ (sym c.is_leaf.ensures ∙ c.if-is_leaf.true) in
+    let tests = leaf_tests _ _ _ (sym c.is_pair_leaf.ensures ∙ c.if-is_pair_leaf.true) in
     let code = coded a.c a.parent s.linked.checked c.requires.rows.0 c.edge_at-leaf.ensures c.requires.some in
     made_by (λ k r. cons_reduced picture_signature k r
     (product_at s.bytes.now t.bytes.now a.depth a.c a.v) nil) c.edge_at-leaf.ensures
     (graft_leaf s.bytes.now t.bytes.now a.depth a.c a.v c.edge_at-leaf.result c.requires.room code tests.0 tests.1.0
-    (common_is c.label_at.ensures c.label_at-then-is_leaf.ensures both.wanted both.excluded both.bottom)
-    (pairs_nil s.bytes.now t.bytes.now a.depth a.c a.v s.linked t.linked c.requires.rows.0.1 c.requires.rows.1
+    (common_is c.label_at.ensures c.label_at-then-is_pair_leaf.ensures both.wanted both.excluded both.bottom)
+    (pairs_none s.bytes.now t.bytes.now a.depth a.c a.v s.linked t.linked c.requires.rows.0.1 c.requires.rows.1
     c.requires.kept.0.trim tests.1.1)
     c.graft_leaf.ensures)
 
@@ -214,7 +214,7 @@ graft_pairs-graft_each-grown-requires t c =
 pub graft_pairs-returns-then-rest-eq0 : goal.graft_pairs-returns-then-rest-eq0
 graft_pairs-returns-then-rest-eq0 t c =
     let turn = turned c.loop-c.c-iterator c.next.new.self c.loop-c.invariant.table_kept c.in-Some.ensures.steps in
-    pairs_none c.loop-c.invariant.at (headed turn) c.edge_key-key.ensures _
+    pairs_over c.loop-c.invariant.at (headed turn) c.edge_key-key.ensures _
     (sought_along _ _ _ c.loop-c.invariant.rest_kept c.seek-rest.ensures.rest)
     c.if-rest-eq0.true
 
