@@ -3,6 +3,8 @@
 --   weigh_none    before the last row
 --   weigh_next    row k
 --   weigh_done    at the end
+--   Low           each of the sums fits a byte
+--   low_none, low_next   before the last row, and after a sum that fits one
 --   times_is      how often what hangs below a row is counted, without a branch
 --   small         a byte that often is no large number
 use Prim.Native.Nat.{◌*◌, ◌+◌, ◌-◌, ◌<◌, ◌≤◌, suc, zero, ℕ}
@@ -48,7 +50,6 @@ from_next q f k (suc n) l =
 pub record WeighedFrom (s : List ℕ) (rows : ℕ) (keys somes : List ℕ) (j : ℕ) (below : List ℕ) : Type 0 where
   pub most : j ≤ rows
   pub size : length below ≡ max_rows
-  pub low : (i : ℕ) → get_or below i 0 < 256
   pub weight : (i : ℕ) → i < rows →
       get_or below i 0 ≡ total (from j (hangs s (λ c. eqb c i))) (share_of s keys somes below) rows
 
@@ -58,16 +59,16 @@ weigh_none s rows keys somes below empty =
     record {
       most = omega arith;
       size = empty.size;
-      low = λ i. omega (arith, empty.zeros i);
       weight = λ i l. empty.zeros i ∙ sym (from_none _ _ rows rows (omega arith));
     }
 
--- row k: its parent, and how often what hangs below it is counted
-module _ (s : List ℕ) (rows : ℕ) (keys somes : List ℕ) (k j above often : ℕ) (below : List ℕ)
+-- row k: its parent, what hangs below it, how often that is counted, and what hangs below the parent so far
+module _ (s : List ℕ) (rows : ℕ) (keys somes : List ℕ) (k j above weight often old : ℕ) (below : List ℕ)
     (checked : Checked s rows) (under : j ≡ suc k) (later : k ≡ 0 → ⊥) (is : above ≡ parent_of s k) (before : above < k)
-    (often-is : often ≡ times_of s keys somes k) (from-j : WeighedFrom s rows keys somes j below) where
+    (weight_is : weight ≡ get_or below k 0) (often-is : often ≡ times_of s keys somes k)
+    (old-is : old ≡ get_or below above 0) (from-j : WeighedFrom s rows keys somes j below) where
   abbrev sum : ℕ
-  sum = get_or below above 0 + (1 + get_or below k 0 * often)
+  sum = old + (1 + weight * often)
 
   abbrev more : List ℕ
   more = set below above sum
@@ -80,7 +81,7 @@ module _ (s : List ℕ) (rows : ℕ) (keys somes : List ℕ) (k j above often : 
   share_same c l = ap (λ n. 1 + n * times_of s keys somes c) (get_or-set_other below above c sum 0 (λ same. omega arith))
 
   sum_is : sum ≡ get_or below above 0 + share k
-  sum_is = rw often-is
+  sum_is = rw (weight_is, often-is, old-is)
 
   module _ (i : ℕ) where
     abbrev hung : ℕ → Bool
@@ -108,17 +109,23 @@ module _ (s : List ℕ) (rows : ℕ) (keys somes : List ℕ) (k j above often : 
         (λ c b. by_test (leb k c) (λ e. rw (share_same c (leb-true k c e))) (λ e. rw e)) in
         omega (arith, weight_more, so_far, same, from_next hung share k rows (omega arith))
 
-  pub weigh_next : sum < 256 → WeighedFrom s rows keys somes k more
-  weigh_next l =
-      let few = checked.most in
+  pub weigh_next : WeighedFrom s rows keys somes k more
+  weigh_next =
       let most = from-j.most in
-      let size = from-j.size in
       record {
         most = omega arith;
         size = length-set below above sum ∙ from-j.size;
-        low = λ i. stored (λ v. v < 256) below above sum i (omega arith) (λ same. l) (λ other. from-j.low i);
         weight = total_more;
       }
+
+abbrev pub Low : List ℕ → Type 0
+Low below = (i : ℕ) → get_or below i 0 < 256
+
+pub low_none : (below : List ℕ) → Zeros max_rows below → Low below
+low_none below empty = λ i. omega (arith, empty.zeros i)
+
+pub low_next : (below : List ℕ) (above sum : ℕ) → above < length below → sum < 256 → Low below → Low (set below above sum)
+low_next below above sum inside fits low = λ i. stored (λ v. v < 256) below above sum i inside (λ same. fits) (λ other. low i)
 
 root_hangs : (s : List ℕ) (q : ℕ → Bool) → hangs s q 0 ≡ false
 unfolding hangs
