@@ -11,13 +11,13 @@ use Prim.Native.Nat.{◌<◌, ◌^◌, ◌≤◌, ℕ}
 use native.Mathlib.Nat.{eq-or-lt_of_le}
 use native.Mathlib.Omega.{arith}
 use borrow.Author.Tests.{eq-eqb, lt-ltb, ltb-false, ltb-true, ne_eqb}
+use lib.Count.{count_trailing_zeros, trailing_le}
 use lib.Dec.{eqb, ltb}
 use lib.ListN.{drop, get_or, length}
 use mathlib.Core.Bool.{◌&&◌, false, false≢true, not, true}
 use mathlib.Core.List.{[], ◌∷◌}
 use mathlib.Core.Logic.{⊎_elim}
 use mathlib.Core.Path.{◌∙◌, ◌≡◌, ap, refl, subst, sym}
-use lib.Count.{count_trailing_zeros, trailing_le}
 use Rattle.table.specs.Layout.{name_count}
 use Rattle.table.specs.NameSet.{complement, has, intersection}
 use Rattle.table.proofs.Bools.{by_test}
