@@ -23,18 +23,18 @@ pub record Comparable (limits : Limits) (tbox book : List ℕ) (cache : Cache) :
   pub cached : Cached limits (unfolded_book limits tbox book) cache
 
 abbrev pub Inside : Cache → List ℕ → Spot → Type 0
-Inside cache part (Kept span) = (span.rows ≤ max_rows) × (span.start + place span.rows end_size ≤ length cache.tables)
+Inside cache part (Kept span) = (span.rows ≤ max_rows) × (span.start + place span.rows end_size ≤ length cache.tables.now)
 Inside cache part (Made rows) = (rows ≤ max_rows) × (place rows end_size ≤ length part)
 
 abbrev pub Stands : Limits → List ℕ → Cache → List ℕ → Spot → Type 0
-Stands limits s cache part (Kept span) = Inside cache part (Kept span) × CachedAt limits s cache.tables span cache.end
+Stands limits s cache part (Kept span) = Inside cache part (Kept span) × CachedAt limits s cache.tables.now span cache.end
 Stands limits s cache part (Made rows) = Inside cache part (Made rows) × TableAt limits s part rows
 
 abbrev pub bytes_at : Cache → List ℕ → Spot → List ℕ
-bytes_at cache part (Kept span) = table_in cache.tables span.start span.rows
+bytes_at cache part (Kept span) = table_in cache.tables.now span.start span.rows
 bytes_at cache part (Made rows) = table_in part 0 rows
 
 abbrev pub Checkable : Cache → List ℕ → Spot → Type 0
 Checkable cache part (Kept span) =
-    (span.start + place span.rows end_size ≤ length cache.tables) × Checked (table_in cache.tables span.start span.rows) span.rows
+    (span.start + place span.rows end_size ≤ length cache.tables.now) × Checked (table_in cache.tables.now span.start span.rows) span.rows
 Checkable cache part (Made rows) = (place rows end_size ≤ length part) × Checked (table_in part 0 rows) rows

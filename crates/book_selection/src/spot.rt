@@ -34,7 +34,7 @@ pub fn spot_table<'a>(cache: &'a Cache, part: &'a [u8], spot: Spot) -> &'a [u8]
     ensures { result.now ≡ bytes_at cache.now part.now spot }
 {
     match spot {
-        Spot::Kept(span) => table_at(&cache.tables, span.start, span.rows),
+        Spot::Kept(span) => table_at(cache.tables, span.start, span.rows),
         Spot::Made(rows) => table_at(part, 0, rows),
     }
 }
@@ -101,7 +101,7 @@ pub fn find_table(
 // Keeps the table of card k for the cards that come later, if it was made, and if it fits.
 pub fn keep_made(cache: &mut Cache, k: usize, part: &[u8], spot: Spot)
     requires below { k < most_cards }
-    requires inside { cache.old.end ≤ length cache.old.tables }
+    requires inside { cache.old.end ≤ length cache.old.tables.now }
     requires whole { (rows : ℕ) → spot ≡ Spot.Made rows → (rows ≤ max_rows) × («place» rows end_size ≤ length part.now) }
     ensures same { (span : Span) → spot ≡ Spot.Kept span → cache.new ≡ cache.old }
     ensures cached { (limits : Limits) (book : List ℕ) → Cached limits book cache.old

@@ -108,20 +108,20 @@ kept_within so later = record { ends = omega (arith, so.ends); table = so.table 
 module _ (limits : Limits) (book : List ℕ) (cache cache₂ : Cache) (so : Cached limits book cache)
     (spans : cache₂.spans ≡ cache.spans) where
   old_at : (j : ℕ) (span : Span) → get_or cache₂.spans j None ≡ Some span →
-      CachedAt limits (card book j) cache.tables span cache.end
+      CachedAt limits (card book j) cache.tables.now span cache.end
   old_at j span at = so.each j span (ap (λ s. get_or s j None) (sym spans) ∙ at)
 
-  pub cached_same : cache₂.end ≡ cache.end → cache.end ≤ length cache₂.tables →
-      take cache.end cache₂.tables ≡ take cache.end cache.tables → Cached limits book cache₂
+  pub cached_same : cache₂.end ≡ cache.end → cache.end ≤ length cache₂.tables.now →
+      take cache.end cache₂.tables.now ≡ take cache.end cache.tables.now → Cached limits book cache₂
   cached_same ends inside same =
       record {
         inside = omega (arith, ends, inside);
         each = λ j span at.
-            subst (λ e. CachedAt limits (card book j) cache₂.tables span e) (sym ends)
-            (kept_at (old_at j span at) cache₂.tables so.inside inside same);
+            subst (λ e. CachedAt limits (card book j) cache₂.tables.now span e) (sym ends)
+            (kept_at (old_at j span at) cache₂.tables.now so.inside inside same);
       }
 
-  pub cached_within : cache₂.tables ≡ cache.tables → cache.end ≤ cache₂.end → cache₂.end ≤ length cache₂.tables →
+  pub cached_within : cache₂.tables.now ≡ cache.tables.now → cache.end ≤ cache₂.end → cache₂.end ≤ length cache₂.tables.now →
       Cached limits book cache₂
   cached_within same later inside =
       record {
@@ -133,19 +133,19 @@ module _ (limits : Limits) (book : List ℕ) (cache cache₂ : Cache) (so : Cach
 -- a table of n bytes that was put behind those that are kept
 module _ (limits : Limits) (book : List ℕ) (cache : Cache) (so : Cached limits book cache) (part : List ℕ)
     (k rows n : ℕ) (table : TableAt limits (card book k) part rows) (is : n ≡ place rows end_size)
-    (whole : n ≤ length part) (room : cache.end + n ≤ length cache.tables) (tables₂ : List ℕ)
-    (written : tables₂ ≡ put cache.tables cache.end (take n part)) where
+    (whole : n ≤ length part) (room : cache.end + n ≤ length cache.tables.now) (tables₂ : List ℕ)
+    (written : tables₂ ≡ put cache.tables.now cache.end (take n part)) where
   abbrev new : List ℕ
   new = take n part
 
   as_many : length new ≡ n
   as_many = length-take-le n part whole
 
-  is_put : tables₂ ≡ put_mid cache.end (length new) cache.tables new
-  is_put = written ∙ put_part cache.tables cache.end new
+  is_put : tables₂ ≡ put_mid cache.end (length new) cache.tables.now new
+  is_put = written ∙ put_part cache.tables.now cache.end new
 
-  as_long : length tables₂ ≡ length cache.tables
-  as_long = ap length written ∙ length_put cache.tables cache.end new (omega (arith, as_many, room))
+  as_long : length tables₂ ≡ length cache.tables.now
+  as_long = ap length written ∙ length_put cache.tables.now cache.end new (omega (arith, as_many, room))
 
   abbrev span : Span
   span = record { start = cache.end; rows = rows }
@@ -158,7 +158,7 @@ module _ (limits : Limits) (book : List ℕ) (cache : Cache) (so : Cached limits
             table_same table (drop cache.end tables₂)
             (ap (λ (i : ℕ). take i (drop cache.end tables₂)) (sym is)
             ∙ ap (λ (d : List ℕ). take n (drop cache.end d)) is_put
-            ∙ part_there cache.tables cache.end (length new) new n so.inside (omega (arith, as_many))
+            ∙ part_there cache.tables.now cache.end (length new) new n so.inside (omega (arith, as_many))
             ∙ take_all n new (omega (arith, as_many))
             ∙ ap (λ (i : ℕ). take i part) is);
       }
@@ -167,14 +167,21 @@ module _ (limits : Limits) (book : List ℕ) (cache : Cache) (so : Cached limits
   earlier j old at =
       kept_within
       (kept_at (so.each j old at) tables₂ so.inside (omega (arith, as_long, so.inside))
-      (ap (take cache.end) is_put ∙ take_put cache.end (length new) cache.tables new so.inside)) (omega arith)
+      (ap (take cache.end) is_put ∙ take_put cache.end (length new) cache.tables.now new so.inside)) (omega arith)
 
   abbrev spans₂ : List (Option Span)
   spans₂ = set cache.spans k (Some span)
 
-  pub cached_more : k < length cache.spans →
-      Cached limits book (record { tables = tables₂; spans = spans₂; end = cache.end + n })
-  cached_more l = record { inside = omega (arith, as_long, room); each = each }
+  pub cached_more : k < length cache.spans → (cache₂ : Cache) → cache₂.tables.now ≡ tables₂ → cache₂.spans ≡ spans₂ →
+      cache₂.end ≡ cache.end + n → Cached limits book cache₂
+  cached_more l cache₂ tables spans ends =
+      record {
+        inside = omega (arith, ap length tables, as_long, room, ends);
+        each = λ j s at.
+            subst (λ t. CachedAt limits (card book j) t s cache₂.end) (sym tables)
+            (subst (λ e. CachedAt limits (card book j) tables₂ s e) (sym ends)
+            (each j s (ap (λ u. get_or u j None) (sym spans) ∙ at)));
+      }
     where
       here : (s : Span) → get_or spans₂ k None ≡ Some s → CachedAt limits (card book k) tables₂ s (cache.end + n)
       here s at =
@@ -189,6 +196,6 @@ module _ (limits : Limits) (book : List ℕ) (cache : Cache) (so : Cached limits
         | no u ↦ earlier j s (sym (get_or-set_other cache.spans k j (Some span) None u) ∙ at)
       ]
 
-  pub cached_stored : k < length cache.spans →
-      Cached limits book (record { tables = tables₂; spans = with_span cache.spans k cache.end rows; end = cache.end + n })
+  pub cached_stored : k < length cache.spans → (cache₂ : Cache) → cache₂.tables.now ≡ tables₂ →
+      cache₂.spans ≡ with_span cache.spans k cache.end rows → cache₂.end ≡ cache.end + n → Cached limits book cache₂
   cached_stored = cached_more

@@ -36,9 +36,9 @@ pub record CachedAt (limits : Limits) (s tables : List ℕ) (span : Span) (end :
   pub table : TableAt limits s (drop span.start tables) span.rows
 
 pub record Cached (limits : Limits) (book : List ℕ) (cache : Cache) : Type 0 where
-  pub inside : cache.end ≤ length cache.tables
+  pub inside : cache.end ≤ length cache.tables.now
   pub each : (j : ℕ) (span : Span) → get_or cache.spans j None ≡ Some span →
-      CachedAt limits (card book j) cache.tables span cache.end
+      CachedAt limits (card book j) cache.tables.now span cache.end
 
 abbrev pub with_span : List (Option Span) → ℕ → ℕ → ℕ → List (Option Span)
 with_span spans k start rows = set spans k (Some (record { start = start; rows = rows }))

@@ -1,4 +1,4 @@
-// The tables of covering cards, one after the other, so that they need not be made again.
+// The tables of covering cards in bytes that are lent, one after the other, so that they need not be made again.
 ghost use Rattle.std.specs.Prelude.{List, ◌≡◌, ◌+◌, ◌≤◌, ◌<◌, ℕ, get_or, length, take};
 ghost use Rattle.table.specs.Bounds.{max_rows};
 ghost use Rattle.table.specs.Layout.{end_size, «place»};
@@ -12,7 +12,7 @@ use normal_writer::write::TABLE;
 use table::layout::{END_SIZE, place};
 use table::number::copy_in;
 
-// As many bytes as the cache has: twice as many as the longest table. Nothing that is proved asks how many.
+// As many bytes as a call lends: twice as many as the longest table. Nothing that is proved asks how many.
 pub const TABLES: usize = 2 * TABLE;
 
 // Where a table begins, and its rows.
@@ -24,18 +24,18 @@ pub struct Span {
 
 // The tables, for each card where its own is, and where all end.
 #[derive(Drop)]
-pub struct Cache {
-    pub tables: [u8; TABLES],
+pub struct Cache<'a> {
+    pub tables: &'a mut [u8],
     pub spans: [Option<Span>; MAX_CARDS],
     pub end: usize,
 }
 
-impl Cache {
-    pub fn new() -> Cache
+impl<'a> Cache<'a> {
+    pub fn new(tables: &'a mut [u8]) -> Cache<'a>
         ensures { (limits : Limits) (book : List ℕ) → Cached limits book result }
     {
         Cache {
-            tables: [0u8; TABLES],
+            tables,
             spans: [None; MAX_CARDS],
             end: 0,
         }
@@ -54,21 +54,21 @@ impl Cache {
         requires few { rows ≤ max_rows }
         requires whole { «place» rows end_size ≤ length part.now }
         requires below { k < most_cards }
-        requires inside { self.old.end ≤ length self.old.tables }
-        ensures kept { self.old.end + «place» rows end_size ≤ length self.old.tables →
-            (self.new.tables ≡ put self.old.tables self.old.end (take («place» rows end_size) part.now))
+        requires inside { self.old.end ≤ length self.old.tables.now }
+        ensures kept { self.old.end + «place» rows end_size ≤ length self.old.tables.now →
+            (self.new.tables.now ≡ put self.old.tables.now self.old.end (take («place» rows end_size) part.now))
             × (self.new.spans ≡ with_span self.old.spans k self.old.end rows)
             × (self.new.end ≡ self.old.end + «place» rows end_size) }
-        ensures full { length self.old.tables < self.old.end + «place» rows end_size → self.new ≡ self.old }
+        ensures full { length self.old.tables.now < self.old.end + «place» rows end_size → self.new ≡ self.old }
         ensures cached { (limits : Limits) (book : List ℕ) → Cached limits book self.old → TableAt limits («card» book k) part.now rows
             → Cached limits book self.new }
     {
         let size = place(rows, END_SIZE);
         let start = self.end;
-        if TABLES - start < size {
+        if self.tables.len() - start < size {
             return;
         }
-        copy_in(&mut self.tables, start, &part[..size]);
+        copy_in(self.tables, start, &part[..size]);
         self.spans[k] = Some(Span { start, rows });
         self.end = start + size;
     }

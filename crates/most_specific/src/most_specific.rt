@@ -16,7 +16,7 @@ ghost use Rattle.most_specific.specs.Asking.{after_cards, after_case, after_defi
 
 use book_form::form::{card, find_cards, has_book_form};
 use book_selection::compare::select_cards;
-use book_tables::cache::Cache;
+use book_tables::cache::{Cache, TABLES};
 use book_tables::merged::ask_merged;
 use book_tables::subsumers::find_subsumers;
 use definition_parts::opened::Tbox;
@@ -52,7 +52,8 @@ fn specific_cards(
     ensures { (result ≡ word_under limits tbox.now.bytes.now case.now book.now)
         × (work.new ≡ zeros (work_size limits)) }
 {
-    let mut cache = Cache::new();
+    let mut tables = [0u8; TABLES];
+    let mut cache = Cache::new(&mut tables);
     let word = find_subsumers(tbox, case, book, cards, limits, work, &mut cache);
     select_cards(tbox.bytes, book, limits, &mut cache, word, work)
 }

@@ -20,19 +20,19 @@ pub loop-k-init : goal.loop-k-init
 loop-k-init c = λ j l. absurd (omega arith)
 
 pub card-requires : goal.card-requires
-card-requires c = (c.requires.places_are, c.loop-k-test.true)
+card-requires c = (c.requires.places_are, omega arith)
 
 pub is_unfolded_within-requires : goal.is_unfolded_within-requires
 is_unfolded_within-requires c =
     let a = c.args in
     subst (λ s. Unfolding a.limits a.tbox.now.bytes.now a.tbox.now.starts.now (set_of a.tbox.now.defined) s)
     (sym c.card.ensures)
-    (c.requires.each c.loop-k.k c.loop-k-test.true)
+    (c.requires.each c.loop-k.k (omega arith))
 
 pub overflow_cast-k : goal.overflow_cast-k
 overflow_cast-k c =
     let most = c.requires.places_are.located.most in
-    omega (arith, c.loop-k-test.true, most)
+    omega (arith, most)
 
 pub returns-then-not-is_unfolded_within : goal.returns-then-not-is_unfolded_within
 returns-then-not-is_unfolded_within c =
@@ -47,7 +47,7 @@ returns-then-not-is_unfolded_within c =
     (sym (says) ∙ c.if-not-is_unfolded_within.true) in
     rw c.too_many.ensures
     (sym (to_no (card_few a.limits a.tbox.now.bytes.now a.book.now) a.cards.count k (too_many (Card k))
-    c.loop-k-test.true no c.loop-k.invariant))
+    (omega arith) no c.loop-k.invariant))
 
 pub loop-k-preserved : goal.loop-k-preserved
 loop-k-preserved c =

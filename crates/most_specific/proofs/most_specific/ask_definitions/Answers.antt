@@ -11,7 +11,7 @@ open_definitions-found-requires c =
     record {
       bounded = pre.book_room.bounded;
       first_read = pre.book_room.readable;
-      rest_read = record { there = pre.places_are; readable = pre.cards_readable };
+      rest_read = search (pre.places_are, pre.cards_readable);
     }
 
 pub invariant_of-opened : goal.invariant_of-opened
