@@ -3,7 +3,7 @@
 -- depth, but both rows then stand so deep that nothing of them is cut off. By induction on the row (`Reached`).
 --   shallow_whole, shallow_deep                  a depth that no row stands below cuts nothing off; nor does less, of a row that stands as much lower
 --   image_homomorphism, image_below              the images are a homomorphism's; each is a row of the first table
---   parent_inside                                that of a row's parent is, as it stands in the file
+--   parent_image, parent_inside                  that of a row's parent, as it stands in the file; it is one too
 --   image_start, image_marked, image_kept        the image of row 0; of a row whose parent's image is marked; of any other row, as the search left it
 --   lowest_map_counted                            our map's file has as many images as rows were counted
 use Prim.Native.Nat.{◌+◌, ◌<◌, ◌≤◌, suc, zero, ℕ}
@@ -200,9 +200,9 @@ module _ {s t found : List ℕ} {n m : ℕ} (first : Checked s n) (second : Chec
       reached_step b later refl (reached k (parent_of t i) (omega arith) (omega arith)))
 
   -- row i's parent is row `above`, whose image u stands in the file
-  module _ (out : List ℕ) {i above u : ℕ} (l : i < m) (later : i ≡ 0 → ⊥) (is : above ≡ parent_of t i) (read : u ≡ image_of out above)
-      (before : (k : ℕ) → k < i → image_of out k ≡ image_row s t k) where
-    parent_image : u ≡ image_row s t (parent_of t i)
+  module _ (out : List ℕ) {i above u : ℕ} (l : i < m) (later : i ≡ 0 → ⊥) (is : above ≡ parent_of t i)
+      (read : u ≡ image_of out above) (before : (k : ℕ) → k < i → image_of out k ≡ image_row s t k) where
+    pub parent_image : u ≡ image_row s t (parent_of t i)
     parent_image =
         let less = second.parents i later l in read ∙ before above (omega arith) ∙ ap (image_row s t) is
 
@@ -210,16 +210,18 @@ module _ {s t found : List ℕ} {n m : ℕ} (first : Checked s n) (second : Chec
     parent_inside =
         let less = second.parents i later l in rw parent_image (image_below (parent_of t i) (omega arith))
 
-    module _ {mark : ℕ} (marks : mark ≡ impossible_of s u) where
-      pub image_marked : mark ≡ 1 → u ≡ image_row s t i
-      image_marked e = image_stays l later parent_image (sym marks ∙ e)
+  module _ {i u mark : ℕ} (l : i < m) (later : i ≡ 0 → ⊥) (above : u ≡ image_row s t (parent_of t i))
+      (read : mark ≡ impossible_of s u) where
+    pub image_marked : mark ≡ 1 → u ≡ image_row s t i
+    image_marked e = image_stays l later above (sym read ∙ e)
 
-      pub image_kept : (mark ≡ 1 → ⊥) → get_or found i 0 ≡ image_row s t i
-      image_kept d =
-          let less = second.parents i later l in
-          let other : impossible_of s u ≡ 1 → ⊥ = λ e. d (marks ∙ e) in
-          let r = subst (λ v. Reached (parent_of t i) v) (sym parent_image) (reached (suc (parent_of t i)) (parent_of t i) (omega arith) (omega arith)) in
-          (reached_next l later parent_image other r.left r.row_deep (r.image_deep other) r.below).0
+    pub image_kept : (mark ≡ 1 → ⊥) → get_or found i 0 ≡ image_row s t i
+    image_kept d =
+        let less = second.parents i later l in
+        let other : impossible_of s u ≡ 1 → ⊥ = λ e. d (read ∙ e) in
+        let r = subst (λ v. Reached (parent_of t i) v) (sym above)
+        (reached (suc (parent_of t i)) (parent_of t i) (omega arith) (omega arith)) in
+        (reached_next l later above other r.left r.row_deep (r.image_deep other) r.below).0
 
 pub lowest_map_counted : (s : List ℕ) {t : List ℕ} {m : ℕ} → Checked t m → lowest_map (picture_table s) (picture_table t) ≡ map_file m (image_row s t)
 unfolding lowest_map

@@ -8,7 +8,9 @@ ghost use Rattle.table.specs.Bounds.{bench_limits};
 ghost use Rattle.interface.specs.Calls.{LcsGives, MostSpecificGives, NormalizeGives, SubsumesGives, VerifyGives};
 ghost use Rattle.interface.specs.Calls.{validate_word};
 
-use answer_word::answers::{number_word, selected_word, verdict_word, verified_word};
+use answer_word::answers::{
+    common_word, normalized_word, read_word, selected_word, verdict_word, verified_word,
+};
 use evidence_check::verify::verify;
 use lcs_call::call::lcs;
 use most_specific::most_specific::most_specific;
@@ -23,7 +25,7 @@ use table::layout::Limits;
 pub extern "C" fn zuvaropy_validate(picture: &[u8]) -> u64
     ensures { result ≡ validate_word bench_limits picture.now }
 {
-    number_word(read(picture, Limits::bench(), Input::First))
+    read_word(read(picture, Limits::bench(), Input::First))
 }
 
 // Writes the normal table of a picture, unfolded, and gives its length in bytes.
@@ -32,7 +34,7 @@ pub extern "C" fn zuvaropy_normalize(definitions: &[u8], picture: &[u8], res: &m
     ensures { NormalizeGives bench_limits definitions.now picture.now
         res.old result res.new }
 {
-    number_word(normalize(definitions, picture, Limits::bench(), res))
+    normalized_word(normalize(definitions, picture, Limits::bench(), res))
 }
 
 // The verdict: whether the second picture covers the first, under the definitions. The evidence is written into the
@@ -65,7 +67,7 @@ pub extern "C" fn zuvaropy_lcs(
     ensures { LcsGives bench_limits definitions.now first.now second.now
         work.old res.old result work.new res.new }
 {
-    number_word(lcs(definitions, first, second, Limits::bench(), work, res))
+    common_word(lcs(definitions, first, second, Limits::bench(), work, res))
 }
 
 // Checks evidence for two pictures, unfolded: a map taken or a refutation taken. Once 14 is answered yes for both,

@@ -5,8 +5,8 @@ use Rattle.interface.specs.Calls.{lcs_word}
 use Rattle.interface.proofs.Values.{common_small}
 use Rattle.zuvaropy.proofs.zuvaropy_lcs.Goals as goal
 
-pub number_word-requires : goal.number_word-requires
-number_word-requires c =
+pub common_word-requires : goal.common_word-requires
+common_word-requires c =
     let a = c.args in
     let limits = c.bench in
     let lcs = c.lcs in
@@ -21,7 +21,7 @@ returns c =
     let limits = c.bench in
     let lcs = c.lcs in
     record {
-      word_is = rw (sym limits.ensures.0, sym lcs.ensures.0) c.number_word.ensures;
+      word_is = rw (sym limits.ensures.0, sym lcs.ensures.0) c.common_word.ensures;
       work_is = rw limits.ensures.0 at lcs.ensures.1.0;
       result_is = rw limits.ensures.0 at lcs.ensures.1.1;
     }

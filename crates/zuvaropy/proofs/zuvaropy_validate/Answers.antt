@@ -7,8 +7,8 @@ use Rattle.picture.proofs.Readables.{answer_most}
 use Rattle.interface.specs.Calls.{validate_word}
 use Rattle.zuvaropy.proofs.zuvaropy_validate.Goals as goal
 
-pub number_word-requires : goal.number_word-requires
-number_word-requires c =
+pub read_word-requires : goal.read_word-requires
+read_word-requires c =
     λ n e.
     let limits = c.bench in
     let h : n ≤ max_rows = rw limits.ensures.0 at (answer_most limits.result c.args.picture.now _ n (sym c.read.ensures ∙ e)) in
@@ -16,4 +16,4 @@ number_word-requires c =
 
 pub returns : goal.returns
 unfolding validate_word
-returns c = rw (sym c.bench.ensures.0, sym c.read.ensures) c.number_word.ensures
+returns c = rw (sym c.bench.ensures.0, sym c.read.ensures) c.read_word.ensures

@@ -1,11 +1,7 @@
 -- The arm that was taken says which answer it is.
-use native.Mathlib.Omega.{arith}
 use mathlib.Core.Path.{◌∙◌, ap, sym}
 use Rattle.interface.specs.Word.{number_word}
 use Rattle.answer_word.proofs.answers.number_word.Goals as goal
-
-pub value_word-requires : goal.value_word-requires
-value_word-requires c = (omega arith, c.requires c.in-Ok.n c.in-Ok.is)
 
 pub returns-in-Ok : goal.returns-in-Ok
 returns-in-Ok c = c.value_word.ensures ∙ ap number_word (sym c.in-Ok.is)

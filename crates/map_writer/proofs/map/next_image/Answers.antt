@@ -2,7 +2,7 @@
 -- left behind (Maps: `image_kept`).
 use mathlib.Core.Path.{◌∙◌}
 use native.Mathlib.Omega.{arith}
-use Rattle.map_writer.proofs.Maps.{image_kept, image_marked, image_start, parent_inside}
+use Rattle.map_writer.proofs.Maps.{image_kept, image_marked, image_start, parent_image, parent_inside}
 use Rattle.map_writer.proofs.map.next_image.Goals as goal
 
 pub returns-then-i-eq0 : goal.returns-then-i-eq0
@@ -19,15 +19,17 @@ impossible-requires c =
 
 pub returns-then-impossible-eq1 : goal.returns-then-impossible-eq1
 returns-then-impossible-eq1 c =
-    let a = c.args in
     let pre = c.requires in
-    image_marked c.requires.first c.requires.second pre.mapped a.out.now pre.inside c.if-i-eq0.false
-    c.parent.ensures.0 c.image-u.ensures pre.before c.impossible.ensures c.if-impossible-eq1.true
+    let above = parent_image pre.first pre.second pre.mapped c.args.out.now pre.inside c.if-i-eq0.false
+    c.parent.ensures.0 c.image-u.ensures pre.before in
+    image_marked pre.first pre.second pre.mapped pre.inside c.if-i-eq0.false above c.impossible.ensures
+    c.if-impossible-eq1.true
 
 pub returns : goal.returns
 returns c =
-    let a = c.args in
     let pre = c.requires in
+    let above = parent_image pre.first pre.second pre.mapped c.args.out.now pre.inside c.if-i-eq0.false
+    c.parent.ensures.0 c.image-u.ensures pre.before in
     c.from.ensures
-    ∙ image_kept c.requires.first c.requires.second pre.mapped a.out.now pre.inside c.if-i-eq0.false
-    c.parent.ensures.0 c.image-u.ensures pre.before c.impossible.ensures c.if-impossible-eq1.false
+    ∙ image_kept pre.first pre.second pre.mapped pre.inside c.if-i-eq0.false above c.impossible.ensures
+    c.if-impossible-eq1.false
