@@ -1,2 +1,3 @@
--- The map that is written, as the search left it.
+-- The map that is written, as the search left it, and numbers of several bytes.
 pub mod Maps
+pub mod Numbers

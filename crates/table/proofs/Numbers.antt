@@ -1,6 +1,5 @@
 -- Laws of numbers of several bytes, the high byte first.
 --   be_add                            a number is its upper and its lower bytes
---   be_more                           one byte more
 --   be_two                            a number of two bytes
 --   be_same                           bytes that agree are the same number, also at another place
 --   be_bound                          a number of k bytes is below 256 ^ k
@@ -30,10 +29,6 @@ be_add s at m (suc k) = rw (add-suc m k, be_add s at m k, sym (add_assoc at m k)
 pub be_two : (s : List ℕ) (at : ℕ) → be s at 2 ≡ get_or s at 0 * 256 + get_or s (at + 1) 0
 unfolding be
 be_two s at = rw add-zero (omega arith)
-
-pub be_more : (s : List ℕ) (at k x r : ℕ) → x ≡ be s at k → r ≡ x * 256 + get_or s (at + k) 0 → r ≡ be s at (suc k)
-unfolding be
-be_more s at k x r p q = q ∙ ap (λ (n : ℕ). n * 256 + get_or s (at + k) 0) p
 
 pub be_same : (s t : List ℕ) (a b k : ℕ) → ((i : ℕ) → i < k → get_or s (a + i) 0 ≡ get_or t (b + i) 0) → be s a k ≡ be t b k
 unfolding be
