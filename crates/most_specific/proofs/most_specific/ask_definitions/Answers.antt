@@ -5,15 +5,6 @@ use Rattle.most_specific.proofs.Calls.{definitions_passed, definitions_prepared,
 use Rattle.most_specific.proofs.Calls.{left_as, stopped}
 use Rattle.most_specific.proofs.most_specific.ask_definitions.Goals as goal
 
-pub open_definitions-found-requires : goal.open_definitions-found-requires
-open_definitions-found-requires c =
-    let pre = c.requires in
-    record {
-      bounded = pre.book_room.bounded;
-      first_read = pre.book_room.readable;
-      rest_read = search (pre.places_are, pre.cards_readable);
-    }
-
 pub invariant_of-opened : goal.invariant_of-opened
 invariant_of-opened c = record { opened = (MatchResult-at_ok _ _ _ c.in-Ok.is c.open_definitions-found.ensures).1.opened }
 
