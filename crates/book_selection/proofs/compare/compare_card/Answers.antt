@@ -13,7 +13,8 @@ keep_made-requires-clause-below c = omega (arith, count_most card_tag c.args.boo
 pub keep_made-requires-clause-whole : goal.keep_made-requires-clause-whole
 keep_made-requires-clause-whole c rows is =
     let found = c.find_table-spot in
-    made_inside _ _ c.args.cache.now found.new.part found.result found.ensures rows is
+    let inside = made_inside _ _ c.args.cache.now found.new.part found.result found.ensures rows is in
+    (inside.0, omega (arith, inside.1))
 
 pub table_of-own-requires-clause-checkable : goal.table_of-own-requires-clause-checkable
 table_of-own-requires-clause-checkable c =
