@@ -32,7 +32,8 @@ pub struct Cache<'a> {
 
 impl<'a> Cache<'a> {
     pub fn new(tables: &'a mut [u8]) -> Cache<'a>
-        ensures { (limits : Limits) (book : List ℕ) → Cached limits book result }
+        ensures lent { result.tables.now ≡ tables.old }
+        ensures cached { (limits : Limits) (book : List ℕ) → Cached limits book result }
     {
         Cache {
             tables,
@@ -60,6 +61,7 @@ impl<'a> Cache<'a> {
             × (self.new.spans ≡ with_span self.old.spans k self.old.end rows)
             × (self.new.end ≡ self.old.end + «place» rows end_size) }
         ensures full { length self.old.tables.now < self.old.end + «place» rows end_size → self.new ≡ self.old }
+        ensures long { length self.new.tables.now ≡ length self.old.tables.now }
         ensures cached { (limits : Limits) (book : List ℕ) → Cached limits book self.old → TableAt limits («card» book k) part.now rows
             → Cached limits book self.new }
     {
