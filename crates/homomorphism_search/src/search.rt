@@ -102,7 +102,8 @@ fn lowest_image<'a>(
     ensures missed { IfNone result (MissedBelow first.now.bytes.now second.now.bytes.now missed.new depth c u) }
 {
     let label = label_at(second.bytes, c);
-    for v in first.below(u) {
+    let candidates = first.below(u);
+    for v in candidates {
         if same_edge(first.bytes, v, second.bytes, c) {
             if row_maps(first, second, label, c, v, depth, found, missed) {
                 return Some(v);

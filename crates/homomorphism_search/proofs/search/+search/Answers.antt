@@ -13,7 +13,7 @@ pub lowest_image-loop-v-init : goal.lowest_image-loop-v-init
 lowest_image-loop-v-init t c =
     let a = c.args in
     let same = c.into_iter-v-iterator.ensures.into_iter_gives in
-    let first = c.below-v-items.ensures in (
+    let first = c.below-candidates.ensures in (
       ap (λ b. b.table.now) same ∙ first.table,
       image_start a.second.now.bytes.now a.first.now.linked a.depth a.c a.u a.found.now a.missed.now
           c.into_iter-v-iterator.result.next c.requires.2 (ap (λ b. b.next) same ∙ first.next),
