@@ -8,7 +8,7 @@ use Rattle.most_specific.proofs.Calls.{covering_inside, selected_word_is}
 use Rattle.most_specific.proofs.most_specific.specific_cards.Goals as goal
 
 pub find_subsumers-word-requires-clause-cached : goal.find_subsumers-word-requires-clause-cached
-find_subsumers-word-requires-clause-cached c = c.new-cache.ensures _ _
+find_subsumers-word-requires-clause-cached c = c.new-cache.ensures.cached _ _
 
 pub select_cards-requires-clause-inside : goal.select_cards-requires-clause-inside
 select_cards-requires-clause-inside c =
