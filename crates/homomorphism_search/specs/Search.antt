@@ -3,6 +3,7 @@
 --   RowLabel           a label of the code is that of row w
 --   tree_at, forest_at   the tree of row i, and what hangs from it as successors
 --   EdgeRow            a row that hangs: its kind is one of two
+--   EdgeIs             an edge of the code is that by which row c hangs
 --   label_carried       the label of row w of t is within that of row u of s
 --   same_edge           row v of s hangs by the kind of row c of t, and by a role that serves for its role
 --   row_maps            row w's tree maps to row u's tree
@@ -23,7 +24,7 @@
 --   Shallow            no row stands deeper than the depth, which so cuts nothing off
 --   Mapped             row 0 maps to row 0, and the images below it were found
 use Rattle.std.specs.Prelude.{◌<◌, suc, zero, ℕ, get_or, length, Bool, ◌&&◌, true, List, [], ◌∷◌, ◌≡◌}
-use Rattle.table.specs.Fields.{impossible_of, kind_of, parent_of}
+use Rattle.table.specs.Fields.{impossible_of, kind_of, parent_of, role_of}
 use Rattle.table.specs.Layout.{kind_exists, kind_for_all}
 use Rattle.table_rows.specs.Rows.{HasRow}
 use Rattle.table.specs.Pick.{pick}
@@ -38,6 +39,7 @@ use Rattle.meaning.specs.Meaning.{picture_table}
 use Rattle.picture.specs.Readable.{row_count}
 use Rattle.row_sets.specs.Labels.{LabelIs}
 use Rattle.row_sets.specs.declared.label.Label.{Label}
+use Rattle.homomorphism_search.specs.declared.edge.RowEdge.{RowEdge}
 
 abbrev pub RowLabel : List ℕ → ℕ → Label → Type 0
 RowLabel t w label = LabelIs label ((picture_table t).label w)
@@ -53,6 +55,11 @@ forest_at t depth i = successors picture_signature (picture_table t) (tree_at t 
 pub record EdgeRow (t : List ℕ) (v : ℕ) : Type 0 where
   pub whole : HasRow t v
   pub edge : (kind_of t v ≡ kind_exists → ⊥) → kind_of t v ≡ kind_for_all
+
+pub record EdgeIs (t : List ℕ) (c : ℕ) (edge : RowEdge) : Type 0 where
+  pub row : EdgeRow t c
+  pub kind_is : edge.kind ≡ kind_of t c
+  pub role_is : edge.role ≡ role_of t c
 
 unfoldable pub label_carried : List ℕ → List ℕ → ℕ → ℕ → Bool
 label_carried s t w u = label_within picture_signature ((picture_table t).label w) ((picture_table s).label u)

@@ -6,18 +6,19 @@ ghost use Rattle.table.specs.Bounds.{max_rows};
 ghost use Rattle.table.specs.Fields.{parent_of};
 ghost use Rattle.homomorphism_search.specs.Search.{Apart, EdgeRow, Found, FoundBelow, Missed, MissedBelow, RowLabel, lowest_image, row_maps, same_edge, unserved_row};
 
+use crate::edge::{hangs_by, row_edge};
 use crate::label::{label_at, label_within};
 use row_sets::label::Label;
 use row_sets::linked::Table;
 use table::layout::MAX_ROWS;
-use table_rows::row::{impossible, kind, role};
+use table_rows::row::impossible;
 
 // Whether row v of the first hangs by the kind and role of row c of the second.
 pub fn same_edge(first: &[u8], v: usize, second: &[u8], c: usize) -> bool
     requires { (EdgeRow first.now v) × (EdgeRow second.now c) }
     ensures { result ≡ same_edge first.now second.now c v }
 {
-    kind(first, v) == kind(second, c) && role(first, v) == role(second, c)
+    hangs_by(row_edge(second, c), first, v)
 }
 
 // The row test: whether row w, whose label is given, maps to row u. A marked row takes everything. Only `lowest_image` calls it, so it is compiled into the
@@ -82,7 +83,7 @@ fn unserved<'a>(
     None
 }
 
-// The successor search: the lowest row below u that can be the image of row c.
+// The successor search: the lowest row below u that can be the image of row c, whose label and edge are read once.
 #[cycle(search)]
 fn lowest_image<'a>(
     first: &'a Table<'a>,
@@ -102,9 +103,10 @@ fn lowest_image<'a>(
     ensures missed { IfNone result (MissedBelow first.now.bytes.now second.now.bytes.now missed.new depth c u) }
 {
     let label = label_at(second.bytes, c);
+    let edge = row_edge(second.bytes, c);
     let candidates = first.below(u);
     for v in candidates {
-        if same_edge(first.bytes, v, second.bytes, c) {
+        if hangs_by(edge, first.bytes, v) {
             if row_maps(first, second, label, c, v, depth, found, missed) {
                 return Some(v);
             }

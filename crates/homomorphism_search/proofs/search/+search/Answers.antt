@@ -19,21 +19,23 @@ lowest_image-loop-v-init t c =
           c.into_iter-v-iterator.result.next c.requires.2 (ap (λ b. b.next) same ∙ first.next),
     )
 
-pub lowest_image-same_edge-requires : goal.lowest_image-same_edge-requires
-lowest_image-same_edge-requires t c =
+pub lowest_image-row_edge-edge-requires : goal.lowest_image-row_edge-edge-requires
+lowest_image-row_edge-edge-requires t c = checked_edge c.args.second.now.linked.checked c.requires.1 c.requires.0
+
+pub lowest_image-hangs_by-requires : goal.lowest_image-hangs_by-requires
+lowest_image-hangs_by-requires t c =
     let turn = turned c.loop-v.v-iterator c.next.new.self c.loop-v.invariant.0 c.in-Some.ensures.steps in
-    let at = subst (ImageAt _ _ _ _ _ _ _ _ _ _) turn.is c.loop-v.invariant.1 in (
-      checked_edge c.args.first.now.linked.checked turn.there (at.walk.on turn.there).0,
-      checked_edge c.args.second.now.linked.checked c.requires.1 c.requires.0,
-    )
+    let at = subst (ImageAt _ _ _ _ _ _ _ _ _ _) turn.is c.loop-v.invariant.1 in
+    checked_edge c.args.first.now.linked.checked turn.there (at.walk.on turn.there).0
 
 pub lowest_image-returns-then-row_maps-clause-row : goal.lowest_image-returns-then-row_maps-clause-row
 lowest_image-returns-then-row_maps-clause-row t c =
     let a = c.args in
     let turn = turned c.loop-v.v-iterator c.next.new.self c.loop-v.invariant.0 c.in-Some.ensures.steps in
     let at = subst (ImageAt _ _ _ _ _ _ _ _ _ _) turn.is c.loop-v.invariant.1 in
-    let passes = takes_row a.first.now.bytes.now a.second.now.bytes.now a.depth a.c c.in-Some.v c.same_edge.result c.row_maps.result
-    c.same_edge.ensures c.row_maps.ensures.is c.if-same_edge.true c.if-row_maps.true in
+    let same = c.hangs_by.ensures a.second.now.bytes.now a.c c.row_edge-edge.ensures in
+    let passes = takes_row a.first.now.bytes.now a.second.now.bytes.now a.depth a.c c.in-Some.v c.hangs_by.result
+    c.row_maps.result same c.row_maps.ensures.is c.if-hangs_by.true c.if-row_maps.true in
     (walk_found a.first.now.linked.linked turn.there at.walk passes, (at.walk.on turn.there).0)
 
 pub lowest_image-returns-then-row_maps-clause-apart : goal.lowest_image-returns-then-row_maps-clause-apart
@@ -61,10 +63,12 @@ pub lowest_image-loop-v-preserved : goal.lowest_image-loop-v-preserved
 lowest_image-loop-v-preserved t c =
     let a = c.args in
     let turn = turned c.loop-v.v-iterator c.next.new.self c.loop-v.invariant.0 c.in-Some.ensures.steps in
-    let at = subst (ImageAt _ _ _ _ _ _ _ _ _ _) turn.is c.loop-v.invariant.1 in (
+    let at = subst (ImageAt _ _ _ _ _ _ _ _ _ _) turn.is c.loop-v.invariant.1 in
+    let same = c.hangs_by.ensures a.second.now.bytes.now a.c c.row_edge-edge.ensures in (
       turn.table,
       image_other a.second.now.bytes.now a.first.now.linked a.depth a.c a.u turn.there at
-          c.loop-v.found c.loop-v.missed refl refl c.next.new.self.next turn.next c.same_edge.result c.same_edge.ensures c.if-same_edge.false,
+          c.loop-v.found c.loop-v.missed refl refl c.next.new.self.next turn.next c.hangs_by.result same
+          c.if-hangs_by.false,
     )
 
 pub row_maps-returns-then-impossible-eq1-clause-is : goal.row_maps-returns-then-impossible-eq1-clause-is
