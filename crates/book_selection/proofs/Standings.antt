@@ -5,6 +5,7 @@
 --   stands_start, made_inside    it is the table that is kept then, and lies there whole
 --   stands_bytes       the bytes at a spot are the picture's normal table
 --   stands_checkable   they have all that a search needs
+--   there_bytes, there_checkable    so they are where a table is in a cache and a part that are long enough
 --   checked_inside     where it has that, the spot lies where it says
 --   pair_order         the search on two such tables says which card covers the other
 --   spots_order        and so where they stand
@@ -29,7 +30,7 @@ use Rattle.book_tables.specs.Tables.{BookTaken}
 use Rattle.book_tables.specs.declared.cache.Cache.{Cache}
 use Rattle.book_tables.specs.declared.cache.Span.{Span}
 use Rattle.book_selection.specs.Comparing.{Ordered}
-use Rattle.book_selection.specs.Standing.{Checkable, Inside, Stands, bytes_at}
+use Rattle.book_selection.specs.Standing.{Checkable, Inside, Stands, TableThere, bytes_at}
 use Rattle.book_selection.specs.declared.compare.Order.{Order}
 use Rattle.book_selection.specs.declared.spot.Spot.{Spot}
 use Rattle.book_selection.specs.declared.spot.Spot.TheVariants.{Kept, Made}
@@ -73,9 +74,18 @@ module _ (cache : Cache) (part : List ℕ) where
   checked_inside (Made rows) so = (so.1.most, so.0)
 
 module _ (limits : Limits) (s : List ℕ) (cache : Cache) (part : List ℕ) where
+  pub there_bytes : (spot : Spot) → TableThere limits s cache part spot →
+      bytes_at cache part spot ≡ normal_file limits s
+  there_bytes (Kept span) so = so.table.is
+  there_bytes (Made rows) so = so.is
+
   pub stands_bytes : (spot : Spot) → Stands limits s cache part spot → bytes_at cache part spot ≡ normal_file limits s
-  stands_bytes (Kept span) so = so.1.table.is
-  stands_bytes (Made rows) so = so.1.is
+  stands_bytes spot so = there_bytes spot so.1
+
+  pub there_checkable : Bounded limits → cache.end ≤ length cache.tables.now → picture_size limits ≤ length part →
+      (spot : Spot) → TableThere limits s cache part spot → Checkable cache part spot
+  there_checkable bounded inside room (Kept span) so = (omega (arith, so.ends), table_checked bounded so.table)
+  there_checkable bounded inside room (Made rows) so = (omega (arith, table_few so), table_checked bounded so)
 
   pub made_inside : (spot : Spot) → Stands limits s cache part spot → (rows : ℕ) → spot ≡ Made rows →
       (rows ≤ max_rows) × (place rows end_size ≤ length part)

@@ -1,7 +1,8 @@
 -- Where the tables of cards are while they are compared. Nobody has to believe these.
 --   Comparable   the cards of a book have passed 2 to 14, unfolded, and tables are kept where the cache says
 --   Inside       a spot has few rows and lies where it says
---   Stands       and the table of a picture is there
+--   TableThere   the table of a picture is there
+--   Stands       both
 --   bytes_at     the bytes that are there
 --   Checkable    they have all that a search needs
 use Rattle.std.specs.Prelude.{ℕ, ◌+◌, ◌≤◌, length, List}
@@ -26,9 +27,12 @@ abbrev pub Inside : Cache → List ℕ → Spot → Type 0
 Inside cache part (Kept span) = (span.rows ≤ max_rows) × (span.start + place span.rows end_size ≤ length cache.tables.now)
 Inside cache part (Made rows) = (rows ≤ max_rows) × (place rows end_size ≤ length part)
 
+abbrev pub TableThere : Limits → List ℕ → Cache → List ℕ → Spot → Type 0
+TableThere limits s cache part (Kept span) = CachedAt limits s cache.tables.now span cache.end
+TableThere limits s cache part (Made rows) = TableAt limits s part rows
+
 abbrev pub Stands : Limits → List ℕ → Cache → List ℕ → Spot → Type 0
-Stands limits s cache part (Kept span) = Inside cache part (Kept span) × CachedAt limits s cache.tables.now span cache.end
-Stands limits s cache part (Made rows) = Inside cache part (Made rows) × TableAt limits s part rows
+Stands limits s cache part spot = Inside cache part spot × TableThere limits s cache part spot
 
 abbrev pub bytes_at : Cache → List ℕ → Spot → List ℕ
 bytes_at cache part (Kept span) = table_in cache.tables.now span.start span.rows

@@ -147,6 +147,8 @@ fn compare_card(
     requires compared { Compared limits (unfolded_book limits tbox.now book.now) covering m redundant }
     requires long { length work.old ≡ work_size limits }
     ensures compared { Compared limits (unfolded_book limits tbox.now book.now) covering (m + 1) result }
+    ensures same_reference { cache.new.tables.ghost_name ≡ cache.old.tables.ghost_name }
+    ensures long { length cache.new.tables.now ≡ length cache.old.tables.now }
     ensures cached { Cached limits (unfolded_book limits tbox.now book.now) cache.new }
 {
     let half = half_size(limits);
@@ -172,7 +174,9 @@ fn compare_cards(
     requires known { Comparable limits tbox.now book.now cache.old }
     requires inside { (k : ℕ) → has covering k ≡ true → k < card_count (unfolded_book limits tbox.now book.now) }
     requires long { length work.old ≡ work_size limits }
-    ensures { Compared limits (unfolded_book limits tbox.now book.now) covering most_cards result }
+    ensures compared { Compared limits (unfolded_book limits tbox.now book.now) covering most_cards result }
+    ensures same_reference { cache.new.tables.ghost_name ≡ cache.old.tables.ghost_name }
+    ensures long { length cache.new.tables.now ≡ length cache.old.tables.now }
 {
     let mut redundant = 0;
     for m in cards_of(covering) {
@@ -196,6 +200,8 @@ pub fn select_cards(
     ensures word { (k : ℕ) → has result k ≡ (has covering k
         && not (is_passed_over (card_covers limits (unfolded_book limits tbox.now book.now))
         (card_count (unfolded_book limits tbox.now book.now)) (has covering) k)) }
+    ensures same_reference { cache.new.tables.ghost_name ≡ cache.old.tables.ghost_name }
+    ensures long { length cache.new.tables.now ≡ length cache.old.tables.now }
     ensures work { work.new ≡ zeros (work_size limits) }
 {
     let redundant = compare_cards(tbox, book, limits, cache, covering, work);

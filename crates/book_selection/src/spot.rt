@@ -104,6 +104,7 @@ pub fn keep_made(cache: &mut Cache, k: usize, part: &[u8], spot: Spot)
     requires inside { cache.old.end ≤ length cache.old.tables.now }
     requires whole { (rows : ℕ) → spot ≡ Spot.Made rows → (rows ≤ max_rows) × («place» rows end_size ≤ length part.now) }
     ensures same { (span : Span) → spot ≡ Spot.Kept span → cache.new ≡ cache.old }
+    ensures same_reference { cache.new.tables.ghost_name ≡ cache.old.tables.ghost_name }
     ensures long { length cache.new.tables.now ≡ length cache.old.tables.now }
     ensures cached { (limits : Limits) (book : List ℕ) → Cached limits book cache.old
         → Stands limits («card» book k) cache.old part.now spot

@@ -32,6 +32,7 @@ pub struct Cache<'a> {
 
 impl<'a> Cache<'a> {
     pub fn new(tables: &'a mut [u8]) -> Cache<'a>
+        ensures same_reference { result.tables.ghost_name ≡ tables.entry.ghost_name }
         ensures lent { result.tables.now ≡ tables.old }
         ensures cached { (limits : Limits) (book : List ℕ) → Cached limits book result }
     {
@@ -61,6 +62,7 @@ impl<'a> Cache<'a> {
             × (self.new.spans ≡ with_span self.old.spans k self.old.end rows)
             × (self.new.end ≡ self.old.end + «place» rows end_size) }
         ensures full { length self.old.tables.now < self.old.end + «place» rows end_size → self.new ≡ self.old }
+        ensures same_reference { self.new.tables.ghost_name ≡ self.old.tables.ghost_name }
         ensures long { length self.new.tables.now ≡ length self.old.tables.now }
         ensures cached { (limits : Limits) (book : List ℕ) → Cached limits book self.old → TableAt limits («card» book k) part.now rows
             → Cached limits book self.new }

@@ -49,6 +49,8 @@ fn test_cards(
     requires { CardsTestable limits tbox.now book.now cards rest.old cache.old }
     ensures word { result ≡ set_below (covers_table limits case.now.bytes.now (unfolded_book limits tbox.now.bytes.now book.now))
         cards.count }
+    ensures same_reference { cache.new.tables.ghost_name ≡ cache.old.tables.ghost_name }
+    ensures long { length cache.new.tables.now ≡ length cache.old.tables.now }
     ensures cached { Cached limits (unfolded_book limits tbox.now.bytes.now book.now) cache.new }
 {
     let mut word = 0;
@@ -79,6 +81,8 @@ pub fn find_subsumers(
     ensures word { result ≡ set_below
         (case_covered limits (unfolded_file limits tbox.now.bytes.now case.now) (unfolded_book limits tbox.now.bytes.now book.now))
         cards.count }
+    ensures same_reference { cache.new.tables.ghost_name ≡ cache.old.tables.ghost_name }
+    ensures long { length cache.new.tables.now ≡ length cache.old.tables.now }
     ensures cached { Cached limits (unfolded_book limits tbox.now.bytes.now book.now) cache.new }
 {
     let half = half_size(limits);

@@ -1,5 +1,5 @@
 use native.Mathlib.Omega.{arith}
-use mathlib.Core.Path.{◌∙◌, ap, subst, sym}
+use mathlib.Core.Path.{◌∙◌, ap, refl, subst, sym}
 use Rattle.table.specs.NameSet.{has}
 use Rattle.under.specs.Book.{unfolded_book}
 use Rattle.book_tables.proofs.CardTables.{count_is}
@@ -17,6 +17,8 @@ loop-m-init c =
       of = ap (λ (i : Cards). i.word) is ∙ first.word;
       compared = subst (λ k. Compared a.limits (unfolded_book a.limits a.tbox.now a.book.now) a.covering k 0)
           (sym (ap (λ (i : Cards). i.from) is ∙ first.from)) (none_compared a.limits _ a.covering);
+      same = refl;
+      long = refl;
       cached = c.requires.known.cached;
     }
 

@@ -15,7 +15,7 @@ returns-clause-word c =
     let known = c.requires.known in
     selected_bits a.limits _ a.covering most_cards c.compare_cards-redundant.result c.without.result
     (cards_preorder a.limits _ (cards_taken known.bounded known.taken).readable) (count_most card_tag _) c.requires.inside
-    c.compare_cards-redundant.ensures c.without.ensures
+    c.compare_cards-redundant.ensures.compared c.without.ensures
 
 pub returns-clause-work : goal.returns-clause-work
 returns-clause-work c = cleared _ c.clear.new.dst _ (work_size c.args.limits) refl (omega (arith, c.requires.long)) c.clear.ensures

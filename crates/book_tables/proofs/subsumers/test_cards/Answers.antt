@@ -1,5 +1,5 @@
 use native.Mathlib.Omega.{arith}
-use mathlib.Core.Path.{◌∙◌}
+use mathlib.Core.Path.{◌∙◌, refl}
 use Rattle.book_tables.proofs.Caches.{table_checked, table_few}
 use Rattle.book_tables.proofs.CardTables.{card_made}
 use Rattle.book_tables.proofs.CardTests.{test_next, test_start, word_room}
@@ -7,7 +7,7 @@ use Rattle.book_tables.proofs.subsumers.test_cards.Goals.{else-covers, then-cove
 use Rattle.book_tables.proofs.subsumers.test_cards.Goals as goal
 
 pub loop-k-init : goal.loop-k-init
-loop-k-init c = test_start c.requires.cached
+loop-k-init c = record { below = test_start c.requires.cached; same = refl; long = refl }
 
 pub covers_case-covers-requires-clause-whole : goal.covers_case-covers-requires-clause-whole
 covers_case-covers-requires-clause-whole c =
@@ -23,7 +23,8 @@ covers_case-covers-requires-clause-checked c =
 
 pub overflow_add-word : goal.overflow_add-word
 overflow_add-word c =
-    omega (arith, word_room c.loop-k.invariant (omega (arith, c.requires.placed.located.most)), c.bit-word.ensures)
+    let so = c.loop-k.invariant.below in
+    omega (arith, word_room so (omega (arith, c.requires.placed.located.most)), c.bit-word.ensures)
 
 pub keep-requires-clause-few : goal.keep-requires-clause-few
 keep-requires-clause-few c =
@@ -44,9 +45,18 @@ loop-k-preserved c =
     let made = card_made pre.ready.bounded pre.taken c.loop-k.k (omega (arith, pre.placed.counted)) c.card-own.ensures c.unfolded_table-rows.ensures in
     elim c.if-covers.branch [
       | then-covers w ↦
-          test_next so made c.covers_case-covers.ensures (w.word-is ∙ rw (w.if-covers.true, w.bit-word.ensures))
-          (rw w.cache-is (w.keep.ensures.cached _ _ so.cached made))
+          record {
+            below = test_next so.below made c.covers_case-covers.ensures
+                (w.word-is ∙ rw (w.if-covers.true, w.bit-word.ensures))
+                (rw w.cache-is (w.keep.ensures.cached _ _ so.below.cached made));
+            same = rw w.cache-is (w.keep.ensures.same_reference ∙ so.same);
+            long = rw w.cache-is (w.keep.ensures.long ∙ so.long);
+          }
       | else-covers w ↦
-          test_next so made c.covers_case-covers.ensures (w.word-is ∙ rw w.if-covers.false (omega arith))
-          (rw w.cache-is so.cached)
+          record {
+            below = test_next so.below made c.covers_case-covers.ensures
+                (w.word-is ∙ rw w.if-covers.false (omega arith)) (rw w.cache-is so.below.cached);
+            same = rw w.cache-is so.same;
+            long = rw w.cache-is so.long;
+          }
     ]
