@@ -114,3 +114,20 @@ pub fn keep_made(cache: &mut Cache, k: usize, part: &[u8], spot: Spot)
         cache.keep(k, part, rows);
     }
 }
+
+#[cfg(test)]
+mod tests {
+    use super::*;
+
+    // Whoever lent an array has it again, with the table that was kept.
+    #[test]
+    fn array_comes_back(rt: HostRuntime) {
+        let part = [7u8; 100];
+        let mut tables = [0u8; 100];
+        let mut cache = Cache::new(&mut tables);
+        keep_made(&mut cache, 3, &part, Spot::Made(1));
+        assert!(rt; cache.find(3).is_some());
+        assert_eq!(rt; tables[0], 7);
+        assert_eq!(rt; tables[99], 0);
+    }
+}

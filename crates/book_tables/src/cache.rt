@@ -77,3 +77,23 @@ impl<'a> Cache<'a> {
         self.end = start + size;
     }
 }
+
+#[cfg(test)]
+mod tests {
+    use super::*;
+
+    // Whoever lent an array has it again, with the table that was kept.
+    #[test]
+    fn array_comes_back(rt: HostRuntime) {
+        let table = [7u8; 100];
+        let mut tables = [0u8; 100];
+        let mut cache = Cache::new(&mut tables);
+        cache.keep(3, &table, 1);
+        assert!(rt; cache.find(3).is_some());
+        assert!(rt; cache.find(4).is_none());
+        let size = cache.end;
+        assert_eq!(rt; size, place(1, END_SIZE));
+        assert_eq!(rt; tables[0], 7);
+        assert_eq!(rt; tables[99], 0);
+    }
+}
