@@ -3,9 +3,8 @@
 --   table_stands, made_stands    one that is made in a part
 --   stands_kept        one in a part stays when the kept tables change
 --   stands_start, made_inside    it is the table that is kept then, and lies there whole
---   stands_bytes       the bytes at a spot are the picture's normal table
---   stands_checkable   they have all that a search needs
---   there_bytes, there_checkable    so they are where a table is in a cache and a part that are long enough
+--   there_bytes, stands_bytes            the bytes at a spot are the picture's normal table
+--   there_checkable, stands_checkable    they have all that a search needs
 --   checked_inside     where it has that, the spot lies where it says
 --   pair_order         the search on two such tables says which card covers the other
 --   spots_order        and so where they stand

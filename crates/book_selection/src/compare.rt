@@ -177,6 +177,7 @@ fn compare_cards(
     ensures compared { Compared limits (unfolded_book limits tbox.now book.now) covering most_cards result }
     ensures same_reference { cache.new.tables.ghost_name ≡ cache.old.tables.ghost_name }
     ensures long { length cache.new.tables.now ≡ length cache.old.tables.now }
+    ensures cached { Cached limits (unfolded_book limits tbox.now book.now) cache.new }
 {
     let mut redundant = 0;
     for m in cards_of(covering) {
@@ -202,6 +203,7 @@ pub fn select_cards(
         (card_count (unfolded_book limits tbox.now book.now)) (has covering) k)) }
     ensures same_reference { cache.new.tables.ghost_name ≡ cache.old.tables.ghost_name }
     ensures long { length cache.new.tables.now ≡ length cache.old.tables.now }
+    ensures cached { Cached limits (unfolded_book limits tbox.now book.now) cache.new }
     ensures work { work.new ≡ zeros (work_size limits) }
 {
     let redundant = compare_cards(tbox, book, limits, cache, covering, work);

@@ -93,7 +93,7 @@ mod tests {
         assert!(rt; cache.find(4).is_none());
         let size = cache.end;
         assert_eq!(rt; size, place(1, END_SIZE));
-        assert_eq!(rt; tables[0], 7);
-        assert_eq!(rt; tables[99], 0);
+        assert_eq!(rt; tables[size - 1], 7);
+        assert_eq!(rt; tables[size], 0);
     }
 }
